@@ -8,7 +8,7 @@ use Rattle.abi_laid.specs.Tree.{Tree}
 use Rattle.rustc_abi.specs.declared.error.LayError.{LayError}
 use Rattle.rustc_abi.specs.Everywhere.{EachIn}
 use Rattle.reference.specs.Arrays.{IsArray}
-use Rattle.reference.specs.Chapter.{HasLayout, HasProperties, HasSimpleTypes, KeepsToC, KeepsToModifiers, KeepsToOption, KeepsToRust}
+use Rattle.reference.specs.Chapter.{LiesAs, HasProperties, HasSimpleTypes, KeepsToC, KeepsToModifiers, KeepsToOption, KeepsToRust}
 use Rattle.reference.specs.CStruct.{IsCStruct}
 use Rattle.reference.specs.CUnion.{IsCUnion}
 use Rattle.reference.specs.FieldEnums.{IsCEnum, IsPrimitiveEnum}
@@ -37,8 +37,8 @@ module _ (dl : TargetDataLayout) (tree : Tree) where
   properties (Err e) r1 r2 = tt
 
   pub simple : (r : Result Laid LayError) → Rule IsSizedByTable r → RuleIf (HasWideIndex dl) (HoldsAddresses dl) r
-      → Rule (IsSignless (HasLayout dl)) r → Rule IsAlignedBySize r
-      → RuleIf (HasPointersOfIndex dl) (IsThin dl (HasLayout dl)) r → Rule (IsWide (HasLayout dl)) r
+      → Rule (IsSignless (LiesAs dl)) r → Rule IsAlignedBySize r
+      → RuleIf (HasPointersOfIndex dl) (IsThin dl (LiesAs dl)) r → Rule (IsWide (LiesAs dl)) r
       → Rule IsArray r → Rule IsUnit r → IfOk r (HasSimpleTypes dl tree)
   simple (Ok laid) r1 r2 r3 r4 r5 r6 r7 r8 = record {
     primitive_size = r1;
@@ -51,13 +51,13 @@ module _ (dl : TargetDataLayout) (tree : Tree) where
     tuple_unit = r8 }
   simple (Err e) r1 r2 r3 r4 r5 r6 r7 r8 = tt
 
-  pub rust : (r : Result Laid LayError) → Rule (LiesAsAlone (HasLayout dl)) r → Rule IsAligned r → Rule IsApart r
+  pub rust : (r : Result Laid LayError) → Rule (LiesAsAlone (LiesAs dl)) r → Rule IsAligned r → Rule IsApart r
       → IfOk r (KeepsToRust dl tree)
   rust (Ok laid) r1 r2 r3 = record { repr_inter_field = r1; repr_rust_layout = r2; repr_rust_layout_struct = r3 }
   rust (Err e) r1 r2 r3 = tt
 
-  pub modifiers : (r : Result Laid LayError) → Rule (IsRaised (HasLayout dl)) r → Rule IsPackedC r
-      → Rule IsPacked r → Rule (IsRaisedEnum (HasLayout dl)) r → IfOk r (KeepsToModifiers dl tree)
+  pub modifiers : (r : Result Laid LayError) → Rule (IsRaised (LiesAs dl)) r → Rule IsPackedC r
+      → Rule IsPacked r → Rule (IsRaisedEnum (LiesAs dl)) r → IfOk r (KeepsToModifiers dl tree)
   modifiers (Ok laid) r1 r2 r3 r4 = record {
     repr_alignment_align = r1;
     repr_alignment_packed_fields = r2;
@@ -70,8 +70,8 @@ module _ (dl : TargetDataLayout) (tree : Tree) where
   c (Ok laid) r1 r2 r3 r4 = record { repr_c_struct = r1; repr_c_union = r2; repr_c_adt = r3; repr_primitive_adt = r4 }
   c (Err e) r1 r2 r3 r4 = tt
 
-  pub option : (r : Result Laid LayError) → Rule (OfOption dl (HasLayout dl) IsAsLarge) r
-      → Rule (OfOption dl (HasLayout dl) (IsNoneZero dl)) r → Rule (OfOption dl (HasLayout dl) (IsSomeAlike dl)) r
+  pub option : (r : Result Laid LayError) → Rule (OfOption dl (LiesAs dl) IsAsLarge) r
+      → Rule (OfOption dl (LiesAs dl) (IsNoneZero dl)) r → Rule (OfOption dl (LiesAs dl) (IsSomeAlike dl)) r
       → IfOk r (KeepsToOption dl tree)
   option (Ok laid) r1 r2 r3 = record { option_size = r1; option_none_is_zero = r2; option_some_is_its_value = r3 }
   option (Err e) r1 r2 r3 = tt

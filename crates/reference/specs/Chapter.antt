@@ -17,9 +17,9 @@ use Rattle.reference.specs.Primitive.{HasPointersOfIndex, HasPowerAlign, HasWide
 use Rattle.reference.specs.Primitive.{IsAlignedBySize, IsSignless, IsSizedByTable, IsThin, IsUnit, IsWhole, IsWide}
 use Rattle.reference.specs.RustLayout.{IsAligned, IsApart, LiesAsAlone}
 
--- the type has this layout
-abbrev pub HasLayout : TargetDataLayout → Tree → Placed → Type 0
-HasLayout dl t p = IsLaying dl t (Ok p)
+-- the type lies so, by itself
+abbrev pub LiesAs : TargetDataLayout → Tree → Placed → Type 0
+LiesAs dl t p = IsLaying dl t (Ok p)
 
 -- size and alignment
 pub record HasProperties (dl : TargetDataLayout) (tree : Tree) (laid : Laid) : Type 0 where
@@ -35,13 +35,13 @@ pub record HasSimpleTypes (dl : TargetDataLayout) (tree : Tree) (laid : Laid) : 
   -- `usize` holds each address, where an index is as wide as a pointer
   pub primitive_size_minimum : HasWideIndex dl → EachIn dl tree (HoldsAddresses dl) laid
   -- integers of one width are aligned alike, with a sign and without
-  pub primitive_integer_alignment : EachIn dl tree (IsSignless (HasLayout dl)) laid
+  pub primitive_integer_alignment : EachIn dl tree (IsSignless (LiesAs dl)) laid
   -- a primitive type's alignment is at most its size
   pub primitive_platform_specific_alignment : EachIn dl tree IsAlignedBySize laid
   -- a thin pointer is as `usize` is, where that is aligned as a pointer
-  pub pointer_thin : HasPointersOfIndex dl → EachIn dl tree (IsThin dl (HasLayout dl)) laid
+  pub pointer_thin : HasPointersOfIndex dl → EachIn dl tree (IsThin dl (LiesAs dl)) laid
   -- a wide pointer is no smaller and no less aligned than a thin one
-  pub pointer_unsized : EachIn dl tree (IsWide (HasLayout dl)) laid
+  pub pointer_unsized : EachIn dl tree (IsWide (LiesAs dl)) laid
   -- an array's elements lie one after another
   pub array : EachIn dl tree IsArray laid
   -- unit has size 0 and alignment 1
@@ -50,7 +50,7 @@ pub record HasSimpleTypes (dl : TargetDataLayout) (tree : Tree) (laid : Laid) : 
 -- the Rust representation
 pub record KeepsToRust (dl : TargetDataLayout) (tree : Tree) (laid : Laid) : Type 0 where
   -- a type lies in another as it does by itself
-  pub repr_inter_field : EachIn dl tree (LiesAsAlone (HasLayout dl)) laid
+  pub repr_inter_field : EachIn dl tree (LiesAsAlone (LiesAs dl)) laid
   -- offsets are multiples of the fields' alignments, and the whole is aligned as each of them at least
   pub repr_rust_layout : EachIn dl tree IsAligned laid
   -- a struct's fields don't overlap
@@ -70,19 +70,19 @@ pub record KeepsToC (dl : TargetDataLayout) (tree : Tree) (laid : Laid) : Type 0
 -- `align` and `packed`
 pub record KeepsToModifiers (dl : TargetDataLayout) (tree : Tree) (laid : Laid) : Type 0 where
   -- `align` gives the greater of its alignment and the one without it
-  pub repr_alignment_align : EachIn dl tree (IsRaised (HasLayout dl)) laid
+  pub repr_alignment_align : EachIn dl tree (IsRaised (LiesAs dl)) laid
   -- under `packed` fields of the C representation lie by the smaller of their alignments and the pack
   pub repr_alignment_packed_fields : EachIn dl tree IsPackedC laid
   -- and between fields there is no more padding than these alignments ask for
   pub repr_alignment_packed_padding : EachIn dl tree IsPacked laid
   -- `align` on an enum aligns it as a struct around it would be
-  pub repr_alignment_enum : EachIn dl tree (IsRaisedEnum (HasLayout dl)) laid
+  pub repr_alignment_enum : EachIn dl tree (IsRaisedEnum (LiesAs dl)) laid
 
 -- `Option` of a reference, a box or a non-zero number, as its own documentation has it
 pub record KeepsToOption (dl : TargetDataLayout) (tree : Tree) (laid : Laid) : Type 0 where
   -- it has the size and the alignment of what is in it
-  pub option_size : EachIn dl tree (OfOption dl (HasLayout dl) IsAsLarge) laid
+  pub option_size : EachIn dl tree (OfOption dl (LiesAs dl) IsAsLarge) laid
   -- bytes of zeros hold `None`
-  pub option_none_is_zero : EachIn dl tree (OfOption dl (HasLayout dl) (IsNoneZero dl)) laid
+  pub option_none_is_zero : EachIn dl tree (OfOption dl (LiesAs dl) (IsNoneZero dl)) laid
   -- `Some` of a value has the value's bytes
-  pub option_some_is_its_value : EachIn dl tree (OfOption dl (HasLayout dl) (IsSomeAlike dl)) laid
+  pub option_some_is_its_value : EachIn dl tree (OfOption dl (LiesAs dl) (IsSomeAlike dl)) laid

@@ -9,7 +9,7 @@ ghost use Rattle.rustc_abi.specs.Everywhere.{EachIn};
 ghost use Rattle.rustc_abi.specs.Fault.{IsRefusedFor};
 ghost use Rattle.rustc_abi.specs.Laying.{IsLaying};
 ghost use Rattle.rustc_abi.specs.Least.{IsTooLarge};
-ghost use Rattle.reference.specs.Chapter.{HasLayout, HasProperties, HasSimpleTypes, KeepsToC, KeepsToModifiers, KeepsToOption, KeepsToRust};
+ghost use Rattle.reference.specs.Chapter.{LiesAs, HasProperties, HasSimpleTypes, KeepsToC, KeepsToModifiers, KeepsToOption, KeepsToRust};
 ghost use Rattle.reference.specs.FieldEnums.{IsCTag};
 ghost use Rattle.reference.specs.Modifiers.{IsPackedWide};
 ghost use Rattle.reference.specs.Tags.{HasEnumsOfIndex};
@@ -45,7 +45,7 @@ pub fn lay_out_as_documented(
     // And under aggregates that are aligned to a byte.
     ensures c { dl.now.aggregate_align ≡ 0 → IfOk result (KeepsToC dl.now (tree_of tree.now)) }
     ensures repr_alignment_packed { dl.now.aggregate_align ≡ 0 →
-        IfOk result (EachIn dl.now (tree_of tree.now) (IsPackedWide (HasLayout dl.now))) }
+        IfOk result (EachIn dl.now (tree_of tree.now) (IsPackedWide (LiesAs dl.now))) }
     ensures repr_transparent_layout_abi { dl.now.aggregate_align ≡ 0 →
         IfOk result (EachIn dl.now (tree_of tree.now) IsTransparent) }
     ensures option { dl.now.aggregate_align ≡ 0 →

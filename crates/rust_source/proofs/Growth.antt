@@ -3,7 +3,7 @@ use Rattle.std.proofs.Common.{◌≡◌, List, [], ◌∷◌, ◌++◌, length, 
 use Rattle.std.proofs.Math.Seq.{take-length}
 use Rattle.std.proofs.lemmas.List.{take-append-le}
 use Rattle.rust_source.specs.declared.item.Items.{Items}
-use Rattle.rust_source.specs.Growth.{BeginsWith, Keeps}
+use Rattle.rust_source.specs.Growth.{BeginsWith, KeepsItems}
 
 pub begins_same : {A : Type 0} (xs : List A) → BeginsWith xs xs
 begins_same xs = take-length xs
@@ -23,10 +23,10 @@ begins_more (x ∷ xs) (y ∷ ys) (z ∷ zs) h k =
     let rest = begins_more xs ys zs front more in
     cc
 
-pub keeps_same : (items : Items) → Keeps items items
+pub keeps_same : (items : Items) → KeepsItems items items
 keeps_same items = record { modules = begins_same _; items = begins_same _; uses = begins_same _ }
 
-pub keeps_more : (a b c : Items) → Keeps a b → Keeps b c → Keeps a c
+pub keeps_more : (a b c : Items) → KeepsItems a b → KeepsItems b c → KeepsItems a c
 keeps_more a b c h k = record {
   modules = begins_more _ _ _ h.modules k.modules;
   items = begins_more _ _ _ h.items k.items;

@@ -11,17 +11,17 @@ use Rattle.rust_source.specs.declared.tokens.token.TokenKind.TheVariants as kind
 use Rattle.rust_source.specs.declared.reader.uses.UsePlace.{UsePlace}
 use Rattle.rust_source.specs.Attributes.{attribute_read, attribute_with, attributes_read, cfg_said, none_said, one_attribute}
 use Rattle.rust_source.specs.Cfg.{has_flag, option_answer, option_read, predicate_read, predicate_with}
-use Rattle.rust_source.specs.Cursor.{behind, inside, is_group, is_nth, is_nth_pair, is_word, nth, passed, place, place_behind, place_of, text_between, tree_passed}
-use Rattle.rust_source.specs.Fields.{field_more, field_read, field_typed, fields_all, fields_in, fields_read, value_read, variant_more, variant_read, variants_all, variants_in, visibility_passed}
+use Rattle.rust_source.specs.Cursor.{behind_group, inside, is_group, is_nth, is_nth_pair, is_keyword_next, nth, passed, place, place_behind, place_behind_start, text_between, tree_passed}
+use Rattle.rust_source.specs.Fields.{field_more, field_read, field_typed, fields_all, fields_in, fields_read, value_read, variant_more, variant_read, variants_all, variants_in_braces, visibility_passed}
 use Rattle.rust_source.specs.Generics.{parameters_read, where_read}
 use Rattle.rust_source.specs.Items.{enum_of, struct_of}
-use Rattle.rust_source.specs.Literals.{digits_length, digits_value, integer_kind, integer_kinds, number_in, number_written}
+use Rattle.rust_source.specs.Literals.{digits_length, digits_value, integer_kind, integer_kinds, number_of_digits, number_written}
 use Rattle.rust_source.specs.Names.{first_names}
 use Rattle.rust_source.specs.Operators.{all_joined, next_operator, pairs}
-use Rattle.rust_source.specs.Reading.{bare_text, is_path_name, name, path_name, seen, word_text}
-use Rattle.rust_source.specs.Simple.{after_path, begins_path, is_literal, literal, most_nested, pointing, pointings, signs}
+use Rattle.rust_source.specs.Reading.{bare_text, is_path_name, name, path_name, read_as, word_text}
+use Rattle.rust_source.specs.Simple.{after_path, begins_path, is_literal, literal_read, most_nested, pointing, pointings, signs}
 use Rattle.rust_source.specs.Syntax.{integer, more_segments, named, no_arguments, no_segments, path, segment}
-use Rattle.rust_source.specs.Terms.{arguments_read, expr_with, inner, operand, path_read, primary, segment_read, target, type_with, whole}
+use Rattle.rust_source.specs.Terms.{arguments_read, expr_with, readers, operand, path_read, primary, segment_read, pointee_read, type_next, whole}
 use Rattle.rust_source.specs.Until.{until, up_to}
 use Rattle.rust_source.specs.Uses.{group_read, names_read, path_used, rename_read, tree_read, tree_with}
 use Rattle.rust_source.specs.Written.{WrittenRead, enum_read, head_read, head_where, struct_read, tail_read, where_asked}
@@ -46,7 +46,7 @@ before text ts = record {
 module _ (rules : Rules) where
   -- A { a: u8 }
   field_of_struct :
-      seen (λ (w : WrittenRead × Cursor). w.0.kind) (struct_read rules (before (codes "A { a: u8 }") (
+      read_as (λ (w : WrittenRead × Cursor). w.0.kind) (struct_read rules (before (codes "A { a: u8 }") (
       token kind.Name 0 1 ∷
       bracket_at (kind.Open bracket.Curly) 2 5 ∷
       token kind.Name 4 5 ∷
@@ -64,12 +64,12 @@ module _ (rules : Rules) where
           end = record { 0 = 9 };
         } ∷ [];
       }))
-  unfolding first_names struct_read head_where head_read where_asked tail_read name bare_text place place_of nth passed is_nth is_nth_pair is_word is_group inside behind text_between place_behind parameters_read where_read fields_read fields_in fields_all field_more field_read field_typed attributes_read none_said visibility_passed inner type_with target pointings pointing most_nested begins_path is_path_name path_read segment_read path_name arguments_read after_path
+  unfolding first_names struct_read head_where head_read where_asked tail_read name bare_text place place_behind_start nth passed is_nth is_nth_pair is_keyword_next is_group inside behind_group text_between place_behind parameters_read where_read fields_read fields_in fields_all field_more field_read field_typed attributes_read none_said visibility_passed readers type_next pointee_read pointings pointing most_nested begins_path is_path_name path_read segment_read path_name arguments_read after_path
   field_of_struct = refl
 
   -- E { A = 3, #[cfg(false)] B }
   variant_taken_out :
-      seen (λ (w : WrittenRead × Cursor). w.0.kind) (enum_read rules (before (codes "E { A = 3, #[cfg(false)] B }") (
+      read_as (λ (w : WrittenRead × Cursor). w.0.kind) (enum_read rules (before (codes "E { A = 3, #[cfg(false)] B }") (
       token kind.Name 0 1 ∷
       bracket_at (kind.Open bracket.Curly) 2 14 ∷
       token kind.Name 4 5 ∷
@@ -92,7 +92,7 @@ module _ (rules : Rules) where
         fields = record { is_tuple = false; all = [] };
         discriminant = Some (integer 3 None (record { 0 = 8 }));
       } ∷ []))
-  unfolding first_names enum_read head_where head_read where_asked name bare_text place place_of nth passed is_nth is_nth_pair is_word is_group inside behind text_between parameters_read where_read fields_read variants_in variants_all variant_more variant_read value_read attributes_read none_said one_attribute attribute_read attribute_with cfg_said predicate_read predicate_with option_read option_answer has_flag word_text visibility_passed until up_to tree_passed whole inner expr_with operand primary is_literal literal signs number_written digits_length number_in digits_value integer_kind integer_kinds next_operator pairs all_joined most_nested
+  unfolding first_names enum_read head_where head_read where_asked name bare_text place place_behind_start nth passed is_nth is_nth_pair is_keyword_next is_group inside behind_group text_between parameters_read where_read fields_read variants_in_braces variants_all variant_more variant_read value_read attributes_read none_said one_attribute attribute_read attribute_with cfg_said predicate_read predicate_with option_read option_answer has_flag word_text visibility_passed until up_to tree_passed whole readers expr_with operand primary is_literal literal_read signs number_written digits_length number_of_digits digits_value integer_kind integer_kinds next_operator pairs all_joined most_nested
   variant_taken_out = refl
 
 -- a::{b, c as d}
@@ -122,5 +122,5 @@ names_brought_in :
       name = Some (record { 0 = 8 });
       is_glob = false;
     } ∷ []
-unfolding first_names tree_read tree_with names_read path_used rename_read group_read name bare_text place place_of nth passed is_nth is_nth_pair is_word inside behind text_between is_path_name path_name most_nested
+unfolding first_names tree_read tree_with names_read path_used rename_read group_read name bare_text place place_behind_start nth passed is_nth is_nth_pair is_keyword_next inside behind_group text_between is_path_name path_name most_nested
 names_brought_in p = refl

@@ -8,11 +8,11 @@ use Rattle.rust_source.specs.declared.reader.cursor.Cursor.{Cursor}
 use Rattle.rust_source.specs.declared.fault.SourceFaultKind.TheVariants.{TooDeep}
 use Rattle.rust_source.specs.declared.target.CfgTarget.{CfgTarget}
 use Rattle.rust_source.specs.Attributes.{attribute_read, attribute_with, attributes_from, expanded_from, one_attribute}
-use Rattle.rust_source.specs.Cfg.{Noted, count_from, counted, predicate_read, predicate_with}
+use Rattle.rust_source.specs.Cfg.{Noted, count_from, counting, predicate_read, predicate_with}
 use Rattle.rust_source.specs.Cursor.{comma_passed, fault, is_done, is_next, passed}
-use Rattle.rust_source.specs.Fields.{field_more, fields_from, variant_more, variants_from}
+use Rattle.rust_source.specs.Fields.{field_more, fields_from, variant_more, variants_behind}
 use Rattle.rust_source.specs.Items.{FieldRead, VariantRead}
-use Rattle.rust_source.specs.Reading.{after, then_read}
+use Rattle.rust_source.specs.Reading.{read_on, then_read}
 use Rattle.rust_source.specs.Repr.{word_more, words_from}
 use Rattle.rust_source.specs.Terms.{done}
 use Rattle.rust_source.specs.Until.{until, up_to}
@@ -36,7 +36,7 @@ module _ (t : CfgTarget) where
   predicate_none (suc room) c known is = absurd (omega arith)
 
   module _ (room n i : ℕ) where
-    pub count_more : (holding count : ℕ) (c : Cursor) (known : Noted) → i < n → count_from t (predicate_read t room) (n - i) holding count c known ≡ (if is_done c then done (holding, count) known else after (λ (b : Bool × Cursor) ns. after (λ d ms. count_from t (predicate_read t room) (n - (i + 1)) (counted holding b.0) (counted count true) d ms) (comma_passed b.1, ns)) (predicate_read t room c known))
+    pub count_more : (holding count : ℕ) (c : Cursor) (known : Noted) → i < n → count_from t (predicate_read t room) (n - i) holding count c known ≡ (if is_done c then done (holding, count) known else read_on (λ (b : Bool × Cursor) ns. read_on (λ d ms. count_from t (predicate_read t room) (n - (i + 1)) (counting holding b.0) (counting count true) d ms) (comma_passed b.1, ns)) (predicate_read t room c known))
     count_more holding count c known more = ap (λ k. count_from t (predicate_read t room) k holding count c known) (turns n i more)
 
     pub count_done : (holding count : ℕ) (c : Cursor) (known : Noted) → n ≤ i → count_from t (predicate_read t room) (n - i) holding count c known ≡ done (holding, count) known
@@ -54,26 +54,26 @@ module _ (rules : Rules) where
   attribute_none (suc room) said c known is = absurd (omega arith)
 
   module _ (n i : ℕ) where
-    pub expanded_more : (room : ℕ) (said : Attributes) (c : Cursor) (known : Noted) → i < n → expanded_from rules (attribute_read rules room) (n - i) said c known ≡ (if is_done c then done said known else after (λ more ns. after (λ d ms. expanded_from rules (attribute_read rules room) (n - (i + 1)) more d ms) (comma_passed (until 44 c), ns)) (attribute_read rules room said (up_to 44 c) known))
+    pub expanded_more : (room : ℕ) (said : Attributes) (c : Cursor) (known : Noted) → i < n → expanded_from rules (attribute_read rules room) (n - i) said c known ≡ (if is_done c then done said known else read_on (λ more ns. read_on (λ d ms. expanded_from rules (attribute_read rules room) (n - (i + 1)) more d ms) (comma_passed (until 44 c), ns)) (attribute_read rules room said (up_to 44 c) known))
     expanded_more room said c known more = ap (λ k. expanded_from rules (attribute_read rules room) k said c known) (turns n i more)
 
     pub expanded_done : (room : ℕ) (said : Attributes) (c : Cursor) (known : Noted) → n ≤ i → expanded_from rules (attribute_read rules room) (n - i) said c known ≡ done said known
     expanded_done room said c known past = ap (λ k. expanded_from rules (attribute_read rules room) k said c known) (none_left n i past)
 
-    pub attributes_more : (said : Attributes) (c : Cursor) (known : Noted) → i < n → attributes_from rules (n - i) said c known ≡ (if is_next c 35 then after (λ (s : Attributes × Cursor) ns. attributes_from rules (n - (i + 1)) s.0 s.1 ns) (one_attribute rules said (passed c 1) known) else done (said, c) known)
+    pub attributes_more : (said : Attributes) (c : Cursor) (known : Noted) → i < n → attributes_from rules (n - i) said c known ≡ (if is_next c 35 then read_on (λ (s : Attributes × Cursor) ns. attributes_from rules (n - (i + 1)) s.0 s.1 ns) (one_attribute rules said (passed c 1) known) else done (said, c) known)
     attributes_more said c known more = ap (λ k. attributes_from rules k said c known) (turns n i more)
 
     pub attributes_done : (said : Attributes) (c : Cursor) (known : Noted) → n ≤ i → attributes_from rules (n - i) said c known ≡ done (said, c) known
     attributes_done said c known past = ap (λ k. attributes_from rules k said c known) (none_left n i past)
 
-    pub fields_more : (is_tuple : Bool) (all : List FieldRead) (c : Cursor) (known : Noted) → i < n → fields_from rules is_tuple (n - i) all c known ≡ (if is_done c then done all known else after (λ (f : List FieldRead × Cursor) ns. fields_from rules is_tuple (n - (i + 1)) f.0 f.1 ns) (field_more rules is_tuple all c known))
+    pub fields_more : (is_tuple : Bool) (all : List FieldRead) (c : Cursor) (known : Noted) → i < n → fields_from rules is_tuple (n - i) all c known ≡ (if is_done c then done all known else read_on (λ (f : List FieldRead × Cursor) ns. fields_from rules is_tuple (n - (i + 1)) f.0 f.1 ns) (field_more rules is_tuple all c known))
     fields_more is_tuple all c known more = ap (λ k. fields_from rules is_tuple k all c known) (turns n i more)
 
     pub fields_done : (is_tuple : Bool) (all : List FieldRead) (c : Cursor) (known : Noted) → n ≤ i → fields_from rules is_tuple (n - i) all c known ≡ done all known
     fields_done is_tuple all c known past = ap (λ k. fields_from rules is_tuple k all c known) (none_left n i past)
 
-    pub variants_more : (all : List VariantRead) (c : Cursor) (known : Noted) → i < n → variants_from rules (n - i) all c known ≡ (if is_done c then done all known else after (λ (v : List VariantRead × Cursor) ns. variants_from rules (n - (i + 1)) v.0 v.1 ns) (variant_more rules all c known))
-    variants_more all c known more = ap (λ k. variants_from rules k all c known) (turns n i more)
+    pub variants_more : (all : List VariantRead) (c : Cursor) (known : Noted) → i < n → variants_behind rules (n - i) all c known ≡ (if is_done c then done all known else read_on (λ (v : List VariantRead × Cursor) ns. variants_behind rules (n - (i + 1)) v.0 v.1 ns) (variant_more rules all c known))
+    variants_more all c known more = ap (λ k. variants_behind rules k all c known) (turns n i more)
 
-    pub variants_done : (all : List VariantRead) (c : Cursor) (known : Noted) → n ≤ i → variants_from rules (n - i) all c known ≡ done all known
-    variants_done all c known past = ap (λ k. variants_from rules k all c known) (none_left n i past)
+    pub variants_done : (all : List VariantRead) (c : Cursor) (known : Noted) → n ≤ i → variants_behind rules (n - i) all c known ≡ done all known
+    variants_done all c known past = ap (λ k. variants_behind rules k all c known) (none_left n i past)

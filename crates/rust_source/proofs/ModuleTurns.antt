@@ -8,7 +8,7 @@ use Rattle.rust_source.specs.Constants.{is_of_lifetimes, lifetimes_from, own_fro
 use Rattle.rust_source.specs.Cursor.{fault, is_done, is_next, next_kind, passed}
 use Rattle.rust_source.specs.Having.{Having}
 use Rattle.rust_source.specs.Modules.{all_from, all_read, module_within, one_read, path_passed_from}
-use Rattle.rust_source.specs.Reading.{after, is_path_name}
+use Rattle.rust_source.specs.Reading.{read_on, is_path_name}
 use Rattle.rust_source.specs.Terms.{done}
 use Rattle.rust_source.proofs.Turns.{none_left, turns}
 
@@ -25,13 +25,13 @@ module _ (n i : ℕ) where
   pub path_done : (c : Cursor) → n ≤ i → path_passed_from (n - i) c ≡ c
   path_done c past = ap (λ k. path_passed_from k c) (none_left n i past)
 
-  pub own_more : (rules : Rules) (number owner : ℕ) (c : Cursor) (known : Having) → i < n → own_from rules (n - i) number owner c known ≡ (if is_done c then done tt known else after (λ d ns. own_from rules (n - (i + 1)) number owner d ns) (own_item rules number owner c known))
+  pub own_more : (rules : Rules) (number owner : ℕ) (c : Cursor) (known : Having) → i < n → own_from rules (n - i) number owner c known ≡ (if is_done c then done tt known else read_on (λ d ns. own_from rules (n - (i + 1)) number owner d ns) (own_item rules number owner c known))
   own_more rules number owner c known more = ap (λ k. own_from rules k number owner c known) (turns n i more)
 
   pub own_done : (rules : Rules) (number owner : ℕ) (c : Cursor) (known : Having) → n ≤ i → own_from rules (n - i) number owner c known ≡ done tt known
   own_done rules number owner c known past = ap (λ k. own_from rules k number owner c known) (none_left n i past)
 
-  pub all_more : (rules : Rules) (room number : ℕ) (c : Cursor) (known : Having) → i < n → all_from rules (module_within rules room) (n - i) number c known ≡ (if is_done c then done tt known else after (λ d ns. all_from rules (module_within rules room) (n - (i + 1)) number d ns) (one_read rules (module_within rules room) number c known))
+  pub all_more : (rules : Rules) (room number : ℕ) (c : Cursor) (known : Having) → i < n → all_from rules (module_within rules room) (n - i) number c known ≡ (if is_done c then done tt known else read_on (λ d ns. all_from rules (module_within rules room) (n - (i + 1)) number d ns) (one_read rules (module_within rules room) number c known))
   all_more rules room number c known more = ap (λ k. all_from rules (module_within rules room) k number c known) (turns n i more)
 
   pub all_done : (rules : Rules) (room number : ℕ) (c : Cursor) (known : Having) → n ≤ i → all_from rules (module_within rules room) (n - i) number c known ≡ done tt known

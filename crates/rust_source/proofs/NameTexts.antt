@@ -8,7 +8,7 @@ use Rattle.std.proofs.lemmas.Slice.Eq.{bytes_eq-Decides}
 use Rattle.std.proofs.lemmas.List.{get_or-map, map-append}
 use Rattle.std.proofs.lemmas.List.Quantifiers.{position-Some}
 use Rattle.rust_source.specs.Growth.{BeginsWith}
-use Rattle.rust_source.specs.Names.{added, found, is_known, number_of}
+use Rattle.rust_source.specs.Names.{added, symbol_found, is_known, number_of_name}
 use Rattle.rust_source.specs.declared.place.Symbol.{Symbol}
 use Rattle.rust_source.proofs.Growth.{begins_same, begins_pushed}
 
@@ -37,10 +37,10 @@ abbrev pub has_text : {Z : Type 0} → (text : List ℕ) → String Z → Bool
 has_text text k = bytes_eq text (string_bytes k)
 
 -- the number of a name, and whether it is known, by the program's names
-pub same_number : {Z : Type 0} (text : List ℕ) (ks : List (String Z)) → position_or_len (has_text text) ks ≡ number_of (map string_bytes ks) text
+pub same_number : {Z : Type 0} (text : List ℕ) (ks : List (String Z)) → position_or_len (has_text text) ks ≡ number_of_name (map string_bytes ks) text
 same_number text [] = refl
 same_number text (k ∷ ks) =
-    let P : Bool → Type 0 = λ v. bytes_eq text (string_bytes k) ≡ v → position_or_len (has_text text) (k ∷ ks) ≡ number_of (map string_bytes (k ∷ ks)) text in
+    let P : Bool → Type 0 = λ v. bytes_eq text (string_bytes k) ≡ v → position_or_len (has_text text) (k ∷ ks) ≡ number_of_name (map string_bytes (k ∷ ks)) text in
     (elim (bytes_eq text (string_bytes k)) as P [
       | true ↦ λ e. rw e refl
       | false ↦ λ e. let ih = same_number text ks in rw e (omega (arith, ih))
@@ -56,14 +56,14 @@ small None = None
 small (Some n) = if nat_lt n (2 ^ 32) then Some (record { 0 = n }) else None
 
 -- the name that is found is that of the definition
-pub found_is : {Z : Type 0} (text : List ℕ) (ks : List (String Z)) (o : Option ℕ) → o ≡ position (has_text text) ks → is_some o ≡ list_any (has_text text) ks → small o ≡ found (map string_bytes ks) text
+pub found_is : {Z : Type 0} (text : List ℕ) (ks : List (String Z)) (o : Option ℕ) → o ≡ position (has_text text) ks → is_some o ≡ list_any (has_text text) ks → small o ≡ symbol_found (map string_bytes ks) text
 found_is text ks None at some =
     let no : is_known (map string_bytes ks) text ≡ false = sym (some ∙ same_known text ks) in
     rw no refl
 found_is text ks (Some n) at some =
     let is : is_known (map string_bytes ks) text ≡ true = sym (some ∙ same_known text ks) in
-    let P : Bool → Type 0 = λ v. Some n ≡ (if v then Some (position_or_len (has_text text) ks) else None) → n ≡ number_of (map string_bytes ks) text in
-    let number : n ≡ number_of (map string_bytes ks) text =
+    let P : Bool → Type 0 = λ v. Some n ≡ (if v then Some (position_or_len (has_text text) ks) else None) → n ≡ number_of_name (map string_bytes ks) text in
+    let number : n ≡ number_of_name (map string_bytes ks) text =
     (elim (nat_lt (position_or_len (has_text text) ks) (length ks)) as P [
       | true ↦ λ e. let same : n ≡ position_or_len (has_text text) ks = cc in same ∙ same_number text ks
       | false ↦ λ e. cc
@@ -71,8 +71,8 @@ found_is text ks (Some n) at some =
     rw (is, ← number) refl
 
 -- the number that a name gets, and the names with it
-pub number_is : {Z : Type 0} (text : List ℕ) (ks : List (String Z)) (value : String Z) (n : ℕ) → n ≡ position_or_len (has_text (string_bytes value)) ks → string_bytes value ≡ text → n ≡ number_of (map string_bytes ks) text
-number_is text ks value n at is = at ∙ same_number (string_bytes value) ks ∙ ap (number_of (map string_bytes ks)) is
+pub number_is : {Z : Type 0} (text : List ℕ) (ks : List (String Z)) (value : String Z) (n : ℕ) → n ≡ position_or_len (has_text (string_bytes value)) ks → string_bytes value ≡ text → n ≡ number_of_name (map string_bytes ks) text
+number_is text ks value n at is = at ∙ same_number (string_bytes value) ks ∙ ap (number_of_name (map string_bytes ks)) is
 
 pub names_are : {Z : Type 0} (text : List ℕ) (ks : List (String Z)) (value : String Z) → string_bytes value ≡ text → map string_bytes (if list_any (has_text (string_bytes value)) ks then ks else ks ++ value ∷ []) ≡ added (map string_bytes ks) text
 names_are text ks value is =

@@ -6,13 +6,13 @@ use Rattle.rust_source.specs.declared.place.Place.{Place}
 use Rattle.rust_source.specs.declared.reader.operators.Waiting.{Waiting}
 use Rattle.rust_source.specs.declared.syntax.Unary.{Unary}
 use Rattle.rust_source.specs.Syntax.{ExprRead, unary}
-use Rattle.rust_source.specs.Operators.{joined, joined_tighter, last_binds, signed, tightness}
+use Rattle.rust_source.specs.Operators.{joined, joined_tighter, last_binds, with_operators, tightness}
 
 -- the last of the operators before an operand is the nearest
-pub signed_last : (e more : ExprRead) (all front : List (Unary × Place)) (sign : Unary) (at : Place) → more ≡ unary sign e at → all ≡ front ++ (sign, at) ∷ [] → signed more front ≡ signed e all
-signed_last e more all [] sign at same is = same ∙ ap (signed e) (sym is)
+pub signed_last : (e more : ExprRead) (all front : List (Unary × Place)) (sign : Unary) (at : Place) → more ≡ unary sign e at → all ≡ front ++ (sign, at) ∷ [] → with_operators more front ≡ with_operators e all
+signed_last e more all [] sign at same is = same ∙ ap (with_operators e) (sym is)
 signed_last e more all (t ∷ front) sign at same is =
-    ap (λ x. unary t.0 x t.1) (signed_last e more (front ++ (sign, at) ∷ []) front sign at same refl) ∙ ap (signed e) (sym is)
+    ap (λ x. unary t.0 x t.1) (signed_last e more (front ++ (sign, at) ∷ []) front sign at same refl) ∙ ap (with_operators e) (sym is)
 
 -- nothing is joined where the last operator binds less
 pub none_tighter : (least : ℕ) (os : List ExprRead) (ws : List Waiting) → last_binds least ws ≡ false → joined_tighter least os ws ≡ (os, ws)

@@ -9,7 +9,7 @@ use Rattle.rust_source.specs.declared.fault.SourceFaultKind.TheVariants.{OutOfMe
 use Rattle.rust_source.specs.declared.tokens.brackets.Opened.{Opened}
 use Rattle.rust_source.specs.declared.tokens.token.Token.{Token}
 use Rattle.rust_source.specs.Blanks.{head_length}
-use Rattle.rust_source.specs.Tokens.{Agrees, all_closed, next_token, put, tokens, tokens_from, with_partner}
+use Rattle.rust_source.specs.Tokens.{Yields, all_closed, next_token, token_put, tokens, tokens_from, with_partner}
 
 pub partner_set : (ts : List Token) (i p : ℕ) (t : Token) → i < length ts → t ≡ get_or ts i t → slice_set ts i (record t { partner = p }) ≡ with_partner ts i p
 unfolding with_partner
@@ -34,8 +34,8 @@ abbrev pub items_of : Vec Token Global → List Token
 items_of v = v.items
 
 -- the program's fault is the answer's, memory aside
-pub told : (r : Result (Vec Token Global) SourceFault) (fault : SourceFault) (answer : Result (List Token) SourceFault) → r ≡ Err fault → (answer ≡ Err fault) ⊎ (fault.kind ≡ OutOfMemory) → Agrees items_of answer r
-told r fault answer is h = subst (λ x. Agrees items_of answer x) (sym is) h
+pub told : (r : Result (Vec Token Global) SourceFault) (fault : SourceFault) (answer : Result (List Token) SourceFault) → r ≡ Err fault → (answer ≡ Err fault) ⊎ (fault.kind ≡ OutOfMemory) → Yields items_of answer r
+told r fault answer is h = subst (λ x. Yields items_of answer x) (sym is) h
 
 -- the next token ends near the text's end
 pub near_end : (o : Option Token) (t : Token) (n : ℕ) → o ≡ Some t → IfSome o (λ u. u.end ≤ n) → t.end ≤ n
@@ -43,29 +43,29 @@ near_end o t n is h = let P : Option Token → Type 0 = λ x. IfSome x (λ u. u.
 
 module _ (text : List ℕ) (i before : ℕ) (fs : List Token) (os : List Opened) (few : length text ≤ 2 ^ 30)
     (same : tokens_from (drop i text) text (fs, os) before ≡ tokens_from text text ([], []) (head_length text)) where
-  pub at_end : (r : Result (Vec Token Global) SourceFault) → length text ≤ i → Agrees items_of (all_closed fs (slice_get os (length os - 1))) r → Agrees items_of (tokens text) r
+  pub at_end : (r : Result (Vec Token Global) SourceFault) → length text ≤ i → Yields items_of (all_closed fs (slice_get os (length os - 1))) r → Yields items_of (tokens text) r
   at_end r past closed =
       let e : tokens_from (drop i text) text (fs, os) before ≡ all_closed fs (slice_get os (length os - 1)) = rw (drop_all i text past) refl in
-      subst (λ a. Agrees items_of a r) (sym e ∙ same ∙ sym (whole text few)) closed
+      subst (λ a. Yields items_of a r) (sym e ∙ same ∙ sym (whole text few)) closed
 
   module _ (short : i < length text) where
-    pub nothing_left : (r : Result (Vec Token Global) SourceFault) → Ok None ≡ next_token text before → Agrees items_of (all_closed fs (slice_get os (length os - 1))) r → Agrees items_of (tokens text) r
+    pub nothing_left : (r : Result (Vec Token Global) SourceFault) → Ok None ≡ next_token text before → Yields items_of (all_closed fs (slice_get os (length os - 1))) r → Yields items_of (tokens text) r
     nothing_left r next closed =
         let e : tokens_from (drop i text) text (fs, os) before ≡ all_closed fs (slice_get os (length os - 1)) = rw (drop_more text i 0 short, sym next) refl in
-        subst (λ a. Agrees items_of a r) (sym e ∙ same ∙ sym (whole text few)) closed
+        subst (λ a. Yields items_of a r) (sym e ∙ same ∙ sym (whole text few)) closed
 
     pub no_token : (fault : SourceFault) → Err fault ≡ next_token text before → (tokens text ≡ Err fault) ⊎ (fault.kind ≡ OutOfMemory)
     no_token fault next =
         let e : tokens_from (drop i text) text (fs, os) before ≡ Err fault = rw (drop_more text i 0 short, sym next) refl in
         inl (whole text few ∙ sym same ∙ e)
 
-    pub no_place : (t : Token) (fault : SourceFault) → Ok (Some t) ≡ next_token text before → (put (fs, os) t ≡ Err fault) ⊎ (fault.kind ≡ OutOfMemory) → (tokens text ≡ Err fault) ⊎ (fault.kind ≡ OutOfMemory)
+    pub no_place : (t : Token) (fault : SourceFault) → Ok (Some t) ≡ next_token text before → (token_put (fs, os) t ≡ Err fault) ⊎ (fault.kind ≡ OutOfMemory) → (tokens text ≡ Err fault) ⊎ (fault.kind ≡ OutOfMemory)
     no_place t fault next (inl refused) =
         let e : tokens_from (drop i text) text (fs, os) before ≡ Err fault = rw (drop_more text i 0 short, sym next, refused) refl in
         inl (whole text few ∙ sym same ∙ e)
     no_place t fault next (inr memory) = inr memory
 
-    pub one_more : (t : Token) (more : List Token) (left : List Opened) → Ok (Some t) ≡ next_token text before → put (fs, os) t ≡ Ok (more, left) → tokens_from (drop (i + 1) text) text (more, left) t.end ≡ tokens_from text text ([], []) (head_length text)
+    pub one_more : (t : Token) (more : List Token) (left : List Opened) → Ok (Some t) ≡ next_token text before → token_put (fs, os) t ≡ Ok (more, left) → tokens_from (drop (i + 1) text) text (more, left) t.end ≡ tokens_from text text ([], []) (head_length text)
     one_more t more left next placed =
         let e : tokens_from (drop i text) text (fs, os) before ≡ tokens_from (drop (i + 1) text) text (more, left) t.end = rw (drop_more text i 0 short, sym next, placed) refl in
         sym e ∙ same

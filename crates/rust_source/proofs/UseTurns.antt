@@ -8,7 +8,7 @@ use Rattle.rust_source.specs.declared.place.Symbol.{Symbol}
 use Rattle.rust_source.specs.declared.reader.cursor.Cursor.{Cursor}
 use Rattle.rust_source.specs.declared.reader.uses.UsePlace.{UsePlace}
 use Rattle.rust_source.specs.Cursor.{comma_passed, fault, is_done}
-use Rattle.rust_source.specs.Reading.{after, is_path_name, path_name}
+use Rattle.rust_source.specs.Reading.{read_on, is_path_name, path_name}
 use Rattle.rust_source.specs.Terms.{Known, done}
 use Rattle.rust_source.specs.Uses.{Using, group_from, path_names_from, names_on, tree_read, tree_with}
 use Rattle.rust_source.proofs.Turns.{none_left, turns}
@@ -24,13 +24,13 @@ tree_none zero place before c known is = refl
 tree_none (suc room) place before c known is = absurd (omega arith)
 
 module _ (n i : ℕ) where
-  pub names_more : (path : List UsedName) (c : Cursor) (names : Known) → i < n → path_names_from (n - i) path c names ≡ (if is_path_name c then after (λ (x : (Symbol × Place) × Cursor) ns. names_on (path_names_from (n - (i + 1))) (path ++ record { name = x.0.0; at = x.0.1 } ∷ []) x.1 ns) (path_name c names) else done ((path, false), c) names)
+  pub names_more : (path : List UsedName) (c : Cursor) (names : Known) → i < n → path_names_from (n - i) path c names ≡ (if is_path_name c then read_on (λ (x : (Symbol × Place) × Cursor) ns. names_on (path_names_from (n - (i + 1))) (path ++ record { name = x.0.0; at = x.0.1 } ∷ []) x.1 ns) (path_name c names) else done ((path, false), c) names)
   names_more path c names more = ap (λ k. path_names_from k path c names) (turns n i more)
 
   pub names_done : (path : List UsedName) (c : Cursor) (names : Known) → n ≤ i → path_names_from (n - i) path c names ≡ done ((path, false), c) names
   names_done path c names past = ap (λ k. path_names_from k path c names) (none_left n i past)
 
-  pub group_more : (room : ℕ) (place : UsePlace) (path : List UsedName) (c : Cursor) (known : Using) → i < n → group_from (tree_read room) (n - i) place path c known ≡ (if is_done c then done tt known else after (λ d ns. after (λ e ms. group_from (tree_read room) (n - (i + 1)) place path e ms) (comma_passed d, ns)) (tree_read room place path c known))
+  pub group_more : (room : ℕ) (place : UsePlace) (path : List UsedName) (c : Cursor) (known : Using) → i < n → group_from (tree_read room) (n - i) place path c known ≡ (if is_done c then done tt known else read_on (λ d ns. read_on (λ e ms. group_from (tree_read room) (n - (i + 1)) place path e ms) (comma_passed d, ns)) (tree_read room place path c known))
   group_more room place path c known more = ap (λ k. group_from (tree_read room) k place path c known) (turns n i more)
 
   pub group_done : (room : ℕ) (place : UsePlace) (path : List UsedName) (c : Cursor) (known : Using) → n ≤ i → group_from (tree_read room) (n - i) place path c known ≡ done tt known

@@ -10,11 +10,11 @@ use Rattle.rust_source.specs.declared.reader.literals.Number.{Number}
 use Rattle.rust_source.specs.declared.reader.literals.Number.TheVariants as number
 use Rattle.rust_source.specs.declared.tokens.token.Bracket.TheVariants as bracket
 use Rattle.rust_source.specs.Cfg.{Noted, predicate_read}
-use Rattle.rust_source.specs.Cursor.{behind, comma_passed, fault, inside, is_done, is_next, passed}
-use Rattle.rust_source.specs.Reading.{after, seen, then_read, word_text}
+use Rattle.rust_source.specs.Cursor.{behind_group, comma_passed, fault, inside, is_done, is_next, passed}
+use Rattle.rust_source.specs.Reading.{read_on, read_as, then_read, word_text}
 use Rattle.rust_source.specs.Repr.{next_number, with_repr}
 use Rattle.rust_source.specs.Simple.{most_nested}
-use Rattle.rust_source.specs.Terms.{done, refused}
+use Rattle.rust_source.specs.Terms.{done, fault_next}
 use Rattle.rust_source.specs.Until.{until, up_to}
 
 -- an integer without a suffix
@@ -24,7 +24,7 @@ plain_number c _ = Err (fault c BadAttribute)
 
 -- the number that is next, and what follows it and a `,`
 unfoldable pub number_and_comma : Cursor → Result (ℕ × Cursor) SourceFault
-number_and_comma c = then_read (λ n. seen (λ d. (n, d)) (comma_passed (passed c 1))) (plain_number c (next_number c))
+number_and_comma c = then_read (λ n. read_as (λ d. (n, d)) (comma_passed (passed c 1))) (plain_number c (next_number c))
 
 -- the two numbers of a valid range, alone in its parentheses
 unfoldable pub range_read : Cursor → Result (ℕ × ℕ) SourceFault
@@ -53,14 +53,14 @@ none_said = record {
 -- with another `cfg`, whose predicate stands in these parentheses
 unfoldable pub cfg_said : Rules → Attributes → Cursor → Noted → Result Attributes SourceFault × Noted
 cfg_said rules said i known =
-    after (λ (b : Bool × Cursor) ns. done (record said { holds = said.holds && b.0 }) ns) (predicate_read rules.target most_nested i known)
+    read_on (λ (b : Bool × Cursor) ns. done (record said { holds = said.holds && b.0 }) ns) (predicate_read rules.target most_nested i known)
 
 -- what an attribute says that has nothing within it that is read by attributes, of this name
 unfoldable pub simple_said : Rules → Attributes → (name : List ℕ) → Cursor → Result Attributes SourceFault
 simple_said rules said name i =
-    if bytes_eq name (codes "repr") then seen (λ r. record said { repr = r }) (with_repr said.repr i)
+    if bytes_eq name (codes "repr") then read_as (λ r. record said { repr = r }) (with_repr said.repr i)
     else (if bytes_eq name (codes "rustc_layout_scalar_valid_range") && rules.is_trusted
-    then seen (λ r. record said { valid_range = Some r }) (range_read i) else Ok said)
+    then read_as (λ r. record said { valid_range = Some r }) (range_read i) else Ok said)
 
 module _ (rules : Rules) (A : Attributes → Cursor → Noted → Result Attributes SourceFault × Noted) where
   -- attributes separated by `,`, at most so many
@@ -68,7 +68,7 @@ module _ (rules : Rules) (A : Attributes → Cursor → Noted → Result Attribu
   expanded_from zero said c known = done said known
   expanded_from (suc limit) said c known =
       if is_done c then done said known
-      else after (λ more ns. after (λ d ms. expanded_from limit more d ms) (comma_passed (until 44 c), ns)) (A said (up_to 44 c) known)
+      else read_on (λ more ns. read_on (λ d ms. expanded_from limit more d ms) (comma_passed (until 44 c), ns)) (A said (up_to 44 c) known)
 
   unfoldable pub expanded_all : Attributes → Cursor → Noted → Result Attributes SourceFault × Noted
   expanded_all said c known = expanded_from (c.end - c.at) said c known
@@ -76,7 +76,7 @@ module _ (rules : Rules) (A : Attributes → Cursor → Noted → Result Attribu
   -- the attributes behind the predicate of a `cfg_attr`, where it holds
   unfoldable pub expanded : Attributes → Cursor → Noted → Result Attributes SourceFault × Noted
   expanded said c known =
-      after (λ (b : Bool × Cursor) ns. after (λ d ms. if b.0 then expanded_all said d ms else done said ms) (comma_passed b.1, ns))
+      read_on (λ (b : Bool × Cursor) ns. read_on (λ d ms. if b.0 then expanded_all said d ms else done said ms) (comma_passed b.1, ns))
       (predicate_read rules.target most_nested c known)
 
   -- the attribute of this name, whose parentheses hold these tokens
@@ -94,7 +94,7 @@ module _ (rules : Rules) (A : Attributes → Cursor → Noted → Result Attribu
 
 -- what the attribute says that is next and may stand in so many others, added to what those before it say
 unfoldable pub attribute_read : Rules → (room : ℕ) → Attributes → Cursor → Noted → Result Attributes SourceFault × Noted
-attribute_read rules zero said c known = refused TooDeep c known
+attribute_read rules zero said c known = fault_next TooDeep c known
 attribute_read rules (suc room) said c known = attribute_with rules (attribute_read rules room) said c known
 
 -- the `!` of an attribute is passed over
@@ -102,21 +102,21 @@ abbrev pub bang_passed : Cursor → Cursor
 bang_passed c = if is_next c 33 then passed c 1 else c
 
 -- the attribute in these square brackets, whose `#` stands before: one of the module around says nothing here
-abbrev pub bracketed_by : Rules → Attributes → Cursor → Option Cursor → Noted → Result (Attributes × Cursor) SourceFault × Noted
-bracketed_by rules said c None known = refused BadAttribute (bang_passed c) known
-bracketed_by rules said c (Some i) known =
-    if is_next c 33 then done (said, behind (bang_passed c)) known
-    else after (λ more ns. done (more, behind (bang_passed c)) ns) (attribute_read rules most_nested said i known)
+abbrev pub attribute_between : Rules → Attributes → Cursor → Option Cursor → Noted → Result (Attributes × Cursor) SourceFault × Noted
+attribute_between rules said c None known = fault_next BadAttribute (bang_passed c) known
+attribute_between rules said c (Some i) known =
+    if is_next c 33 then done (said, behind_group (bang_passed c)) known
+    else read_on (λ more ns. done (more, behind_group (bang_passed c)) ns) (attribute_read rules most_nested said i known)
 
 unfoldable pub one_attribute : Rules → Attributes → Cursor → Noted → Result (Attributes × Cursor) SourceFault × Noted
-one_attribute rules said c known = bracketed_by rules said c (inside (bang_passed c) bracket.Square) known
+one_attribute rules said c known = attribute_between rules said c (inside (bang_passed c) bracket.Square) known
 
 -- what the attributes that are next say, at most so many, added to what those before them say
 abbrev pub attributes_from : Rules → (limit : ℕ) → Attributes → Cursor → Noted → Result (Attributes × Cursor) SourceFault × Noted
 attributes_from rules zero said c known = done (said, c) known
 attributes_from rules (suc limit) said c known =
     if is_next c 35
-    then after (λ (s : Attributes × Cursor) ns. attributes_from rules limit s.0 s.1 ns) (one_attribute rules said (passed c 1) known)
+    then read_on (λ (s : Attributes × Cursor) ns. attributes_from rules limit s.0 s.1 ns) (one_attribute rules said (passed c 1) known)
     else done (said, c) known
 
 -- what the attributes that are next say

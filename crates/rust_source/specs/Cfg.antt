@@ -16,11 +16,11 @@ use Rattle.rust_source.specs.declared.tokens.token.Bracket.TheVariants as bracke
 use Rattle.rust_source.specs.declared.tokens.token.Token.{Token}
 use Rattle.rust_source.specs.declared.tokens.token.TokenKind.{TokenKind}
 use Rattle.rust_source.specs.declared.tokens.token.TokenKind.TheVariants as kind
-use Rattle.rust_source.specs.Cursor.{behind, comma_passed, fault, inside, is_done, is_next, nth, passed, token_text}
-use Rattle.rust_source.specs.Literals.{number_written, within}
-use Rattle.rust_source.specs.Names.{added, number_of as name_number}
-use Rattle.rust_source.specs.Reading.{after, seen, word_text}
-use Rattle.rust_source.specs.Terms.{Known, done, refused}
+use Rattle.rust_source.specs.Cursor.{behind_group, comma_passed, fault, inside, is_done, is_next, nth, passed, token_text}
+use Rattle.rust_source.specs.Literals.{number_written, bytes_between}
+use Rattle.rust_source.specs.Names.{added, number_of_name as name_number}
+use Rattle.rust_source.specs.Reading.{read_on, read_as, word_text}
+use Rattle.rust_source.specs.Terms.{Known, done, fault_next}
 
 -- names that have numbers, and the names of `cfg` that aren't known here, each once
 abbrev pub Noted : Type 0
@@ -31,12 +31,12 @@ abbrev pub Noting : Type 0 → Type 0
 Noting A = Cursor → Noted → Result (A × Cursor) SourceFault × Noted
 
 -- a symbol is among these
-abbrev pub is_among : List Symbol → Symbol → Bool
-is_among all s = list_any (λ (t : Symbol). t.0 == s.0) all
+abbrev pub is_one_of : List Symbol → Symbol → Bool
+is_one_of all s = list_any (λ (t : Symbol). t.0 == s.0) all
 
 -- with a symbol more, behind the others, unless it is among them
 abbrev pub with_symbol : List Symbol → Symbol → List Symbol
-with_symbol all s = if is_among all s then all else all ++ s ∷ []
+with_symbol all s = if is_one_of all s then all else all ++ s ∷ []
 
 -- the name is kept as one that isn't known here
 abbrev pub with_unknown : (name : List ℕ) → Noted → Noted
@@ -50,13 +50,13 @@ family_name family.Wasm = codes "wasm"
 family_name family.Neither = []
 
 -- the number, without a suffix, is the one that the target has
-abbrev pub is_wanted : (wanted : ℕ) → Number → Bool
-is_wanted wanted (number.Integer n None) = n == wanted
-is_wanted wanted _ = false
+abbrev pub is_target_number : (wanted : ℕ) → Number → Bool
+is_target_number wanted (number.Integer n None) = n == wanted
+is_target_number wanted _ = false
 
 -- a text is this number, without a suffix
 abbrev pub is_number : (text : List ℕ) → (wanted : ℕ) → Bool
-is_number text wanted = is_wanted wanted (number_written text)
+is_number text wanted = is_target_number wanted (number_written text)
 
 -- a width of integers that the atomic types have
 unfoldable pub is_atomic_width : (text : List ℕ) → Bool
@@ -100,7 +100,7 @@ has_flag t name =
 
 -- what stands between a string's quotes
 abbrev pub unquoted : List ℕ → List ℕ
-unquoted text = unwrap_or (within 34 34 text) []
+unquoted text = unwrap_or (bytes_between 34 34 text) []
 
 -- the text of a token of this kind, where it is a string
 abbrev pub string_of : (text : List ℕ) → TokenKind → Option (List ℕ)
@@ -117,14 +117,14 @@ unfoldable pub next_string : Cursor → Option (List ℕ)
 next_string c = string_by c (nth c 0)
 
 -- whether a name and its value hold, which is this string
-abbrev pub value_by : CfgTarget → (name : List ℕ) → Cursor → Option (List ℕ) → Result (Option Bool × Cursor) SourceFault
-value_by t name c None = Err (fault c BadCfg)
-value_by t name c (Some text) = Ok (has_value t name (unquoted text), passed c 1)
+abbrev pub cfg_value : CfgTarget → (name : List ℕ) → Cursor → Option (List ℕ) → Result (Option Bool × Cursor) SourceFault
+cfg_value t name c None = Err (fault c BadCfg)
+cfg_value t name c (Some text) = Ok (has_value t name (unquoted text), passed c 1)
 
 -- whether a name, or a name and its value, holds; its name stands before
 unfoldable pub option_answer : CfgTarget → (name : List ℕ) → Cursor → Result (Option Bool × Cursor) SourceFault
 option_answer t name c =
-    if is_next c 61 then value_by t name (passed c 1) (next_string (passed c 1)) else Ok (has_flag t name, c)
+    if is_next c 61 then cfg_value t name (passed c 1) (next_string (passed c 1)) else Ok (has_flag t name, c)
 
 -- what is known, where it is; else the name is kept and doesn't hold
 abbrev pub known_or : (name : List ℕ) → Option Bool → Cursor → Noted → Result (Bool × Cursor) SourceFault × Noted
@@ -134,8 +134,8 @@ known_or name None c known = done (false, c) (with_unknown name known)
 -- whether a name, or a name and its value, holds
 unfoldable pub option_read : CfgTarget → Noting Bool
 option_read t c known =
-    if length (word_text c) == 0 then refused BadCfg c known
-    else after (λ (a : Option Bool × Cursor) ns. known_or (word_text c) a.0 a.1 ns) (option_answer t (word_text c) (passed c 1), known)
+    if length (word_text c) == 0 then fault_next BadCfg c known
+    else read_on (λ (a : Option Bool × Cursor) ns. known_or (word_text c) a.0 a.1 ns) (option_answer t (word_text c) (passed c 1), known)
 
 -- a predicate of this name holds of a list of so many, of which so many hold
 unfoldable pub combined : Cursor → (name : List ℕ) → (holding count : ℕ) → Result Bool SourceFault
@@ -145,8 +145,8 @@ combined c name holding count =
     else (if bytes_eq name (codes "not") && (count == 1) then Ok (holding == 0) else Err (fault c BadCfg)))
 
 -- with one more, where it counts; no more than 2 ^ 64 - 1 are counted
-abbrev pub counted : (so_many : ℕ) → (counts : Bool) → ℕ
-counted so_many counts = if counts then min (so_many + 1) (2 ^ 64 - 1) else so_many
+abbrev pub counting : (so_many : ℕ) → (counts : Bool) → ℕ
+counting so_many counts = if counts then min (so_many + 1) (2 ^ 64 - 1) else so_many
 
 module _ (t : CfgTarget) (P : Noting Bool) where
   -- how many predicates of a list hold, and how many there are, with at most so many more behind those that were counted
@@ -154,7 +154,7 @@ module _ (t : CfgTarget) (P : Noting Bool) where
   count_from zero holding count c known = done (holding, count) known
   count_from (suc limit) holding count c known =
       if is_done c then done (holding, count) known
-      else after (λ (b : Bool × Cursor) ns. after (λ d ms. count_from limit (counted holding b.0) (counted count true) d ms) (comma_passed b.1, ns)) (P c known)
+      else read_on (λ (b : Bool × Cursor) ns. read_on (λ d ms. count_from limit (counting holding b.0) (counting count true) d ms) (comma_passed b.1, ns)) (P c known)
 
   -- how many predicates of a list hold, and how many there are
   unfoldable pub count_read : Cursor → Noted → Result (ℕ × ℕ) SourceFault × Noted
@@ -164,12 +164,12 @@ module _ (t : CfgTarget) (P : Noting Bool) where
   abbrev pub predicate_by : Cursor → Option Cursor → Noted → Result (Bool × Cursor) SourceFault × Noted
   predicate_by c None known = option_read t c known
   predicate_by c (Some i) known =
-      after (λ (n : ℕ × ℕ) ns. (seen (λ holds. (holds, behind (passed c 1))) (combined c (word_text c) n.0 n.1), ns)) (count_read i known)
+      read_on (λ (n : ℕ × ℕ) ns. (read_as (λ holds. (holds, behind_group (passed c 1))) (combined c (word_text c) n.0 n.1), ns)) (count_read i known)
 
   unfoldable pub predicate_with : Noting Bool
   predicate_with c known = predicate_by c (inside (passed c 1) bracket.Round) known
 
 -- whether the predicate that is next holds, which may stand in so many others
 unfoldable pub predicate_read : CfgTarget → (room : ℕ) → Noting Bool
-predicate_read t zero = refused TooDeep
+predicate_read t zero = fault_next TooDeep
 predicate_read t (suc room) = predicate_with t (predicate_read t room)

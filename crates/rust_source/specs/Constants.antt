@@ -11,15 +11,15 @@ use Rattle.rust_source.specs.declared.tokens.token.Bracket.TheVariants as bracke
 use Rattle.rust_source.specs.declared.tokens.token.TokenKind.{TokenKind}
 use Rattle.rust_source.specs.declared.tokens.token.TokenKind.TheVariants as kind
 use Rattle.rust_source.specs.Attributes.{attributes_read}
-use Rattle.rust_source.specs.Cursor.{inside, is_constant, is_done, is_next, is_word, next_kind, passed}
-use Rattle.rust_source.specs.Fields.{beside, visibility_passed}
-use Rattle.rust_source.specs.Having.{Having, item_in, next_owner, noted, with_item, with_owner, noted_within}
+use Rattle.rust_source.specs.Cursor.{inside, is_constant, is_done, is_next, is_keyword_next, next_kind, passed}
+use Rattle.rust_source.specs.Fields.{by_names, visibility_passed}
+use Rattle.rust_source.specs.Having.{Having, item_of_module, next_owner, noted, with_item, with_owner, noted_within}
 use Rattle.rust_source.specs.Items.{ItemsRead}
 use Rattle.rust_source.specs.Passing.{item_passed}
-use Rattle.rust_source.specs.Reading.{Reading, after}
+use Rattle.rust_source.specs.Reading.{Reading, read_on}
 use Rattle.rust_source.specs.Simple.{begins_path, most_nested}
 use Rattle.rust_source.specs.Syntax.{PathRead}
-use Rattle.rust_source.specs.Terms.{Known, done, inner, path_read}
+use Rattle.rust_source.specs.Terms.{Known, done, readers, path_read}
 use Rattle.rust_source.specs.Written.{WrittenRead, const_read}
 
 -- memory was wanting
@@ -47,50 +47,50 @@ abbrev pub lifetimes : Cursor → Bool × Cursor
 lifetimes c = if is_next c 60 then lifetimes_in (passed c 1) else (true, c)
 
 -- a type, where its path could be read; what can't be read here isn't told
-abbrev pub owner_by : Result (PathRead × Cursor) SourceFault → Known → Reading (Option (PathRead × Cursor))
-owner_by (Ok p) names = done (Some p) names
-owner_by (Err e) names = done None names
+abbrev pub constant_owner_by : Result (PathRead × Cursor) SourceFault → Known → Reading (Option (PathRead × Cursor))
+constant_owner_by (Ok p) names = done (Some p) names
+constant_owner_by (Err e) names = done None names
 
 -- the same of what was read, with what is known behind it
-abbrev pub owner_of : Reading (PathRead × Cursor) → Reading (Option (PathRead × Cursor))
-owner_of read = owner_by read.0 read.1
+abbrev pub constant_owner : Reading (PathRead × Cursor) → Reading (Option (PathRead × Cursor))
+constant_owner read = constant_owner_by read.0 read.1
 
 -- the type whose own the items of an `impl` block are, behind its `impl`, and what follows it; none where it has parameters
 unfoldable pub owner_read : Cursor → Known → Reading (Option (PathRead × Cursor))
 owner_read c names =
     let l = lifetimes c in
-    if l.0 && begins_path l.1 then owner_of (path_read (inner most_nested) true l.1 names) else done None names
+    if l.0 && begins_path l.1 then constant_owner (path_read (readers most_nested) true l.1 names) else done None names
 
 -- a constant of a type goes behind the items, where it could be read; what can't be read here isn't told
-abbrev pub own_by : (number : ℕ) → Attributes → ItemsRead → Result (WrittenRead × Cursor) SourceFault → Known → Result (Unit {0}) SourceFault × Having
-own_by number said items (Ok w) names = done tt (names, with_item (item_in number said w.0) items)
-own_by number said items (Err e) names = done tt (names, items)
+abbrev pub constant_of_type_by : (number : ℕ) → Attributes → ItemsRead → Result (WrittenRead × Cursor) SourceFault → Known → Result (Unit {0}) SourceFault × Having
+constant_of_type_by number said items (Ok w) names = done tt (names, with_item (item_of_module number said w.0) items)
+constant_of_type_by number said items (Err e) names = done tt (names, items)
 
 -- the same of what was read, with what is known behind it
-abbrev pub own_of : (number : ℕ) → Attributes → ItemsRead → Reading (WrittenRead × Cursor) → Result (Unit {0}) SourceFault × Having
-own_of number said items read = own_by number said items read.0 read.1
+abbrev pub constant_of_type : (number : ℕ) → Attributes → ItemsRead → Reading (WrittenRead × Cursor) → Result (Unit {0}) SourceFault × Having
+constant_of_type number said items read = constant_of_type_by number said items read.0 read.1
 
 -- the constant, behind its `const`, of the type with this number
 unfoldable pub own_const : (number : ℕ) → Attributes → (owner : ℕ) → Cursor → Having → Result (Unit {0}) SourceFault × Having
-own_const number said owner c known = own_of number said known.1 (const_read (Some owner) c known.0)
+own_const number said owner c known = constant_of_type number said known.1 (const_read (Some owner) c known.0)
 
 -- the item here, where it is a constant that no `cfg` takes out
 abbrev pub own_on : (number : ℕ) → Attributes → (owner : ℕ) → Cursor → Having → Result Cursor SourceFault × Having
 own_on number said owner c known =
-    if said.holds && is_constant c then after (λ _ ns. done (item_passed c) ns) (own_const number said owner (passed c 1) known)
+    if said.holds && is_constant c then read_on (λ _ ns. done (item_passed c) ns) (own_const number said owner (passed c 1) known)
     else done (item_passed c) known
 
 module _ (rules : Rules) where
   -- the item of an `impl` block that is next
   unfoldable pub own_item : (number owner : ℕ) → Cursor → Having → Result Cursor SourceFault × Having
   own_item number owner c known =
-      after (λ (a : Attributes × Cursor) ns. own_on number a.0 owner (visibility_passed a.1) ns) (noted_within known.1 (attributes_read rules c (noted known)))
+      read_on (λ (a : Attributes × Cursor) ns. own_on number a.0 owner (visibility_passed a.1) ns) (noted_within known.1 (attributes_read rules c (noted known)))
 
   -- the items of an `impl` block, at most so many
   abbrev pub own_from : (limit number owner : ℕ) → Cursor → Having → Result (Unit {0}) SourceFault × Having
   own_from zero number owner c known = done tt known
   own_from (suc limit) number owner c known =
-      if is_done c then done tt known else after (λ d ns. own_from limit number owner d ns) (own_item number owner c known)
+      if is_done c then done tt known else read_on (λ d ns. own_from limit number owner d ns) (own_item number owner c known)
 
   unfoldable pub own_items : (number owner : ℕ) → Cursor → Having → Result (Unit {0}) SourceFault × Having
   own_items number owner c known = own_from (c.end - c.at) number owner c known
@@ -107,4 +107,4 @@ module _ (rules : Rules) where
   -- the constants of the `impl` block that is next, if one is that has no parameters and implements no trait
   unfoldable pub own_constants : (number : ℕ) → Cursor → Having → Result (Unit {0}) SourceFault × Having
   own_constants number c known =
-      if is_word c keyword.Impl then after (λ o ns. impl_by number o ns) (beside known.1 (owner_read (passed c 1) known.0)) else done tt known
+      if is_keyword_next c keyword.Impl then read_on (λ o ns. impl_by number o ns) (by_names known.1 (owner_read (passed c 1) known.0)) else done tt known

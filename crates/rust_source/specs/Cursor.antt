@@ -20,13 +20,13 @@ unfoldable pub nth : Cursor → (before : ℕ) → Option Token
 nth c before = if nat_lt (c.at + before) c.end then slice_get c.tokens.now (c.at + before) else None
 
 -- the kind of a token
-abbrev pub kind_of : Option Token → Option TokenKind
-kind_of None = None
-kind_of (Some t) = Some t.kind
+abbrev pub kind_of_token : Option Token → Option TokenKind
+kind_of_token None = None
+kind_of_token (Some t) = Some t.kind
 
 -- the kind of the next token
 abbrev pub next_kind : Cursor → Option TokenKind
-next_kind c = kind_of (nth c 0)
+next_kind c = kind_of_token (nth c 0)
 
 -- nothing is there
 abbrev pub is_none : Option Token → Bool
@@ -42,8 +42,8 @@ unfoldable pub passed : Cursor → (count : ℕ) → Cursor
 passed c count = record c { at = min (c.at + count) (2 ^ 64 - 1) }
 
 -- a number of bytes of the source as a place among all sources, of which none is greater than 2 ^ 32 - 1
-unfoldable pub place_of : Cursor → (bytes : ℕ) → Place
-place_of c bytes = record { 0 = min (c.start + bytes) (2 ^ 32 - 1) }
+unfoldable pub place_behind_start : Cursor → (bytes : ℕ) → Place
+place_behind_start c bytes = record { 0 = min (c.start + bytes) (2 ^ 32 - 1) }
 
 -- where a token begins, or else so many bytes
 abbrev pub start_or : (other : ℕ) → Option Token → ℕ
@@ -52,7 +52,7 @@ start_or other (Some t) = t.start
 
 -- where the next token begins; where none is left, the one that ends the group, or the source's end
 unfoldable pub place : Cursor → Place
-place c = place_of c (start_or (start_or (length c.text.now) (slice_get c.tokens.now c.end)) (nth c 0))
+place c = place_behind_start c (start_or (start_or (length c.text.now) (slice_get c.tokens.now c.end)) (nth c 0))
 
 -- where a token ends, or else 0
 abbrev pub end_of : Option Token → ℕ
@@ -61,7 +61,7 @@ end_of (Some t) = t.end
 
 -- where the token ended that was read last
 unfoldable pub place_behind : Cursor → Place
-place_behind c = place_of c (end_of (slice_get c.tokens.now (c.at - 1)))
+place_behind c = place_behind_start c (end_of (slice_get c.tokens.now (c.at - 1)))
 
 -- a text may be cut behind so many bytes: within it, and at no byte that goes on with a character
 abbrev pub is_cut : List ℕ → (at : ℕ) → Bool
@@ -88,7 +88,7 @@ is_punct character _ = false
 
 -- the token that so many stand before is this character
 unfoldable pub is_nth : Cursor → (before character : ℕ) → Bool
-is_nth c before character = is_punct character (kind_of (nth c before))
+is_nth c before character = is_punct character (kind_of_token (nth c before))
 
 -- the next token is this character
 abbrev pub is_next : Cursor → (character : ℕ) → Bool
@@ -118,8 +118,8 @@ is_keyword k (Some (kind.Keyword l)) = is_same_word l k
 is_keyword k _ = false
 
 -- the next token is this keyword
-unfoldable pub is_word : Cursor → Keyword → Bool
-is_word c k = is_keyword k (next_kind c)
+unfoldable pub is_keyword_next : Cursor → Keyword → Bool
+is_keyword_next c k = is_keyword k (next_kind c)
 
 -- the token is a name
 abbrev pub is_name : Option TokenKind → Bool
@@ -129,11 +129,11 @@ is_name _ = false
 
 -- a name stands behind the next token
 abbrev pub is_named_next : Cursor → Bool
-is_named_next c = is_name (kind_of (nth c 1))
+is_named_next c = is_name (kind_of_token (nth c 1))
 
 -- a constant with a name is next
 abbrev pub is_constant : Cursor → Bool
-is_constant c = is_word c keyword.Const && is_named_next c
+is_constant c = is_keyword_next c keyword.Const && is_named_next c
 
 -- a token of this kind opens a group in brackets of the kind
 abbrev pub opens : Bracket → TokenKind → Bool
@@ -168,13 +168,13 @@ partner_of None = 0
 partner_of (Some t) = t.partner
 
 -- what follows the group that is next
-unfoldable pub behind : Cursor → Cursor
-behind c = record c { at = partner_of (nth c 0) + 1 }
+unfoldable pub behind_group : Cursor → Cursor
+behind_group c = record c { at = partner_of (nth c 0) + 1 }
 
 -- what follows a group whose tokens are these, where there is one
 abbrev pub group_passed : Cursor → (inside : Option Cursor) → Cursor
 group_passed c None = c
-group_passed c (Some i) = behind c
+group_passed c (Some i) = behind_group c
 
 -- what follows the token, or the group that it opens
 abbrev pub behind_kind : Cursor → Token → TokenKind → Cursor

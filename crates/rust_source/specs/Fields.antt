@@ -17,18 +17,18 @@ use Rattle.rust_source.specs.declared.tokens.token.TokenKind.{TokenKind}
 use Rattle.rust_source.specs.declared.tokens.token.TokenKind.TheVariants as kind
 use Rattle.rust_source.specs.Attributes.{attributes_read}
 use Rattle.rust_source.specs.Cfg.{Noted, Noting}
-use Rattle.rust_source.specs.Cursor.{behind, comma_passed, expected, inside, is_done, is_next, is_none, is_word, next_kind, nth, passed, place, place_behind}
+use Rattle.rust_source.specs.Cursor.{behind_group, comma_passed, expected, inside, is_done, is_next, is_none, is_keyword_next, next_kind, nth, passed, place, place_behind}
 use Rattle.rust_source.specs.Items.{FieldRead, FieldsRead, VariantRead}
-use Rattle.rust_source.specs.Reading.{Reading, after, name, seen}
+use Rattle.rust_source.specs.Reading.{Reading, read_on, name, read_as}
 use Rattle.rust_source.specs.Repeated.{field_names, none_twice, variant_names}
 use Rattle.rust_source.specs.Simple.{most_nested}
 use Rattle.rust_source.specs.Syntax.{ExprRead, TypeRead}
-use Rattle.rust_source.specs.Terms.{Known, Reader, done, inner, type_read, whole}
+use Rattle.rust_source.specs.Terms.{Known, Reader, done, readers, type_read, whole}
 use Rattle.rust_source.specs.Until.{until, up_to}
 
 -- what is read by names alone, beside what else is known
-abbrev pub beside : {A B : Type 0} → (more : B) → Reading A → Result A SourceFault × (Known × B)
-beside more read = (read.0, (read.1, more))
+abbrev pub by_names : {A B : Type 0} → (more : B) → Reading A → Result A SourceFault × (Known × B)
+by_names more read = (read.0, (read.1, more))
 
 -- parentheses that begin so say where an item is seen, as `pub(crate)` and `pub(in a::b)`
 abbrev pub restricts : Keyword → (second : Option Token) → Bool
@@ -50,26 +50,26 @@ is_restriction c = restricts_by (next_kind c) (nth c 1)
 -- what follows the restriction behind `pub`, if these parentheses are one
 abbrev pub restriction_passed : Cursor → Option Cursor → Cursor
 restriction_passed c None = c
-restriction_passed c (Some i) = if is_restriction i then behind c else c
+restriction_passed c (Some i) = if is_restriction i then behind_group c else c
 
 -- what follows `pub` and its restriction, where it is next
 unfoldable pub visibility_passed : Cursor → Cursor
-visibility_passed c = if is_word c keyword.Pub then restriction_passed (passed c 1) (inside (passed c 1) bracket.Round) else c
+visibility_passed c = if is_keyword_next c keyword.Pub then restriction_passed (passed c 1) (inside (passed c 1) bracket.Round) else c
 
 -- the field of this name, which stands there, and whose type is next
 unfoldable pub field_typed : FieldName → Place → Reader FieldRead
 field_typed name at c names =
-    after (λ (t : TypeRead × Cursor) ns.
+    read_on (λ (t : TypeRead × Cursor) ns.
     done (record { name = name; at = at; ty = t.0; start = place c; end = place_behind t.1 }, t.1) ns) (type_read most_nested c names)
 
 -- the field of this number in a tuple, or the one whose name is next
-abbrev pub field_by : (number : Option ℕ) → Reader FieldRead
-field_by (Some n) c names = field_typed (Numbered n) (place c) c names
-field_by None c names =
-    after (λ (n : (Symbol × Place) × Cursor) ns. after (λ d ms. field_typed (Named n.0.0) n.0.1 d ms) (expected n.1 58 ExpectedColon, ns)) (name c names)
+abbrev pub field_next : (number : Option ℕ) → Reader FieldRead
+field_next (Some n) c names = field_typed (Numbered n) (place c) c names
+field_next None c names =
+    read_on (λ (n : (Symbol × Place) × Cursor) ns. read_on (λ d ms. field_typed (Named n.0.0) n.0.1 d ms) (expected n.1 58 ExpectedColon, ns)) (name c names)
 
 unfoldable pub field_read : (number : Option ℕ) → Reader FieldRead
-field_read number c names = field_by number (visibility_passed c) names
+field_read number c names = field_next number (visibility_passed c) names
 
 -- the number of the field behind these, in a tuple
 abbrev pub next_field_number : (is_tuple : Bool) → List FieldRead → Option ℕ
@@ -83,9 +83,9 @@ module _ (rules : Rules) where
   -- the fields with the one that is next, which a `cfg` may take out
   unfoldable pub field_more : (is_tuple : Bool) → List FieldRead → Noting (List FieldRead)
   field_more is_tuple all c known =
-      after (λ (a : Attributes × Cursor) ns.
-      after (λ (f : FieldRead × Cursor) ms. after (λ d ls. done (with_one all a.0.holds f.0, d) ls) (comma_passed f.1, ms))
-      (beside ns.1 (field_read (next_field_number is_tuple all) a.1 ns.0)))
+      read_on (λ (a : Attributes × Cursor) ns.
+      read_on (λ (f : FieldRead × Cursor) ms. read_on (λ d ls. done (with_one all a.0.holds f.0, d) ls) (comma_passed f.1, ms))
+      (by_names ns.1 (field_read (next_field_number is_tuple all) a.1 ns.0)))
       (attributes_read rules c known)
 
   -- the fields behind these, at most so many
@@ -93,7 +93,7 @@ module _ (rules : Rules) where
   fields_from is_tuple zero all c known = done all known
   fields_from is_tuple (suc limit) all c known =
       if is_done c then done all known
-      else after (λ (f : List FieldRead × Cursor) ns. fields_from is_tuple limit f.0 f.1 ns) (field_more is_tuple all c known)
+      else read_on (λ (f : List FieldRead × Cursor) ns. fields_from is_tuple limit f.0 f.1 ns) (field_more is_tuple all c known)
 
   unfoldable pub fields_all : (is_tuple : Bool) → List FieldRead → Cursor → Noted → Result (List FieldRead) SourceFault × Noted
   fields_all is_tuple all c known = fields_from is_tuple (c.end - c.at) all c known
@@ -101,12 +101,12 @@ module _ (rules : Rules) where
   -- the fields within brackets, no two of one name
   unfoldable pub fields_in : (is_tuple : Bool) → Cursor → Noted → Result FieldsRead SourceFault × Noted
   fields_in is_tuple c known =
-      after (λ (all : List FieldRead) ns. (seen (λ _. record { is_tuple = is_tuple; all = all }) (none_twice (field_names all)), ns)) (fields_all is_tuple [] c known)
+      read_on (λ (all : List FieldRead) ns. (read_as (λ _. record { is_tuple = is_tuple; all = all }) (none_twice (field_names all)), ns)) (fields_all is_tuple [] c known)
 
   -- the fields in these parentheses or braces; none where there are neither
   abbrev pub fields_by : Cursor → (round curly : Option Cursor) → Noted → Result (FieldsRead × Cursor) SourceFault × Noted
-  fields_by c (Some i) curly known = after (λ f ns. done (f, behind c) ns) (fields_in true i known)
-  fields_by c None (Some i) known = after (λ f ns. done (f, behind c) ns) (fields_in false i known)
+  fields_by c (Some i) curly known = read_on (λ f ns. done (f, behind_group c) ns) (fields_in true i known)
+  fields_by c None (Some i) known = read_on (λ f ns. done (f, behind_group c) ns) (fields_in false i known)
   fields_by c None None known = done (record { is_tuple = false; all = [] }, c) known
 
   -- the fields that are next
@@ -117,39 +117,39 @@ module _ (rules : Rules) where
 unfoldable pub value_read : (end : ℕ) → Reader (Option ExprRead)
 value_read end c names =
     if is_next c 61
-    then after (λ (e : ExprRead × Cursor) ns. done (Some e.0, until end (passed c 1)) ns) (whole (inner most_nested) (up_to end (passed c 1)) names)
+    then read_on (λ (e : ExprRead × Cursor) ns. done (Some e.0, until end (passed c 1)) ns) (whole (readers most_nested) (up_to end (passed c 1)) names)
     else done (None, c) names
 
 module _ (rules : Rules) where
   -- a variant, behind its attributes
   unfoldable pub variant_read : Noting VariantRead
   variant_read c known =
-      after (λ (n : (Symbol × Place) × Cursor) ns.
-      after (λ (f : FieldsRead × Cursor) ms.
-      after (λ (d : Option ExprRead × Cursor) ls. done (record { name = n.0.0; at = n.0.1; fields = f.0; discriminant = d.0 }, d.1) ls)
-      (beside ms.1 (value_read 44 f.1 ms.0)))
+      read_on (λ (n : (Symbol × Place) × Cursor) ns.
+      read_on (λ (f : FieldsRead × Cursor) ms.
+      read_on (λ (d : Option ExprRead × Cursor) ls. done (record { name = n.0.0; at = n.0.1; fields = f.0; discriminant = d.0 }, d.1) ls)
+      (by_names ms.1 (value_read 44 f.1 ms.0)))
       (fields_read rules n.1 ns))
-      (beside known.1 (name (visibility_passed c) known.0))
+      (by_names known.1 (name (visibility_passed c) known.0))
 
   -- the variants with the one that is next, which a `cfg` may take out
   unfoldable pub variant_more : List VariantRead → Noting (List VariantRead)
   variant_more all c known =
-      after (λ (a : Attributes × Cursor) ns.
-      after (λ (v : VariantRead × Cursor) ms. after (λ d ls. done (with_one all a.0.holds v.0, d) ls) (comma_passed v.1, ms))
+      read_on (λ (a : Attributes × Cursor) ns.
+      read_on (λ (v : VariantRead × Cursor) ms. read_on (λ d ls. done (with_one all a.0.holds v.0, d) ls) (comma_passed v.1, ms))
       (variant_read a.1 ns))
       (attributes_read rules c known)
 
   -- the variants behind these, at most so many
-  abbrev pub variants_from : (limit : ℕ) → List VariantRead → Cursor → Noted → Result (List VariantRead) SourceFault × Noted
-  variants_from zero all c known = done all known
-  variants_from (suc limit) all c known =
+  abbrev pub variants_behind : (limit : ℕ) → List VariantRead → Cursor → Noted → Result (List VariantRead) SourceFault × Noted
+  variants_behind zero all c known = done all known
+  variants_behind (suc limit) all c known =
       if is_done c then done all known
-      else after (λ (v : List VariantRead × Cursor) ns. variants_from limit v.0 v.1 ns) (variant_more all c known)
+      else read_on (λ (v : List VariantRead × Cursor) ns. variants_behind limit v.0 v.1 ns) (variant_more all c known)
 
   unfoldable pub variants_all : List VariantRead → Cursor → Noted → Result (List VariantRead) SourceFault × Noted
-  variants_all all c known = variants_from (c.end - c.at) all c known
+  variants_all all c known = variants_behind (c.end - c.at) all c known
 
   -- the variants within an enum's braces, no two of one name
-  unfoldable pub variants_in : Cursor → Noted → Result (List VariantRead) SourceFault × Noted
-  variants_in c known =
-      after (λ (all : List VariantRead) ns. (seen (λ _. all) (none_twice (variant_names all)), ns)) (variants_all [] c known)
+  unfoldable pub variants_in_braces : Cursor → Noted → Result (List VariantRead) SourceFault × Noted
+  variants_in_braces c known =
+      read_on (λ (all : List VariantRead) ns. (read_as (λ _. all) (none_twice (variant_names all)), ns)) (variants_all [] c known)

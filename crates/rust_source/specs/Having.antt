@@ -26,8 +26,8 @@ abbrev pub using_within : {A : Type 0} → (items : ItemsRead) → Result A Sour
 using_within items read = (read.0, (read.1.0, record items { uses = read.1.1 }))
 
 -- an item of a module, with what its attributes say
-abbrev pub item_in : (number : ℕ) → Attributes → WrittenRead → ItemRead
-item_in number said w = record {
+abbrev pub item_of_module : (number : ℕ) → Attributes → WrittenRead → ItemRead
+item_of_module number said w = record {
   name = w.head.name;
   at = w.head.at;
   inside = number;

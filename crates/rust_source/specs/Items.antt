@@ -19,7 +19,7 @@ use Rattle.rust_source.specs.declared.item.UsedName.{UsedName}
 use Rattle.rust_source.specs.declared.item.Variant.{Variant}
 use Rattle.rust_source.specs.declared.place.Place.{Place}
 use Rattle.rust_source.specs.declared.place.Symbol.{Symbol}
-use Rattle.rust_source.specs.Syntax.{ExprRead, PathRead, TypeRead, expr_of, path_of, type_of}
+use Rattle.rust_source.specs.Syntax.{ExprRead, PathRead, TypeRead, expr_of, path_as_read, type_of}
 
 -- a field, where its name stands, or its type where it has none, and where its type begins and ends
 pub record FieldRead : Type 0 where
@@ -97,12 +97,12 @@ abbrev pub field_of : Field → FieldRead
 field_of f = record { name = f.name; at = f.at; ty = type_of f.ty; start = f.start; end = f.end }
 
 -- fields, by whether they are a tuple's
-abbrev pub fields_of : Fields → FieldsRead
-fields_of f = record { is_tuple = f.is_tuple; all = map field_of f.all.items }
+abbrev pub fields_as_read : Fields → FieldsRead
+fields_as_read f = record { is_tuple = f.is_tuple; all = map field_of f.all.items }
 
 -- a variant
-abbrev pub variant_of : Variant → VariantRead
-variant_of v = record { name = v.name; at = v.at; fields = fields_of v.fields; discriminant = option_map expr_of v.discriminant }
+abbrev pub variant_as_read : Variant → VariantRead
+variant_as_read v = record { name = v.name; at = v.at; fields = fields_as_read v.fields; discriminant = option_map expr_of v.discriminant }
 
 -- what a parameter stands for, with its default
 abbrev pub parameter_kind_of : ParameterKind → ParameterKindRead
@@ -119,9 +119,9 @@ constant_of c = const_of (type_of c.ty) (option_map expr_of c.value) c.owner
 
 -- what an item is
 abbrev pub item_kind_of : ItemKind → ItemKindRead
-item_kind_of (item.Struct f) = struct_of (fields_of f)
-item_kind_of (item.Enum e) = enum_of (map variant_of e.variants.items)
-item_kind_of (item.Union f) = union_of (fields_of f)
+item_kind_of (item.Struct f) = struct_of (fields_as_read f)
+item_kind_of (item.Enum e) = enum_of (map variant_as_read e.variants.items)
+item_kind_of (item.Union f) = union_of (fields_as_read f)
 item_kind_of (item.Alias t) = alias_of (type_of t)
 item_kind_of (item.Const c) = constant_of c
 
@@ -142,12 +142,12 @@ abbrev pub use_of : Use → UseRead
 use_of u = record { inside = u.«module»; is_global = u.is_global; path = u.path.items; name = u.name; is_glob = u.is_glob }
 
 -- all that sources have
-abbrev pub items_of : Items → ItemsRead
-items_of i = record {
+abbrev pub items_as_read : Items → ItemsRead
+items_as_read i = record {
   modules = i.modules.items;
   items = map item_of i.items.items;
   uses = map use_of i.uses.items;
-  owners = map path_of i.owners.items;
+  owners = map path_as_read i.owners.items;
   passed_over = i.passed_over;
   unknown = i.unknown_cfgs.items;
 }

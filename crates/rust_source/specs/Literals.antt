@@ -94,8 +94,8 @@ suffixed (Some n) (Some k) is_bare = number.Integer n (Some k)
 suffixed (Some n) None is_bare = if is_bare then number.Integer n None else number.Bad
 
 -- the number that digits of a base are, and the suffix behind them
-unfoldable pub number_in : (base : ℕ) → List ℕ → Number
-number_in base text =
+unfoldable pub number_of_digits : (base : ℕ) → List ℕ → Number
+number_of_digits base text =
     let n = digits_length base text in
     suffixed (digits_value base (take n text)) (integer_kind (drop n text)) (length (drop n text) == 0)
 
@@ -111,8 +111,8 @@ base_of text = if byte_at text 1 == 120 then 16 else (if byte_at text 1 == 111 t
 -- what a number is that a source writes so
 unfoldable pub number_written : List ℕ → Number
 number_written text =
-    if has_base text then number_in (base_of text) (drop 2 text)
-    else (if is_float_tail (drop (digits_length 10 text) text) then number.Float else number_in 10 text)
+    if has_base text then number_of_digits (base_of text) (drop 2 text)
+    else (if is_float_tail (drop (digits_length 10 text) text) then number.Float else number_of_digits 10 text)
 
 -- the code of a character that an escape's letter names
 abbrev pub letter_code : (letter : ℕ) → Option ℕ
@@ -124,26 +124,26 @@ letter_code c =
     else (if (c == 92) || (c == 39) || (c == 34) then Some c else None))))
 
 -- a number that is a character's code
-abbrev pub as_code : Option ℕ → Option ℕ
-as_code None = None
-as_code (Some n) = if is_scalar n then Some n else None
+abbrev pub code_from : Option ℕ → Option ℕ
+code_from None = None
+code_from (Some n) = if is_scalar n then Some n else None
 
 -- the bytes between a first one and a last one
-unfoldable pub within : (first last : ℕ) → List ℕ → Option (List ℕ)
-within first last bytes =
+unfoldable pub bytes_between : (first last : ℕ) → List ℕ → Option (List ℕ)
+bytes_between first last bytes =
     if nat_le 2 (length bytes) && (byte_at bytes 0 == first) && (byte_at bytes (length bytes - 1) == last)
     then Some (slice_range bytes 1 (length bytes - 1)) else None
 
 -- the code that hexadecimal digits are
 abbrev pub hex_code : Option (List ℕ) → Option ℕ
 hex_code None = None
-hex_code (Some digits) = as_code (digits_value 16 digits)
+hex_code (Some digits) = code_from (digits_value 16 digits)
 
 -- the code that the digits behind an escape's letter are, as in `\x41` and `\u{7b}`
 unfoldable pub escaped_code : (letter : ℕ) → (digits : List ℕ) → Option ℕ
 escaped_code letter digits =
     if letter == 120 then hex_code (Some digits)
-    else (if letter == 117 then hex_code (within 123 125 digits) else None)
+    else (if letter == 117 then hex_code (bytes_between 123 125 digits) else None)
 
 -- the code of an escape, whose first character behind the backslash, and its bytes, are these
 abbrev pub escape_by : (rest : List ℕ) → Option (ℕ × ℕ) → Option ℕ
@@ -169,4 +169,4 @@ code_or_fault (Some code) = Ok code
 
 -- the code of a character's literal, or of a byte's behind its `b`
 unfoldable pub char_code : List ℕ → Result ℕ SourceFaultKind
-char_code text = code_or_fault (code_within (within 39 39 text))
+char_code text = code_or_fault (code_within (bytes_between 39 39 text))

@@ -15,13 +15,13 @@ use Rattle.rust_source.specs.declared.tokens.token.TokenKind.{TokenKind}
 use Rattle.rust_source.specs.declared.tokens.token.TokenKind.TheVariants as kind
 use Rattle.rust_source.specs.Attributes.{attributes_read}
 use Rattle.rust_source.specs.Constants.{own_constants}
-use Rattle.rust_source.specs.Cursor.{behind, expected, inside, is_done, is_next, is_open, is_word, next_kind, nth, passed}
-use Rattle.rust_source.specs.Fields.{beside, visibility_passed}
-use Rattle.rust_source.specs.Having.{Having, item_in, next_module, noted, using_within, with_item, with_module, with_passed, noted_within}
+use Rattle.rust_source.specs.Cursor.{behind_group, expected, inside, is_done, is_next, is_open, is_keyword_next, next_kind, nth, passed}
+use Rattle.rust_source.specs.Fields.{by_names, visibility_passed}
+use Rattle.rust_source.specs.Having.{Having, item_of_module, next_module, noted, using_within, with_item, with_module, with_passed, noted_within}
 use Rattle.rust_source.specs.Passing.{item_passed}
-use Rattle.rust_source.specs.Reading.{after, is_named, is_path_name, name, word_text}
+use Rattle.rust_source.specs.Reading.{read_on, is_named, is_path_name, name, word_text}
 use Rattle.rust_source.specs.Simple.{most_nested}
-use Rattle.rust_source.specs.Terms.{done, refused}
+use Rattle.rust_source.specs.Terms.{done, fault_next}
 use Rattle.rust_source.specs.Uses.{tree_read}
 use Rattle.rust_source.specs.Written.{WrittenRead, written_read}
 
@@ -66,17 +66,17 @@ is_passed_over c = passes_kind (next_kind c) || is_item_word c || is_macro c
 
 -- an item that makes no type is passed over, and counted
 unfoldable pub over_passed : Cursor → Having → Result Cursor SourceFault × Having
-over_passed c known = if is_passed_over c then done (item_passed c) (known.0, with_passed known.1) else refused ExpectedItem c known
+over_passed c known = if is_passed_over c then done (item_passed c) (known.0, with_passed known.1) else fault_next ExpectedItem c known
 
 -- what is brought in, behind `use`
 unfoldable pub use_read : (number : ℕ) → Cursor → Having → Result Cursor SourceFault × Having
 use_read number c known =
-    after (λ d ns. (expected d 59 ExpectedSemicolon, ns))
+    read_on (λ d ns. (expected d 59 ExpectedSemicolon, ns))
     (using_within known.1 (tree_read most_nested (record { «module» = number; is_global = false }) [] c (known.0, known.1.uses)))
 
 -- a module with its items is next
 abbrev pub is_inline_module : Cursor → Bool
-is_inline_module c = is_word c keyword.Mod && is_open bracket.Curly (nth c 2)
+is_inline_module c = is_keyword_next c keyword.Mod && is_open bracket.Curly (nth c 2)
 
 -- how the items of the module with this number are read, which stands within others
 abbrev pub ModuleReader : Type 0
@@ -86,33 +86,33 @@ module _ (rules : Rules) where
   -- the item that is next, which makes no type and is no constant
   unfoldable pub other_read : (number : ℕ) → Cursor → Having → Result Cursor SourceFault × Having
   other_read number c known =
-      if is_word c keyword.Use then use_read number (passed c 1) known else after (λ _ ns. over_passed c ns) (own_constants rules number c known)
+      if is_keyword_next c keyword.Use then use_read number (passed c 1) known else read_on (λ _ ns. over_passed c ns) (own_constants rules number c known)
 
   -- the item that is next, which this was or another one is
-  abbrev pub item_by : (number : ℕ) → Attributes → Option WrittenRead → Cursor → Having → Result Cursor SourceFault × Having
-  item_by number said (Some w) c known = done c (known.0, with_item (item_in number said w) known.1)
-  item_by number said None c known = other_read number c known
+  abbrev pub next_item_by : (number : ℕ) → Attributes → Option WrittenRead → Cursor → Having → Result Cursor SourceFault × Having
+  next_item_by number said (Some w) c known = done c (known.0, with_item (item_of_module number said w) known.1)
+  next_item_by number said None c known = other_read number c known
 
   -- the item that is next, which is no module, behind its attributes and its `pub`
   unfoldable pub item_read : (number : ℕ) → Attributes → Cursor → Having → Result Cursor SourceFault × Having
   item_read number said c known =
-      after (λ (w : Option WrittenRead × Cursor) ns. item_by number said w.0 w.1 ns) (noted_within known.1 (written_read rules c (noted known)))
+      read_on (λ (w : Option WrittenRead × Cursor) ns. next_item_by number said w.0 w.1 ns) (noted_within known.1 (written_read rules c (noted known)))
 
   module _ (M : ModuleReader) where
     -- the items of a module, which stand in these braces
-    abbrev pub module_in : (number : ℕ) → Cursor → Option Cursor → Having → Result Cursor SourceFault × Having
-    module_in number c None known = done c known
-    module_in number c (Some i) known = after (λ _ ns. done (behind c) ns) (M number i known)
+    abbrev pub module_items : (number : ℕ) → Cursor → Option Cursor → Having → Result Cursor SourceFault × Having
+    module_items number c None known = done c known
+    module_items number c (Some i) known = read_on (λ _ ns. done (behind_group c) ns) (M number i known)
 
     -- a module of this name in another one
     abbrev pub module_on : (outer : ℕ) → Symbol → Cursor → Having → Result Cursor SourceFault × Having
     module_on outer name c known =
-        module_in (next_module known.1) c (inside c bracket.Curly) (known.0, with_module (record { name = name; parent = Some outer }) known.1)
+        module_items (next_module known.1) c (inside c bracket.Curly) (known.0, with_module (record { name = name; parent = Some outer }) known.1)
 
     -- the module that is next
     unfoldable pub module_read : (outer : ℕ) → Cursor → Having → Result Cursor SourceFault × Having
     module_read outer c known =
-        after (λ (n : (Symbol × Place) × Cursor) ns. module_on outer n.0.0 n.1 ns) (beside known.1 (name (passed c 1) known.0))
+        read_on (λ (n : (Symbol × Place) × Cursor) ns. module_on outer n.0.0 n.1 ns) (by_names known.1 (name (passed c 1) known.0))
 
     -- what stands behind these attributes and its `pub`, and what follows it
     unfoldable pub said_read : (number : ℕ) → Attributes → Cursor → Having → Result Cursor SourceFault × Having
@@ -123,26 +123,26 @@ module _ (rules : Rules) where
     -- the item that is next, if one is behind its attributes
     unfoldable pub one_read : (number : ℕ) → Cursor → Having → Result Cursor SourceFault × Having
     one_read number c known =
-        after (λ (a : Attributes × Cursor) ns. if is_done a.1 then done a.1 ns else said_read number a.0 (visibility_passed a.1) ns)
+        read_on (λ (a : Attributes × Cursor) ns. if is_done a.1 then done a.1 ns else said_read number a.0 (visibility_passed a.1) ns)
         (noted_within known.1 (attributes_read rules c (noted known)))
 
     -- the items of a module, at most so many
     abbrev pub all_from : (limit number : ℕ) → Cursor → Having → Result (Unit {0}) SourceFault × Having
     all_from zero number c known = done tt known
     all_from (suc limit) number c known =
-        if is_done c then done tt known else after (λ d ns. all_from limit number d ns) (one_read number c known)
+        if is_done c then done tt known else read_on (λ d ns. all_from limit number d ns) (one_read number c known)
 
     unfoldable pub all_read : ModuleReader
     all_read number c known = all_from (c.end - c.at) number c known
 
 -- the items of a module that may stand in so many others
 unfoldable pub module_within : Rules → (room : ℕ) → ModuleReader
-module_within rules zero number c known = refused TooDeep c known
+module_within rules zero number c known = fault_next TooDeep c known
 module_within rules (suc room) number c known = all_read rules (module_within rules room) number c known
 
 -- the items of a source, in a new root module of this name, and that module's number; modules may stand in 200 others
 unfoldable pub root_read : Rules → Symbol → Cursor → Having → Result ℕ SourceFault × Having
 root_read rules name c known =
-    after (λ _ ns. done (next_module known.1) ns)
+    read_on (λ _ ns. done (next_module known.1) ns)
     (all_read rules (module_within rules (most_nested + 1)) (next_module known.1) c
     (known.0, with_module (record { name = name; parent = None }) known.1))

@@ -19,9 +19,9 @@ is_known [] text = false
 is_known (n ∷ ns) text = bytes_eq text n || is_known ns text
 
 -- the number of the first name that has the text, or the next number
-abbrev pub number_of : (names : List (List ℕ)) → (text : List ℕ) → ℕ
-number_of [] text = 0
-number_of (n ∷ ns) text = if bytes_eq text n then 0 else number_of ns text + 1
+abbrev pub number_of_name : (names : List (List ℕ)) → (text : List ℕ) → ℕ
+number_of_name [] text = 0
+number_of_name (n ∷ ns) text = if bytes_eq text n then 0 else number_of_name ns text + 1
 
 -- the names with one of the text, which goes behind the others where it is new
 abbrev pub added : (names : List (List ℕ)) → (text : List ℕ) → List (List ℕ)
@@ -37,8 +37,8 @@ abbrev pub word_of : Bor (List ℕ) → List ℕ
 word_of w = w.now
 
 -- the number of the name that has the text, where it has one below 2 ^ 32
-abbrev pub found : (names : List (List ℕ)) → (text : List ℕ) → Option Symbol
-found names text = if is_known names text && nat_lt (number_of names text) (2 ^ 32) then Some (record { 0 = number_of names text }) else None
+abbrev pub symbol_found : (names : List (List ℕ)) → (text : List ℕ) → Option Symbol
+symbol_found names text = if is_known names text && nat_lt (number_of_name names text) (2 ^ 32) then Some (record { 0 = number_of_name names text }) else None
 
 -- the names that each source may have
 unfoldable pub first_names : List (List ℕ)

@@ -137,6 +137,6 @@ unfoldable pub all_joined : Cursor → List ExprRead → List Waiting → Result
 all_joined c os ws = last_operand c (joined_tighter 0 os ws).0
 
 -- an operand with the operators before it, of which the last is the nearest
-abbrev pub signed : ExprRead → List (Unary × Place) → ExprRead
-signed e [] = e
-signed e (s ∷ ss) = unary s.0 (signed e ss) s.1
+abbrev pub with_operators : ExprRead → List (Unary × Place) → ExprRead
+with_operators e [] = e
+with_operators e (s ∷ ss) = unary s.0 (with_operators e ss) s.1

@@ -6,7 +6,7 @@ use Rattle.rust_source.specs.declared.tokens.keyword.Keyword.TheVariants as keyw
 use Rattle.rust_source.specs.declared.tokens.token.Bracket.TheVariants as bracket
 use Rattle.rust_source.specs.declared.tokens.token.TokenKind.{TokenKind}
 use Rattle.rust_source.specs.declared.tokens.token.TokenKind.TheVariants as kind
-use Rattle.rust_source.specs.Cursor.{is_next, is_pair, kind_of, next_kind, nth, passed, tree_passed}
+use Rattle.rust_source.specs.Cursor.{is_next, is_pair, kind_of_token, next_kind, nth, passed, tree_passed}
 use Rattle.rust_source.specs.Until.{until}
 
 -- a token of this kind ends bounds that stand in no angle brackets: `,`, `;`, `=`, `>`, `{` and `where`
@@ -102,7 +102,7 @@ ends_at_semicolon_by _ second = false
 
 -- the item that is next ends at a `;` even where it has braces: a constant, a static, another name of a type, a `use`
 abbrev pub ends_at_semicolon : Cursor → Bool
-ends_at_semicolon c = ends_at_semicolon_by (next_kind c) (kind_of (nth c 1))
+ends_at_semicolon c = ends_at_semicolon_by (next_kind c) (kind_of_token (nth c 1))
 
 -- what follows the item that is next
 unfoldable pub item_passed : Cursor → Cursor

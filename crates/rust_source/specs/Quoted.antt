@@ -50,17 +50,17 @@ abbrev pub Lexed : Type 0
 Lexed = Result (TokenKind × ℕ) SourceFaultKind
 
 -- the token of this kind whose end was found behind so many bytes
-abbrev pub closed : TokenKind → (before : ℕ) → Option ℕ → Lexed
-closed k before None = Err UnclosedText
-closed k before (Some n) = Ok (k, before + n)
+abbrev pub token_closed : TokenKind → (before : ℕ) → Option ℕ → Lexed
+token_closed k before None = Err UnclosedText
+token_closed k before (Some n) = Ok (k, before + n)
 
 -- the string whose quote stands behind so many bytes
 unfoldable pub string_token : List ℕ → (before : ℕ) → Lexed
-string_token bytes before = closed kind.Text before (escaped_length 34 (drop before bytes))
+string_token bytes before = token_closed kind.Text before (escaped_length 34 (drop before bytes))
 
 -- the byte literal that the bytes begin with by `b'`
 unfoldable pub byte_token : List ℕ → Lexed
-byte_token bytes = closed kind.Byte 1 (escaped_length 39 (drop 1 bytes))
+byte_token bytes = token_closed kind.Byte 1 (escaped_length 39 (drop 1 bytes))
 
 -- the lifetime of this name, behind its `'`
 abbrev pub lifetime : (name : ℕ) → Lexed
@@ -76,7 +76,7 @@ quote_by inside (Some c) =
 unfoldable pub quote_token : List ℕ → Lexed
 quote_token bytes =
     let inside = drop 1 bytes in
-    if byte_at inside 0 == 92 then closed kind.Char 0 (escaped_length 39 bytes) else quote_by inside (first_char inside)
+    if byte_at inside 0 == 92 then token_closed kind.Char 0 (escaped_length 39 bytes) else quote_by inside (first_char inside)
 
 -- the raw name that the bytes begin with by `r#`, where a name of this length follows
 abbrev pub raw_name : (name : ℕ) → Option Lexed
@@ -87,7 +87,7 @@ unfoldable pub raw_token : List ℕ → (letters : ℕ) → Option Lexed
 raw_token bytes letters =
     let hashes = run_length run.Hashes (drop letters bytes) in
     let before = letters + hashes in
-    if byte_at bytes before == 34 then Some (closed kind.Text (before + 1) (raw_end (drop (before + 1) bytes) hashes))
+    if byte_at bytes before == 34 then Some (token_closed kind.Text (before + 1) (raw_end (drop (before + 1) bytes) hashes))
     else (if (letters == 1) && (hashes == 1) && (byte_at bytes 0 == 114) then raw_name (name_length (drop 2 bytes)) else None)
 
 -- the literal or the raw name that the bytes begin with by a letter; none where they begin with neither

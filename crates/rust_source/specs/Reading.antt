@@ -13,7 +13,7 @@ use Rattle.rust_source.specs.declared.tokens.token.TokenKind.{TokenKind}
 use Rattle.rust_source.specs.declared.tokens.token.TokenKind.TheVariants as kind
 use Rattle.rust_source.specs.Cursor.{fault, is_cut, next_kind, nth, passed, place, token_text}
 use Rattle.rust_source.specs.Keywords.{keyword_of}
-use Rattle.rust_source.specs.Names.{added, number_of}
+use Rattle.rust_source.specs.Names.{added, number_of_name}
 
 -- what is read or the first fault, and the names behind it
 abbrev pub Reading : Type 0 → Type 0
@@ -25,13 +25,13 @@ after_by next (Ok a) known = next a known
 after_by next (Err e) known = (Err e, known)
 
 -- the same of what was read, with what is known behind it
-abbrev pub after : {S A B : Type 0} → (A → S → Result B SourceFault × S) → Result A SourceFault × S → Result B SourceFault × S
-after next r = after_by next r.0 r.1
+abbrev pub read_on : {S A B : Type 0} → (A → S → Result B SourceFault × S) → Result A SourceFault × S → Result B SourceFault × S
+read_on next r = after_by next r.0 r.1
 
 -- what was read, seen in another way
-abbrev pub seen : {A B : Type 0} → (A → B) → Result A SourceFault → Result B SourceFault
-seen view (Ok a) = Ok (view a)
-seen view (Err e) = Err e
+abbrev pub read_as : {A B : Type 0} → (A → B) → Result A SourceFault → Result B SourceFault
+read_as view (Ok a) = Ok (view a)
+read_as view (Err e) = Err e
 
 -- what follows where there is no fault, and what is known doesn't matter
 abbrev pub then_read : {A B : Type 0} → (A → Result B SourceFault) → Result A SourceFault → Result B SourceFault
@@ -90,7 +90,7 @@ abbrev pub name_by : Cursor → (names : List (List ℕ)) → Option Token → R
 name_by c names None = (Err (fault c ExpectedName), names)
 name_by c names (Some t) =
     let text = name_text (token_text c t) t.kind in
-    (Ok ((record { 0 = number_of names text }, place c), passed c 1), added names text)
+    (Ok ((record { 0 = number_of_name names text }, place c), passed c 1), added names text)
 
 -- the name that is next, which is no keyword
 unfoldable pub name : Cursor → (names : List (List ℕ)) → Reading Named
@@ -116,14 +116,14 @@ is_some_word None = false
 is_some_word (Some n) = true
 
 -- a token of this kind, whose text is given, is the name of this text, without `r#`
-abbrev pub has_name : (own text : List ℕ) → TokenKind → Bool
-has_name own text kind.Name = bytes_eq own text
-has_name own text _ = false
+abbrev pub token_has_name : (own text : List ℕ) → TokenKind → Bool
+token_has_name own text kind.Name = bytes_eq own text
+token_has_name own text _ = false
 
 -- there is a token, and it is the name of this text
 abbrev pub is_named_by : Cursor → (text : List ℕ) → Option Token → Bool
 is_named_by c text None = false
-is_named_by c text (Some t) = has_name (token_text c t) text t.kind
+is_named_by c text (Some t) = token_has_name (token_text c t) text t.kind
 
 -- the next token is the name of this text, without `r#`
 unfoldable pub is_named : Cursor → (text : List ℕ) → Bool

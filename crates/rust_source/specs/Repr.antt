@@ -17,17 +17,17 @@ use Rattle.rust_source.specs.declared.tokens.token.TokenKind.{TokenKind}
 use Rattle.rust_source.specs.declared.tokens.token.TokenKind.TheVariants as kind
 use Rattle.rust_source.specs.Cursor.{comma_passed, fault, group_passed, inside, is_done, is_none, nth, passed, place, token_text}
 use Rattle.rust_source.specs.Literals.{integer_kind, number_written}
-use Rattle.rust_source.specs.Reading.{seen, then_read, word_text}
+use Rattle.rust_source.specs.Reading.{read_as, then_read, word_text}
 
 -- the number that a token of this kind is, whose text is given
-abbrev pub number_of_kind : (text : List ℕ) → TokenKind → Number
-number_of_kind text kind.Number = number_written text
-number_of_kind text _ = number.Bad
+abbrev pub number_token : (text : List ℕ) → TokenKind → Number
+number_token text kind.Number = number_written text
+number_token text _ = number.Bad
 
 -- the number that a token is, a bad one where there is no token
 abbrev pub number_by : Cursor → Option Token → Number
 number_by c None = number.Bad
-number_by c (Some t) = number_of_kind (token_text c t) t.kind
+number_by c (Some t) = number_token (token_text c t) t.kind
 
 -- the number that is next; a bad one where none is
 unfoldable pub next_number : Cursor → Number
@@ -52,19 +52,19 @@ abbrev pub with_packed : Repr → (bytes : ℕ) → Repr
 with_packed r bytes = packed_by r bytes r.packed
 
 -- the greater of two numbers, of which one may be missing
-abbrev pub largest : Option ℕ → ℕ → Option ℕ
-largest None n = Some n
-largest (Some m) n = Some (max m n)
+abbrev pub greater_of : Option ℕ → ℕ → Option ℕ
+greater_of None n = Some n
+greater_of (Some m) n = Some (max m n)
 
 -- with an integer type more: two that differ are refused
-abbrev pub kind_by : Cursor → Repr → IntegerKind → (before : Option IntegerKind) → Result Repr SourceFault
-kind_by c r k None = Ok (record r { integer = Some k })
-kind_by c r k (Some before) = if sameb the_type before k then Ok (record r { integer = Some k }) else Err (fault c RepeatedInteger)
+abbrev pub with_kind : Cursor → Repr → IntegerKind → (before : Option IntegerKind) → Result Repr SourceFault
+with_kind c r k None = Ok (record r { integer = Some k })
+with_kind c r k (Some before) = if sameb the_type before k then Ok (record r { integer = Some k }) else Err (fault c RepeatedInteger)
 
 -- the `repr` with this integer type more; a fault where the word is none
 abbrev pub integer_by : Cursor → Repr → Option IntegerKind → Result Repr SourceFault
 integer_by c r None = Err (fault c BadRepr)
-integer_by c r (Some k) = kind_by c r k r.integer
+integer_by c r (Some k) = with_kind c r k r.integer
 
 -- with a word more, which has no number and stands at the cursor
 unfoldable pub with_word : Cursor → Repr → (word : List ℕ) → Result Repr SourceFault
@@ -80,7 +80,7 @@ with_word c r word =
 unfoldable pub with_bytes : Cursor → Repr → (word : List ℕ) → (bytes : ℕ) → Result Repr SourceFault
 with_bytes c r word bytes =
     if bytes_eq word (codes "packed") then Ok (with_packed r bytes)
-    else (if bytes_eq word (codes "align") then Ok (record r { align = largest r.align bytes }) else Err (fault c BadRepr))
+    else (if bytes_eq word (codes "align") then Ok (record r { align = greater_of r.align bytes }) else Err (fault c BadRepr))
 
 -- with the word more that is next, whose number stands in these parentheses, if it has one
 abbrev pub word_by : Repr → Cursor → (number : Option Cursor) → Result Repr SourceFault
@@ -91,7 +91,7 @@ word_by r c (Some i) = then_read (λ bytes. with_bytes c r (word_text c) bytes) 
 unfoldable pub word_more : Repr → Cursor → Result (Repr × Cursor) SourceFault
 word_more r c =
     let number = inside (passed c 1) bracket.Round in
-    then_read (λ s. seen (λ d. (s, d)) (comma_passed (group_passed (passed c 1) number))) (word_by r c number)
+    then_read (λ s. read_as (λ d. (s, d)) (comma_passed (group_passed (passed c 1) number))) (word_by r c number)
 
 -- with at most so many words more
 abbrev pub words_from : (limit : ℕ) → Repr → Cursor → Result Repr SourceFault

@@ -19,11 +19,11 @@ use Rattle.rust_source.specs.declared.tokens.token.Bracket.TheVariants as bracke
 use Rattle.rust_source.specs.declared.tokens.token.Token.{Token}
 use Rattle.rust_source.specs.declared.tokens.token.TokenKind.{TokenKind}
 use Rattle.rust_source.specs.declared.tokens.token.TokenKind.TheVariants as kind
-use Rattle.rust_source.specs.Cursor.{behind, fault, is_group, is_lifetime, is_next, is_pair, is_same_word, is_word, next_kind, nth, passed, place, token_text, tree_passed}
+use Rattle.rust_source.specs.Cursor.{behind_group, fault, is_group, is_lifetime, is_next, is_pair, is_same_word, is_keyword_next, next_kind, nth, passed, place, token_text, tree_passed}
 use Rattle.rust_source.specs.Literals.{char_code, number_written}
-use Rattle.rust_source.specs.Operators.{signed}
+use Rattle.rust_source.specs.Operators.{with_operators}
 use Rattle.rust_source.specs.Passing.{angles_passed, bounds}
-use Rattle.rust_source.specs.Reading.{is_path_name, seen}
+use Rattle.rust_source.specs.Reading.{is_path_name, read_as}
 use Rattle.rust_source.specs.Syntax.{ExprRead, PathRead, TypeRead, bool, char, dyn, function, integer, named, never, other_expr, other_type, pointer, reference}
 
 -- how many others a type or an expression may stand in, and how many operators may follow one another
@@ -32,7 +32,7 @@ most_nested = 200
 
 -- the keyword is passed over, where it is next
 abbrev pub word_passed : Keyword → Cursor → Cursor
-word_passed k c = if is_word c k then passed c 1 else c
+word_passed k c = if is_keyword_next c k then passed c 1 else c
 
 -- a lifetime is passed over, where one is next
 abbrev pub lifetime_passed : Cursor → Cursor
@@ -43,7 +43,7 @@ unfoldable pub pointing : Cursor → Result (Option Pointing × Cursor) SourceFa
 pointing c =
     let behind_one = passed c 1 in
     if is_next c 38 then Ok (Some before.Reference, word_passed keyword.Mut (lifetime_passed behind_one))
-    else (if is_next c 42 then (if is_word behind_one keyword.Mut || is_word behind_one keyword.Const
+    else (if is_next c 42 then (if is_keyword_next behind_one keyword.Mut || is_keyword_next behind_one keyword.Const
     then Ok (Some before.Pointer, passed behind_one 1) else Err (fault behind_one ExpectedType))
     else Ok (None, c))
 
@@ -99,21 +99,21 @@ text_passed c _ = c
 -- what follows all that may stand before the `fn` of a pointer: `for<'a>`, `unsafe`, `extern "C"`
 unfoldable pub before_function : Cursor → Cursor
 before_function c =
-    let bound = if is_word c keyword.For then angles_passed (passed c 1) else c in
+    let bound = if is_keyword_next c keyword.For then angles_passed (passed c 1) else c in
     let safe = word_passed keyword.Unsafe bound in
-    if is_word safe keyword.Extern then text_passed (passed safe 1) (next_kind (passed safe 1)) else safe
+    if is_keyword_next safe keyword.Extern then text_passed (passed safe 1) (next_kind (passed safe 1)) else safe
 
 -- the pointer to a function whose `fn` stands before, with what it gives
 unfoldable pub function_behind : Cursor → Result (TypeRead × Cursor) SourceFault
 function_behind c =
-    if is_group c bracket.Round then Ok (function, if is_pair (behind c) 45 62 then (bounds (passed (behind c) 2)).1 else behind c)
+    if is_group c bracket.Round then Ok (function, if is_pair (behind_group c) 45 62 then (bounds (passed (behind_group c) 2)).1 else behind_group c)
     else Err (fault c ExpectedType)
 
 -- a pointer to a function, or a trait behind `for<'a>`
 unfoldable pub function_read : Cursor → Result (TypeRead × Cursor) SourceFault
 function_read c =
     let d = before_function c in
-    if is_word d keyword.Fn then function_behind (passed d 1) else Ok (dyn, (bounds d).1)
+    if is_keyword_next d keyword.Fn then function_behind (passed d 1) else Ok (dyn, (bounds d).1)
 
 -- the type that begins with this keyword, and is no path
 abbrev pub worded : Cursor → Keyword → Result (TypeRead × Cursor) SourceFault
@@ -185,13 +185,13 @@ literal_of c t (kind.Keyword k) = Ok (bool (is_same_word k keyword.True) (place 
 literal_of c t _ = Ok (other_expr other.Expression (place c))
 
 -- the expression that a token is, and what follows it
-abbrev pub literal_by : Cursor → Option Token → Result (ExprRead × Cursor) SourceFault
-literal_by c None = Err (fault c ExpectedExpression)
-literal_by c (Some t) = seen (λ e. (e, passed c 1)) (literal_of c t t.kind)
+abbrev pub literal_token : Cursor → Option Token → Result (ExprRead × Cursor) SourceFault
+literal_token c None = Err (fault c ExpectedExpression)
+literal_token c (Some t) = read_as (λ e. (e, passed c 1)) (literal_of c t t.kind)
 
 -- the literal that is next
-unfoldable pub literal : Cursor → Result (ExprRead × Cursor) SourceFault
-literal c = literal_by c (nth c 0)
+unfoldable pub literal_read : Cursor → Result (ExprRead × Cursor) SourceFault
+literal_read c = literal_token c (nth c 0)
 
 -- the operator before an operand that is next
 abbrev pub sign_of : Option TokenKind → Option Unary
@@ -220,7 +220,7 @@ signs c = signs_from most_nested [] c
 abbrev pub literal_behind : Result (Signs × Cursor) SourceFault → Result (ExprRead × Cursor) SourceFault
 literal_behind (Err e) = Err e
 literal_behind (Ok s) =
-    if is_literal s.1 then seen (λ (e : ExprRead × Cursor). (signed e.0 s.0, e.1)) (literal s.1) else Err (fault s.1 ExpectedExpression)
+    if is_literal s.1 then read_as (λ (e : ExprRead × Cursor). (with_operators e.0 s.0, e.1)) (literal_read s.1) else Err (fault s.1 ExpectedExpression)
 
 -- the literal that is next, with the operators before it
 unfoldable pub signed_literal : Cursor → Result (ExprRead × Cursor) SourceFault

@@ -11,10 +11,10 @@ use Rattle.rust_source.specs.declared.tokens.token.Token.{Token}
 use Rattle.rust_source.specs.Cursor.{is_done}
 use Rattle.rust_source.specs.Having.{Having}
 use Rattle.rust_source.specs.Modules.{root_read}
-use Rattle.rust_source.specs.Reading.{Reading, Reads, after}
+use Rattle.rust_source.specs.Reading.{Reading, Reads, read_on}
 use Rattle.rust_source.specs.Simple.{most_nested}
 use Rattle.rust_source.specs.Syntax.{TypeRead, type_of}
-use Rattle.rust_source.specs.Terms.{Known, done, refused, type_read}
+use Rattle.rust_source.specs.Terms.{Known, done, fault_next, type_read}
 use Rattle.rust_source.specs.Tokens.{tokens}
 
 -- the tokens, or the fault, whose place is counted from where the text begins
@@ -36,7 +36,7 @@ pub record StandsBefore (c : Cursor) (text : List ℕ) (start : ℕ) (ts : List 
 
 -- the type that is all that is there
 abbrev pub alone : Reading (TypeRead × Cursor) → Reading TypeRead
-alone read = after (λ (t : TypeRead × Cursor) ns. if is_done t.1 then done t.0 ns else refused ExpectedType t.1 ns) read
+alone read = read_on (λ (t : TypeRead × Cursor) ns. if is_done t.1 then done t.0 ns else fault_next ExpectedType t.1 ns) read
 
 -- memory was wanting
 abbrev pub WantsMemory : {A : Type 0} → Result A SourceFault → Type 0

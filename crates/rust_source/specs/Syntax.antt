@@ -78,9 +78,9 @@ mutual
     more_exprs : ExprRead → ExprsRead → ExprsRead
 
 -- the types of a list
-abbrev pub types : List TypeRead → TypesRead
-types [] = no_types
-types (t ∷ ts) = more_types t (types ts)
+abbrev pub type_list : List TypeRead → TypesRead
+type_list [] = no_types
+type_list (t ∷ ts) = more_types t (type_list ts)
 
 -- the segments of a list
 abbrev pub segments : List SegmentRead → SegmentsRead
@@ -119,7 +119,7 @@ layer_expr (layer.Expr::Unevaluated u at) = other_expr u at
 -- of a type
 abbrev pub layer_type : Type-F ArgumentRead ExprRead TypeRead PathRead SegmentRead → TypeRead
 layer_type layer.Never = never
-layer_type (layer.Tuple all) = tuple (types all.items)
+layer_type (layer.Tuple all) = tuple (type_list all.items)
 layer_type (layer.Array t e) = array t.value e.value
 layer_type (layer.Slice t) = slice t.value
 layer_type (layer.Reference t) = reference t.value
@@ -146,8 +146,8 @@ abbrev pub expr_of : Expr → ExprRead
 expr_of = fold-Expr ArgumentRead ExprRead TypeRead PathRead SegmentRead layer_argument layer_expr layer_type layer_path layer_segment
 
 -- the program's path
-abbrev pub path_of : Path → PathRead
-path_of = fold-Path ArgumentRead ExprRead TypeRead PathRead SegmentRead layer_argument layer_expr layer_type layer_path layer_segment
+abbrev pub path_as_read : Path → PathRead
+path_as_read = fold-Path ArgumentRead ExprRead TypeRead PathRead SegmentRead layer_argument layer_expr layer_type layer_path layer_segment
 
 -- the program's segment of a path
 abbrev pub segment_of : Segment → SegmentRead

@@ -14,12 +14,12 @@ use Rattle.rust_source.specs.declared.tokens.token.Bracket.{Bracket}
 use Rattle.rust_source.specs.declared.tokens.token.Bracket.TheVariants as bracket
 use Rattle.rust_source.specs.declared.tokens.token.TokenKind.{TokenKind}
 use Rattle.rust_source.specs.declared.tokens.token.TokenKind.TheVariants as kind
-use Rattle.rust_source.specs.Cursor.{behind, comma_passed, expected, fault, inside, is_done, is_lifetime, is_next, is_nth, is_nth_pair, is_pair, is_word, next_kind, passed, place}
-use Rattle.rust_source.specs.Operators.{all_joined, next_operator, operator_put, signed}
+use Rattle.rust_source.specs.Cursor.{behind_group, comma_passed, expected, fault, inside, is_done, is_lifetime, is_next, is_nth, is_nth_pair, is_pair, is_keyword_next, next_kind, passed, place}
+use Rattle.rust_source.specs.Operators.{all_joined, next_operator, operator_put, with_operators}
 use Rattle.rust_source.specs.Passing.{bounds}
-use Rattle.rust_source.specs.Reading.{Reading, after, path_name, seen}
-use Rattle.rust_source.specs.Simple.{after_path, begins_path, is_literal, literal, most_nested, pointed, pointings, signed_literal, signs, simple}
-use Rattle.rust_source.specs.Syntax.{ArgumentRead, ExprRead, PathRead, SegmentRead, TypeRead, arguments, array, binding, call, cast, choice, constant, exprs, of_const, of_type, other_expr, path, segment, segments, slice, tuple, types}
+use Rattle.rust_source.specs.Reading.{Reading, read_on, path_name, read_as}
+use Rattle.rust_source.specs.Simple.{after_path, begins_path, is_literal, literal_read, most_nested, pointed, pointings, signed_literal, signs, simple}
+use Rattle.rust_source.specs.Syntax.{ArgumentRead, ExprRead, PathRead, SegmentRead, TypeRead, arguments, array, binding, call, cast, choice, constant, exprs, of_const, of_type, other_expr, path, segment, segments, slice, tuple, type_list}
 
 -- names that have numbers
 abbrev pub Known : Type 0
@@ -30,7 +30,7 @@ abbrev pub Reader : Type 0 → Type 0
 Reader A = Cursor → Known → Reading (A × Cursor)
 
 -- how the types, the expressions and the choices are read that stand within others
-pub record Inner : Type 0 where
+pub record Readers : Type 0 where
   pub type_in : Reader TypeRead
   pub expr_in : Reader ExprRead
   -- the choice behind its `if`, which stands at the place
@@ -41,29 +41,29 @@ abbrev pub done : {S A : Type 0} → A → (known : S) → Result A SourceFault 
 done a known = (Ok a, known)
 
 -- the fault of this kind at the next token
-abbrev pub refused : {S A : Type 0} → SourceFaultKind → Cursor → (known : S) → Result A SourceFault × S
-refused k c known = (Err (fault c k), known)
+abbrev pub fault_next : {S A : Type 0} → SourceFaultKind → Cursor → (known : S) → Result A SourceFault × S
+fault_next k c known = (Err (fault c k), known)
 
 -- what is told even where an expression needn't be read
-abbrev pub is_told : SourceFaultKind → Bool
-is_told OutOfMemory = true
-is_told TooDeep = true
-is_told BadNumber = true
-is_told _ = false
+abbrev pub is_told_anyway : SourceFaultKind → Bool
+is_told_anyway OutOfMemory = true
+is_told_anyway TooDeep = true
+is_told_anyway BadNumber = true
+is_told_anyway _ = false
 
 -- all is passed over
 abbrev pub ended : Cursor → Cursor
 ended c = record c { at = c.end }
 
 -- what all tokens that are left mean, of which this was read
-abbrev pub whole_by : Cursor → Result (ExprRead × Cursor) SourceFault → Known → Reading (ExprRead × Cursor)
-whole_by c (Ok e) names = done ((if is_done e.1 then e.0 else other_expr Expression (place c)), ended c) names
-whole_by c (Err e) names = if is_told e.kind then (Err e, names) else done (other_expr Expression (place c), ended c) names
+abbrev pub all_read_by : Cursor → Result (ExprRead × Cursor) SourceFault → Known → Reading (ExprRead × Cursor)
+all_read_by c (Ok e) names = done ((if is_done e.1 then e.0 else other_expr Expression (place c)), ended c) names
+all_read_by c (Err e) names = if is_told_anyway e.kind then (Err e, names) else done (other_expr Expression (place c), ended c) names
 
 -- nothing is in the list
-abbrev pub is_empty : {A : Type 0} → List A → Bool
-is_empty [] = true
-is_empty (a ∷ more) = false
+abbrev pub has_none : {A : Type 0} → List A → Bool
+has_none [] = true
+has_none (a ∷ more) = false
 
 -- what stands behind a type makes it the name of a binding: `=`, or a `:` that is no `::`
 abbrev pub is_binding : Cursor → Bool
@@ -83,7 +83,7 @@ argument_behind at t c = if is_binding c then (binding at, (bounds (passed c 1))
 abbrev pub arguments_on : {A : Type 0} → (go_on : List A → Reader (List A)) → List A → Reader (List A)
 arguments_on go_on all c names =
     if is_next c 62 then go_on all c names
-    else (if is_next c 44 then go_on all (passed c 1) names else refused ExpectedAngle c names)
+    else (if is_next c 44 then go_on all (passed c 1) names else fault_next ExpectedAngle c names)
 
 -- what comes behind a name of a path: `::` and another one, or the end
 abbrev pub path_on : (go_on : List SegmentRead → Reader PathRead) → (is_global : Bool) → List SegmentRead → Reader PathRead
@@ -93,33 +93,33 @@ path_on go_on is_global all c names =
 -- what comes behind a type in parentheses: nothing behind the first one, which is the type itself, or a `,`
 abbrev pub tuple_on : (go_on : List TypeRead → Cursor → Known → Reading TypeRead) → List TypeRead → TypeRead → Cursor → Known → Reading TypeRead
 tuple_on go_on all t c names =
-    if (if is_empty all then is_done c else false) then done t names
-    else after (λ d ns. go_on (all ++ t ∷ []) d ns) (comma_passed c, names)
+    if (if has_none all then is_done c else false) then done t names
+    else read_on (λ d ns. go_on (all ++ t ∷ []) d ns) (comma_passed c, names)
 
 -- what comes behind an operand: an operator, or the end
 abbrev pub expr_on : (go_on : List ExprRead → List Waiting → Reader ExprRead) → List ExprRead → List Waiting → Cursor → Option (Binary × ℕ) → Known
     → Reading (ExprRead × Cursor)
-expr_on go_on os ws c None names = (seen (λ e. (e, c)) (all_joined c os ws), names)
+expr_on go_on os ws c None names = (read_as (λ e. (e, c)) (all_joined c os ws), names)
 expr_on go_on os ws c (Some o) names =
-    after (λ s ns. go_on s.0 s.1 (passed c o.1) ns) (operator_put c os ws (record { operator = o.0; at = place c }), names)
+    read_on (λ s ns. go_on s.0 s.1 (passed c o.1) ns) (operator_put c os ws (record { operator = o.0; at = place c }), names)
 
 -- the argument that a literal is, with the operators before it
 abbrev pub constant_read : Cursor → Result (ArgumentRead × Cursor) SourceFault
-constant_read c = seen (λ (e : ExprRead × Cursor). (of_const e.0, e.1)) (signed_literal c)
+constant_read c = read_as (λ (e : ExprRead × Cursor). (of_const e.0, e.1)) (signed_literal c)
 
-module _ (R : Inner) where
+module _ (R : Readers) where
   -- the expression that all tokens make that are left, `Unevaluated` where they make none that is read
   unfoldable pub whole : Reader ExprRead
   whole c names =
-      if is_done c then refused ExpectedExpression c names
-      else (let read = R.expr_in c names in whole_by c read.0 read.1)
+      if is_done c then fault_next ExpectedExpression c names
+      else (let read = R.expr_in c names in all_read_by c read.0 read.1)
 
   -- an argument, which stands in these braces, or in none
   abbrev pub argument_by : Cursor → Option Cursor → Known → Reading (ArgumentRead × Cursor)
-  argument_by c (Some i) names = after (λ (e : ExprRead × Cursor) ns. done (of_const e.0, behind c) ns) (whole i names)
+  argument_by c (Some i) names = read_on (λ (e : ExprRead × Cursor) ns. done (of_const e.0, behind_group c) ns) (whole i names)
   argument_by c None names =
       if is_literal c || is_next c 45 then (constant_read c, names)
-      else after (λ (t : TypeRead × Cursor) ns. done (argument_behind (place c) t.0 t.1) ns) (R.type_in c names)
+      else read_on (λ (t : TypeRead × Cursor) ns. done (argument_behind (place c) t.0 t.1) ns) (R.type_in c names)
 
   -- the argument that is next, which is no lifetime
   unfoldable pub argument : Reader ArgumentRead
@@ -129,14 +129,14 @@ module _ (R : Inner) where
   unfoldable pub argument_more : List ArgumentRead → Reader (List ArgumentRead)
   argument_more all c names =
       if is_lifetime (next_kind c) then done (all, passed c 1) names
-      else after (λ (a : ArgumentRead × Cursor) ns. done (all ++ a.0 ∷ [], a.1) ns) (argument c names)
+      else read_on (λ (a : ArgumentRead × Cursor) ns. done (all ++ a.0 ∷ [], a.1) ns) (argument c names)
 
   -- arguments up to their `>`, behind these
   abbrev pub arguments_from : (limit : ℕ) → List ArgumentRead → Reader (List ArgumentRead)
-  arguments_from zero all c names = refused ExpectedAngle c names
+  arguments_from zero all c names = fault_next ExpectedAngle c names
   arguments_from (suc limit) all c names =
       if is_next c 62 then done (all, passed c 1) names
-      else after (λ (a : List ArgumentRead × Cursor) ns. arguments_on (arguments_from limit) a.0 a.1 ns) (argument_more all c names)
+      else read_on (λ (a : List ArgumentRead × Cursor) ns. arguments_on (arguments_from limit) a.0 a.1 ns) (argument_more all c names)
 
   -- the arguments whose `<` stands before
   unfoldable pub arguments_read : Reader (List ArgumentRead)
@@ -150,16 +150,16 @@ module _ (R : Inner) where
   -- the name of a path that is next, with its arguments; in a type they need no `::` before them
   unfoldable pub segment_read : (in_type : Bool) → Reader SegmentRead
   segment_read in_type c names =
-      after (λ (n : (Symbol × Place) × Cursor) ns.
-      after (λ (a : List ArgumentRead × Cursor) ms. done (segment n.0.0.0 n.0.1 (arguments a.0), a.1) ms)
+      read_on (λ (n : (Symbol × Place) × Cursor) ns.
+      read_on (λ (a : List ArgumentRead × Cursor) ms. done (segment n.0.0.0 n.0.1 (arguments a.0), a.1) ms)
       (arguments_by n.1 (arguments_begin in_type n.1) ns))
       (path_name c names)
 
   -- a path, behind these names
   abbrev pub path_from : (in_type is_global : Bool) → (limit : ℕ) → List SegmentRead → Reader PathRead
-  path_from in_type is_global zero all c names = refused ExpectedName c names
+  path_from in_type is_global zero all c names = fault_next ExpectedName c names
   path_from in_type is_global (suc limit) all c names =
-      after (λ (s : SegmentRead × Cursor) ns. path_on (path_from in_type is_global limit) is_global (all ++ s.0 ∷ []) s.1 ns) (segment_read in_type c names)
+      read_on (λ (s : SegmentRead × Cursor) ns. path_on (path_from in_type is_global limit) is_global (all ++ s.0 ∷ []) s.1 ns) (segment_read in_type c names)
 
   -- the path that is next
   unfoldable pub path_read : (in_type : Bool) → Reader PathRead
@@ -168,70 +168,70 @@ module _ (R : Inner) where
       path_from in_type (is_pair c 58 58) (d.end - d.at) [] d names
 
   -- the type that stands in parentheses, behind these
-  abbrev pub tuple_from : (limit : ℕ) → List TypeRead → Cursor → Known → Reading TypeRead
-  tuple_from zero all c names = done (tuple (types all)) names
-  tuple_from (suc limit) all c names =
-      if is_done c then done (tuple (types all)) names
-      else after (λ (t : TypeRead × Cursor) ns. tuple_on (tuple_from limit) all t.0 t.1 ns) (R.type_in c names)
+  abbrev pub tuple_behind : (limit : ℕ) → List TypeRead → Cursor → Known → Reading TypeRead
+  tuple_behind zero all c names = done (tuple (type_list all)) names
+  tuple_behind (suc limit) all c names =
+      if is_done c then done (tuple (type_list all)) names
+      else read_on (λ (t : TypeRead × Cursor) ns. tuple_on (tuple_behind limit) all t.0 t.1 ns) (R.type_in c names)
 
   -- the type that stands in these parentheses
   unfoldable pub tuple_read : Cursor → Known → Reading TypeRead
-  tuple_read c names = tuple_from (c.end - c.at) [] c names
+  tuple_read c names = tuple_behind (c.end - c.at) [] c names
 
   -- the slice or the array whose element is this
   abbrev pub list_on : TypeRead → Cursor → Known → Reading TypeRead
   list_on t c names =
       if is_done c then done (slice t) names
-      else after (λ d ns. after (λ (e : ExprRead × Cursor) ms. done (array t e.0) ms) (whole d ns)) (expected c 59 ExpectedSemicolon, names)
+      else read_on (λ d ns. read_on (λ (e : ExprRead × Cursor) ms. done (array t e.0) ms) (whole d ns)) (expected c 59 ExpectedSemicolon, names)
 
   -- the type that stands in these square brackets
   unfoldable pub list_read : Cursor → Known → Reading TypeRead
-  list_read c names = after (λ (t : TypeRead × Cursor) ns. list_on t.0 t.1 ns) (R.type_in c names)
+  list_read c names = read_on (λ (t : TypeRead × Cursor) ns. list_on t.0 t.1 ns) (R.type_in c names)
 
   -- a type that no `&` or `*` stands before, which stands in these brackets, or in none
-  abbrev pub target_by : Cursor → (round square : Option Cursor) → Known → Reading (TypeRead × Cursor)
-  target_by c (Some i) square names = after (λ t ns. done (t, behind c) ns) (tuple_read i names)
-  target_by c None (Some i) names = after (λ t ns. done (t, behind c) ns) (list_read i names)
-  target_by c None None names =
-      if begins_path c then after (λ (p : PathRead × Cursor) ns. done (after_path p.1 p.0 (place c)) ns) (path_read true c names)
+  abbrev pub pointee_in : Cursor → (round square : Option Cursor) → Known → Reading (TypeRead × Cursor)
+  pointee_in c (Some i) square names = read_on (λ t ns. done (t, behind_group c) ns) (tuple_read i names)
+  pointee_in c None (Some i) names = read_on (λ t ns. done (t, behind_group c) ns) (list_read i names)
+  pointee_in c None None names =
+      if begins_path c then read_on (λ (p : PathRead × Cursor) ns. done (after_path p.1 p.0 (place c)) ns) (path_read true c names)
       else (simple c, names)
 
-  unfoldable pub target : Reader TypeRead
-  target c names = target_by c (inside c bracket.Round) (inside c bracket.Square) names
+  unfoldable pub pointee_read : Reader TypeRead
+  pointee_read c names = pointee_in c (inside c bracket.Round) (inside c bracket.Square) names
 
   -- the type that is next
-  unfoldable pub type_with : Reader TypeRead
-  type_with c names =
-      after (λ p ns. after (λ (t : TypeRead × Cursor) ms. done (pointed t.0 p.0, t.1) ms) (target p.1 ns)) (pointings c, names)
+  unfoldable pub type_next : Reader TypeRead
+  type_next c names =
+      read_on (λ p ns. read_on (λ (t : TypeRead × Cursor) ms. done (pointed t.0 p.0, t.1) ms) (pointee_read p.1 ns)) (pointings c, names)
 
   -- the expression that stands in these brackets, alone
-  abbrev pub bracketed_by : Cursor → Option Cursor → Known → Reading (ExprRead × Cursor)
-  bracketed_by c None names = refused ExpectedExpression c names
-  bracketed_by c (Some i) names =
-      after (λ (e : ExprRead × Cursor) ns. if is_done e.1 then done (e.0, behind c) ns else refused ExpectedExpression e.1 ns) (R.expr_in i names)
+  abbrev pub expression_in : Cursor → Option Cursor → Known → Reading (ExprRead × Cursor)
+  expression_in c None names = fault_next ExpectedExpression c names
+  expression_in c (Some i) names =
+      read_on (λ (e : ExprRead × Cursor) ns. if is_done e.1 then done (e.0, behind_group c) ns else fault_next ExpectedExpression e.1 ns) (R.expr_in i names)
 
   unfoldable pub bracketed : Bracket → Reader ExprRead
-  bracketed b c names = bracketed_by c (inside c b) names
+  bracketed b c names = expression_in c (inside c b) names
 
   -- expressions with a `,` between them, behind these
   abbrev pub values_from : (limit : ℕ) → List ExprRead → Cursor → Known → Reading (List ExprRead)
   values_from zero all c names = done all names
   values_from (suc limit) all c names =
       if is_done c then done all names
-      else after (λ (e : ExprRead × Cursor) ns. after (λ d ms. values_from limit (all ++ e.0 ∷ []) d ms) (comma_passed e.1, ns)) (R.expr_in c names)
+      else read_on (λ (e : ExprRead × Cursor) ns. read_on (λ d ms. values_from limit (all ++ e.0 ∷ []) d ms) (comma_passed e.1, ns)) (R.expr_in c names)
 
   -- the expressions that stand in these parentheses
-  unfoldable pub values : Cursor → Known → Reading (List ExprRead)
-  values c names = values_from (c.end - c.at) [] c names
+  unfoldable pub expressions_in : Cursor → Known → Reading (List ExprRead)
+  expressions_in c names = values_from (c.end - c.at) [] c names
 
   -- the constant that a path names, or the call of what it names, with what stands in these parentheses
-  abbrev pub value_by : Place → PathRead → Cursor → Option Cursor → Known → Reading (ExprRead × Cursor)
-  value_by at p c None names = done (constant p, c) names
-  value_by at p c (Some i) names = after (λ es ns. done (call p (exprs es) at, behind c) ns) (values i names)
+  abbrev pub constant_or_call : Place → PathRead → Cursor → Option Cursor → Known → Reading (ExprRead × Cursor)
+  constant_or_call at p c None names = done (constant p, c) names
+  constant_or_call at p c (Some i) names = read_on (λ es ns. done (call p (exprs es) at, behind_group c) ns) (expressions_in i names)
 
   unfoldable pub value : Reader ExprRead
   value c names =
-      after (λ (p : PathRead × Cursor) ns. value_by (place c) p.0 p.1 (inside p.1 bracket.Round) ns) (path_read false c names)
+      read_on (λ (p : PathRead × Cursor) ns. constant_or_call (place c) p.0 p.1 (inside p.1 bracket.Round) ns) (path_read false c names)
 
   -- the operand without operators that begins with a token of this kind, which is no literal
   abbrev pub primary_by : Cursor → Option TokenKind → Known → Reading (ExprRead × Cursor)
@@ -242,26 +242,26 @@ module _ (R : Inner) where
 
   -- the operand without operators that is next
   unfoldable pub primary : Reader ExprRead
-  primary c names = if is_literal c then (literal c, names) else primary_by c (next_kind c) names
+  primary c names = if is_literal c then (literal_read c, names) else primary_by c (next_kind c) names
 
   -- an operand with the casts behind it; there are less than `limit`
   abbrev pub cast_from : (limit : ℕ) → ExprRead → Reader ExprRead
-  cast_from zero e c names = refused TooDeep c names
+  cast_from zero e c names = fault_next TooDeep c names
   cast_from (suc limit) e c names =
-      if is_word c keyword.As
-      then after (λ (t : TypeRead × Cursor) ns. cast_from limit (cast e t.0 (place c)) t.1 ns) (R.type_in (passed c 1) names)
+      if is_keyword_next c keyword.As
+      then read_on (λ (t : TypeRead × Cursor) ns. cast_from limit (cast e t.0 (place c)) t.1 ns) (R.type_in (passed c 1) names)
       else done (e, c) names
 
   -- the operand that is next, with the operators before it and the casts behind
   unfoldable pub operand : Reader ExprRead
   operand c names =
-      after (λ s ns. after (λ (e : ExprRead × Cursor) ms. cast_from most_nested (signed e.0 s.0) e.1 ms) (primary s.1 ns)) (signs c, names)
+      read_on (λ s ns. read_on (λ (e : ExprRead × Cursor) ms. cast_from most_nested (with_operators e.0 s.0) e.1 ms) (primary s.1 ns)) (signs c, names)
 
   -- an expression, behind these operands and operators, both the last first
   abbrev pub expr_from : (limit : ℕ) → List ExprRead → List Waiting → Reader ExprRead
-  expr_from zero os ws c names = refused TooDeep c names
+  expr_from zero os ws c names = fault_next TooDeep c names
   expr_from (suc limit) os ws c names =
-      after (λ (e : ExprRead × Cursor) ns. expr_on (expr_from limit) (e.0 ∷ os) ws e.1 (next_operator e.1) ns) (operand c names)
+      read_on (λ (e : ExprRead × Cursor) ns. expr_on (expr_from limit) (e.0 ∷ os) ws e.1 (next_operator e.1) ns) (operand c names)
 
   -- the expression that is next
   unfoldable pub expr_with : Reader ExprRead
@@ -269,34 +269,34 @@ module _ (R : Inner) where
 
   -- what stands behind `else`: a choice, or an expression in braces
   abbrev pub else_read : Reader ExprRead
-  else_read c names = if is_word c keyword.If then R.choice_in (place c) (passed c 1) names else bracketed bracket.Curly c names
+  else_read c names = if is_keyword_next c keyword.If then R.choice_in (place c) (passed c 1) names else bracketed bracket.Curly c names
 
   -- the choice behind its test
   abbrev pub choice_behind : Place → ExprRead → Reader ExprRead
   choice_behind at test c names =
-      after (λ (yes : ExprRead × Cursor) ns.
-      if is_word yes.1 keyword.Else
-      then after (λ (no : ExprRead × Cursor) ms. done (choice test yes.0 no.0 at, no.1) ms) (else_read (passed yes.1 1) ns)
-      else refused ExpectedExpression yes.1 ns)
+      read_on (λ (yes : ExprRead × Cursor) ns.
+      if is_keyword_next yes.1 keyword.Else
+      then read_on (λ (no : ExprRead × Cursor) ms. done (choice test yes.0 no.0 at, no.1) ms) (else_read (passed yes.1 1) ns)
+      else fault_next ExpectedExpression yes.1 ns)
       (bracketed bracket.Curly c names)
 
   -- the choice behind its `if`, which stands at the place
   unfoldable pub choice_with : Place → Reader ExprRead
-  choice_with at c names = after (λ (test : ExprRead × Cursor) ns. choice_behind at test.0 test.1 ns) (R.expr_in c names)
+  choice_with at c names = read_on (λ (test : ExprRead × Cursor) ns. choice_behind at test.0 test.1 ns) (R.expr_in c names)
 
 -- how types, expressions and choices are read that may stand in so many others
-unfoldable pub inner : (room : ℕ) → Inner
-inner zero = record { type_in = refused TooDeep; expr_in = refused TooDeep; choice_in = λ at. refused TooDeep }
-inner (suc room) = record { type_in = type_with (inner room); expr_in = expr_with (inner room); choice_in = choice_with (inner room) }
+unfoldable pub readers : (room : ℕ) → Readers
+readers zero = record { type_in = fault_next TooDeep; expr_in = fault_next TooDeep; choice_in = λ at. fault_next TooDeep }
+readers (suc room) = record { type_in = type_next (readers room); expr_in = expr_with (readers room); choice_in = choice_with (readers room) }
 
 -- the type, the expression and the choice that is next, which may stand in so many others
 abbrev pub type_read : (room : ℕ) → Reader TypeRead
-type_read room = (inner room).type_in
+type_read room = (readers room).type_in
 
 -- the expression
 abbrev pub expr_read : (room : ℕ) → Reader ExprRead
-expr_read room = (inner room).expr_in
+expr_read room = (readers room).expr_in
 
 -- the choice between two expressions, behind its `if` at this place
 abbrev pub choice_read : (room : ℕ) → Place → Reader ExprRead
-choice_read room = (inner room).choice_in
+choice_read room = (readers room).choice_in

@@ -22,8 +22,8 @@ abbrev pub is_punctuation : ℕ → Bool
 is_punctuation b = is_ascii_punctuation b && not (b == 95) && not (b == 96)
 
 -- the token that a byte is by itself: a bracket or punctuation
-abbrev pub single_kind : ℕ → Option TokenKind
-single_kind b =
+abbrev pub kind_of_byte : ℕ → Option TokenKind
+kind_of_byte b =
     if b == 40 then Some (kind.Open bracket.Round)
     else (if b == 41 then Some (kind.Close bracket.Round)
     else (if b == 91 then Some (kind.Open bracket.Square)
@@ -60,20 +60,20 @@ first_token bytes =
     if is_ascii_digit b then Ok (kind.Number, number_length bytes)
     else (if b == 34 then string_token bytes 0
     else (if b == 39 then quote_token bytes
-    else single_or (single_kind b) (prefixed_or (prefixed_token bytes) (word_token bytes))))
+    else single_or (kind_of_byte b) (prefixed_or (prefixed_token bytes) (word_token bytes))))
 
 -- a fault behind so many bytes
-abbrev pub fault_at : (bytes : ℕ) → SourceFaultKind → SourceFault
-fault_at bytes k = record { at = record { 0 = bytes }; kind = k }
+abbrev pub fault_behind : (bytes : ℕ) → SourceFaultKind → SourceFault
+fault_behind bytes k = record { at = record { 0 = bytes }; kind = k }
 
 -- the token that stands behind so many bytes
 abbrev pub token_at : (start : ℕ) → Lexed → Result (Option Token) SourceFault
 token_at start (Ok t) = Ok (Some (record { kind = t.0; start = start; end = start + t.1; partner = 0 }))
-token_at start (Err k) = Err (fault_at start k)
+token_at start (Err k) = Err (fault_behind start k)
 
 -- the token behind so many bytes and then these spaces and comments; none where nothing follows
 abbrev pub token_behind : (text : List ℕ) → (before : ℕ) → (blank : Result ℕ ℕ) → Result (Option Token) SourceFault
-token_behind text before (Err more) = Err (fault_at (before + more) UnclosedComment)
+token_behind text before (Err more) = Err (fault_behind (before + more) UnclosedComment)
 token_behind text before (Ok blank) =
     if length (drop (before + blank) text) == 0 then Ok None
     else token_at (before + blank) (first_token (drop (before + blank) text))
@@ -102,15 +102,15 @@ with_partner (t ∷ ts) (suc index) partner = t ∷ with_partner ts index partne
 -- a bracket more that opens a group; at most 200 others may be open
 abbrev pub group_opened : Found → Token → Bracket → Result Found SourceFault
 group_opened found t b =
-    if nat_lt 200 (length found.1) then Err (fault_at t.start TooDeep)
+    if nat_lt 200 (length found.1) then Err (fault_behind t.start TooDeep)
     else Ok (found.0 ++ t ∷ [], found.1 ++ record { bracket = b; index = length found.0; start = t.start } ∷ [])
 
 -- a bracket more that closes the group that this one opened, which is the last that is open
 abbrev pub group_closed : Found → Token → Bracket → (last : Option Opened) → Result Found SourceFault
-group_closed found t b None = Err (fault_at t.start UnmatchedBracket)
+group_closed found t b None = Err (fault_behind t.start UnmatchedBracket)
 group_closed found t b (Some o) =
     if is_same o.bracket b then Ok (with_partner found.0 o.index (length found.0) ++ record t { partner = o.index } ∷ [], take (length found.1 - 1) found.1)
-    else Err (fault_at t.start UnmatchedBracket)
+    else Err (fault_behind t.start UnmatchedBracket)
 
 -- a token more of this kind
 abbrev pub put_by : Found → Token → TokenKind → Result Found SourceFault
@@ -119,13 +119,13 @@ put_by found t (kind.Close b) = group_closed found t b (slice_get found.1 (lengt
 put_by found t _ = Ok (found.0 ++ t ∷ [], found.1)
 
 -- a token more
-unfoldable pub put : Found → Token → Result Found SourceFault
-put found t = put_by found t t.kind
+unfoldable pub token_put : Found → Token → Result Found SourceFault
+token_put found t = put_by found t t.kind
 
 -- the tokens, where each bracket has its partner
 abbrev pub all_closed : List Token → (last : Option Opened) → Result (List Token) SourceFault
 all_closed ts None = Ok ts
-all_closed ts (Some o) = Err (fault_at o.start UnmatchedBracket)
+all_closed ts (Some o) = Err (fault_behind o.start UnmatchedBracket)
 
 -- what comes of a token, or of the end of the text
 abbrev pub tokens_by : Found → (next : Token → Result (List Token) SourceFault) → Result (Option Token) SourceFault → Result (List Token) SourceFault
@@ -142,15 +142,15 @@ where_ok (Err fault) next = Err fault
 abbrev pub tokens_from : (limit : List ℕ) → (text : List ℕ) → Found → (before : ℕ) → Result (List Token) SourceFault
 tokens_from [] text found before = all_closed found.0 (slice_get found.1 (length found.1 - 1))
 tokens_from (l ∷ ls) text found before =
-    tokens_by found (λ t. where_ok (put found t) (λ more. tokens_from ls text more t.end)) (next_token text before)
+    tokens_by found (λ t. where_ok (token_put found t) (λ more. tokens_from ls text more t.end)) (next_token text before)
 
 -- the tokens of a text, or its first fault; it has at most 2 ^ 30 bytes
 unfoldable pub tokens : (text : List ℕ) → Result (List Token) SourceFault
 tokens text =
-    if nat_lt (2 ^ 30) (length text) then Err (fault_at (2 ^ 30) TooLong)
+    if nat_lt (2 ^ 30) (length text) then Err (fault_behind (2 ^ 30) TooLong)
     else tokens_from text text ([], []) (head_length text)
 
 -- the answer, want of memory aside: the same value, or the same fault
-abbrev pub Agrees : {A B : Type 0} → (A → B) → (answer : Result B SourceFault) → Result A SourceFault → Type 0
-Agrees view answer (Ok a) = answer ≡ Ok (view a)
-Agrees view answer (Err fault) = (answer ≡ Err fault) ⊎ (fault.kind ≡ OutOfMemory)
+abbrev pub Yields : {A B : Type 0} → (A → B) → (answer : Result B SourceFault) → Result A SourceFault → Type 0
+Yields view answer (Ok a) = answer ≡ Ok (view a)
+Yields view answer (Err fault) = (answer ≡ Err fault) ⊎ (fault.kind ≡ OutOfMemory)

@@ -9,11 +9,11 @@ use Rattle.rust_source.specs.declared.reader.cursor.Cursor.{Cursor}
 use Rattle.rust_source.specs.declared.reader.uses.UsePlace.{UsePlace}
 use Rattle.rust_source.specs.declared.tokens.keyword.Keyword.TheVariants as keyword
 use Rattle.rust_source.specs.declared.tokens.token.Bracket.TheVariants as bracket
-use Rattle.rust_source.specs.Cursor.{behind, comma_passed, inside, is_done, is_next, is_pair, is_word, passed}
-use Rattle.rust_source.specs.Fields.{beside}
+use Rattle.rust_source.specs.Cursor.{behind_group, comma_passed, inside, is_done, is_next, is_pair, is_keyword_next, passed}
+use Rattle.rust_source.specs.Fields.{by_names}
 use Rattle.rust_source.specs.Items.{UseRead}
-use Rattle.rust_source.specs.Reading.{after, is_path_name, name, path_name}
-use Rattle.rust_source.specs.Terms.{Known, Reader, done, refused}
+use Rattle.rust_source.specs.Reading.{read_on, is_path_name, name, path_name}
+use Rattle.rust_source.specs.Terms.{Known, Reader, done, fault_next}
 
 -- names that have numbers, and what was brought in so far
 abbrev pub Using : Type 0
@@ -26,15 +26,15 @@ with_use u known = (known.0, known.1 ++ u ∷ [])
 -- the name that a path is brought in as: what `as` says, none for `_`, or its last name
 unfoldable pub rename_read : (last : Option Symbol) → Reader (Option Symbol)
 rename_read last c names =
-    if is_word c keyword.As
-    then (if is_word (passed c 1) keyword.Underscore then done (None, passed (passed c 1) 1) names
-    else after (λ (n : (Symbol × Place) × Cursor) ns. done (Some n.0.0, n.1) ns) (name (passed c 1) names))
+    if is_keyword_next c keyword.As
+    then (if is_keyword_next (passed c 1) keyword.Underscore then done (None, passed (passed c 1) 1) names
+    else read_on (λ (n : (Symbol × Place) × Cursor) ns. done (Some n.0.0, n.1) ns) (name (passed c 1) names))
     else done (last, c) names
 
 -- a name is `self`
-abbrev pub is_self : Option UsedName → Bool
-is_self None = false
-is_self (Some n) = n.name.0 == 1
+abbrev pub is_named_self : Option UsedName → Bool
+is_named_self None = false
+is_named_self (Some n) = n.name.0 == 1
 
 -- the last name
 abbrev pub last : List UsedName → Option UsedName
@@ -42,19 +42,19 @@ last path = slice_get path (length path - 1)
 
 -- the path without a `self` at its end, unless it is all of it
 abbrev pub without_self : List UsedName → List UsedName
-without_self path = if nat_lt 1 (length path) && is_self (last path) then take (length path - 1) path else path
+without_self path = if nat_lt 1 (length path) && is_named_self (last path) then take (length path - 1) path else path
 
 -- a path, brought in as its last name or another one
-abbrev pub path_by : UsePlace → (path : List UsedName) → Option UsedName → Cursor → Using → Result Cursor SourceFault × Using
-path_by place path None c known = refused ExpectedUse c known
-path_by place path (Some n) c known =
-    after (λ (r : Option Symbol × Cursor) ns.
+abbrev pub use_of_path : UsePlace → (path : List UsedName) → Option UsedName → Cursor → Using → Result Cursor SourceFault × Using
+use_of_path place path None c known = fault_next ExpectedUse c known
+use_of_path place path (Some n) c known =
+    read_on (λ (r : Option Symbol × Cursor) ns.
     done r.1 (with_use (record { inside = place.«module»; is_global = place.is_global; path = path; name = r.0; is_glob = false }) ns))
-    (beside known.1 (rename_read (Some n.name) c known.0))
+    (by_names known.1 (rename_read (Some n.name) c known.0))
 
 -- a path, whose last name stands before
 unfoldable pub path_used : UsePlace → (path : List UsedName) → Cursor → Using → Result Cursor SourceFault × Using
-path_used place path c known = path_by place (without_self path) (last (without_self path)) c known
+path_used place path c known = use_of_path place (without_self path) (last (without_self path)) c known
 
 -- all names of the module that a path names
 abbrev pub glob : UsePlace → (path : List UsedName) → UseRead
@@ -73,7 +73,7 @@ abbrev pub path_names_from : (limit : ℕ) → List UsedName → Reader UsedName
 path_names_from zero path c names = done ((path, false), c) names
 path_names_from (suc limit) path c names =
     if is_path_name c
-    then after (λ (n : (Symbol × Place) × Cursor) ns. names_on (path_names_from limit) (path ++ record { name = n.0.0; at = n.0.1 } ∷ []) n.1 ns) (path_name c names)
+    then read_on (λ (n : (Symbol × Place) × Cursor) ns. names_on (path_names_from limit) (path ++ record { name = n.0.0; at = n.0.1 } ∷ []) n.1 ns) (path_name c names)
     else done ((path, false), c) names
 
 unfoldable pub names_read : List UsedName → Reader UsedNames
@@ -93,7 +93,7 @@ module _ (T : UsePlace → List UsedName → Cursor → Using → Result Cursor 
   group_from zero place path c known = done tt known
   group_from (suc limit) place path c known =
       if is_done c then done tt known
-      else after (λ d ns. after (λ e ms. group_from limit place path e ms) (comma_passed d, ns)) (T place path c known)
+      else read_on (λ d ns. read_on (λ e ms. group_from limit place path e ms) (comma_passed d, ns)) (T place path c known)
 
   -- what a group brings in, behind the names before it
   unfoldable pub group_read : UsePlace → List UsedName → Cursor → Using → Result (Unit {0}) SourceFault × Using
@@ -101,8 +101,8 @@ module _ (T : UsePlace → List UsedName → Cursor → Using → Result Cursor 
 
   -- the group in these braces
   abbrev pub group_by : UsePlace → List UsedName → Cursor → Option Cursor → Using → Result Cursor SourceFault × Using
-  group_by place path c None known = refused ExpectedUse c known
-  group_by place path c (Some i) known = after (λ _ ns. done (behind c) ns) (group_read place path i known)
+  group_by place path c None known = fault_next ExpectedUse c known
+  group_by place path c (Some i) known = read_on (λ _ ns. done (behind_group c) ns) (group_read place path i known)
 
   -- what stands behind the names of a path: nothing, a `*` or a group
   abbrev pub tree_on : UsePlace → UsedNames → Cursor → Using → Result Cursor SourceFault × Using
@@ -114,10 +114,10 @@ module _ (T : UsePlace → List UsedName → Cursor → Using → Result Cursor 
   unfoldable pub tree_with : UsePlace → List UsedName → Cursor → Using → Result Cursor SourceFault × Using
   tree_with place before c known =
       let is_global = begins_globally before c in
-      after (λ (n : UsedNames × Cursor) ns. tree_on (used_place place is_global) n.0 n.1 ns)
-      (beside known.1 (names_read before (if is_global then passed c 2 else c) known.0))
+      read_on (λ (n : UsedNames × Cursor) ns. tree_on (used_place place is_global) n.0 n.1 ns)
+      (by_names known.1 (names_read before (if is_global then passed c 2 else c) known.0))
 
 -- what is brought in behind the names before a group, where groups may stand in so many others
 unfoldable pub tree_read : (room : ℕ) → UsePlace → List UsedName → Cursor → Using → Result Cursor SourceFault × Using
-tree_read zero place before c known = refused TooDeep c known
+tree_read zero place before c known = fault_next TooDeep c known
 tree_read (suc room) place before c known = tree_with (tree_read room) place before c known

@@ -2,7 +2,7 @@
 
 ghost use Rattle.std.specs.Prelude.{◌≡◌, [], IfOk, IfSome, map};
 ghost use Rattle.rust_source.specs.Growth.{BeginsWith};
-ghost use Rattle.rust_source.specs.Names.{added, all_added, first_names, found, number_of, text_of, texts, word_of};
+ghost use Rattle.rust_source.specs.Names.{added, all_added, first_names, symbol_found, number_of_name, text_of, texts, word_of};
 
 use crate::place::Symbol;
 use indexmap::IndexSet;
@@ -65,7 +65,7 @@ impl Names {
     pub fn add(&mut self, alloc: Global, text: &str) -> Result<Symbol, AllocError>
         ensures named { IfOk result (λ name. text_of self.new name.0 ≡ text.now) }
         ensures kept { BeginsWith self.new.known.keys self.old.known.keys }
-        ensures number { IfOk result (λ name. name.0 ≡ number_of (texts self.old) text.now) }
+        ensures number { IfOk result (λ name. name.0 ≡ number_of_name (texts self.old) text.now) }
         ensures names { IfOk result (λ _. texts self.new ≡ added (texts self.old) text.now) }
     {
         if let Some(found) = self.find(text) {
@@ -81,7 +81,7 @@ impl Names {
     /// The number of a name, where it has one.
     pub fn find(&self, text: &str) -> Option<Symbol>
         ensures named { IfSome result (λ name. text_of self.now name.0 ≡ text.now) }
-        ensures exact { result ≡ found (texts self.now) text.now }
+        ensures exact { result ≡ symbol_found (texts self.now) text.now }
     {
         let number = self.known.get_index_of(text)?;
         match u32::try_from(number) {

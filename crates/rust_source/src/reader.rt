@@ -21,15 +21,15 @@ mod uses;
 mod written;
 
 ghost use Rattle.std.specs.Prelude.{◌≡◌, [], IfOk, length};
-ghost use Rattle.rust_source.specs.Growth.{Keeps};
-ghost use Rattle.rust_source.specs.Items.{items_of, no_items};
+ghost use Rattle.rust_source.specs.Growth.{KeepsItems};
+ghost use Rattle.rust_source.specs.Items.{items_as_read, no_items};
 ghost use Rattle.rust_source.specs.Names.{texts};
 ghost use Rattle.rust_source.specs.Reading.{Reads};
 ghost use Rattle.rust_source.specs.Simple.{most_nested};
 ghost use Rattle.rust_source.specs.Sources.{MeansItems, MeansType, StandsBefore, alone, tokens_at};
 ghost use Rattle.rust_source.specs.Syntax.{type_of};
 ghost use Rattle.rust_source.specs.Terms.{type_read};
-ghost use Rattle.rust_source.specs.Tokens.{Agrees};
+ghost use Rattle.rust_source.specs.Tokens.{Yields};
 
 use crate::fault::{SourceFault, SourceFaultKind};
 use crate::item::Items;
@@ -64,7 +64,7 @@ impl Items {
         ensures modules { result.modules.items ≡ [] }
         ensures items { result.items.items ≡ [] }
         ensures uses { result.uses.items ≡ [] }
-        ensures nothing { items_of result ≡ no_items }
+        ensures nothing { items_as_read result ≡ no_items }
     {
         Items {
             modules: Vec::new(alloc),
@@ -79,7 +79,7 @@ impl Items {
 
 /// The tokens of a text whose first byte has this place.
 fn tokens_at(alloc: Global, text: &str, start: Place) -> Result<Vec<Token>, SourceFault>
-    ensures { Agrees (λ found. found.items) (tokens_at start.0 text.now) result }
+    ensures { Yields (λ found. found.items) (tokens_at start.0 text.now) result }
 {
     match tokens(alloc, text.as_bytes()) {
         Ok(found) => Ok(found),
@@ -116,8 +116,8 @@ pub fn read_items(
     items: &mut Items,
     source: Source<'_>,
 ) -> Result<u32, SourceFault>
-    ensures kept { Keeps items.old items.new }
-    ensures read { MeansItems target.now source.entry (texts names.old, items_of items.old) (texts names.new, items_of items.new) result }
+    ensures kept { KeepsItems items.old items.new }
+    ensures read { MeansItems target.now source.entry (texts names.old, items_as_read items.old) (texts names.new, items_as_read items.new) result }
 {
     let found = tokens_at(alloc, source.text, source.start)?;
     let mut cursor = beginning(source.text, source.start, &found);

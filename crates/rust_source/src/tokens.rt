@@ -12,7 +12,7 @@ pub(crate) mod token;
 ghost use Rattle.std.specs.Prelude.{◌≡◌, ◌+◌, ◌-◌, ◌<◌, ◌≤◌, ◌^◌, IfOk, IfSome, length, min};
 ghost use Rattle.rust_source.specs.Characters.{byte_at};
 ghost use Rattle.rust_source.specs.Quoted.{prefixed_token};
-ghost use Rattle.rust_source.specs.Tokens.{Agrees, fault_at, first_token, is_punctuation, next_token, prefixed_or, single_kind, single_or, token_at, tokens, word_kind, word_token};
+ghost use Rattle.rust_source.specs.Tokens.{Yields, fault_behind, first_token, is_punctuation, next_token, prefixed_or, kind_of_byte, single_or, token_at, tokens, word_kind, word_token};
 
 use crate::fault::{SourceFault, SourceFaultKind};
 use crate::place::Place;
@@ -72,7 +72,7 @@ fn is_punctuation(byte: u8) -> bool
 
 /// The token that a byte is by itself: a bracket or punctuation.
 fn single_kind(byte: u8) -> Option<TokenKind>
-    ensures { result ≡ single_kind byte }
+    ensures { result ≡ kind_of_byte byte }
 {
     match byte {
         b'(' => Some(TokenKind::Open(Bracket::Round)),
@@ -93,7 +93,7 @@ fn single_kind(byte: u8) -> Option<TokenKind>
 
 /// The token that the bytes begin with by a character that is no digit and no quote.
 fn other_token(rest: &[u8]) -> Lexed
-    ensures same { result ≡ single_or (single_kind (byte_at rest.now 0)) (prefixed_or (prefixed_token rest.now) (word_token rest.now)) }
+    ensures same { result ≡ single_or (kind_of_byte (byte_at rest.now 0)) (prefixed_or (prefixed_token rest.now) (word_token rest.now)) }
     ensures bounded { IfOk result (λ token. token.1 ≤ length rest.now + 4) }
 {
     if let Some(kind) = single_kind(byte_at(rest, 0)) {
@@ -122,7 +122,7 @@ fn first_token(rest: &[u8]) -> Lexed
 /// The fault of this kind, which this many bytes stand before.
 pub(crate) fn fault_at(bytes: usize, kind: SourceFaultKind) -> SourceFault
     requires { bytes < 2 ^ 32 }
-    ensures { result ≡ fault_at bytes kind }
+    ensures { result ≡ fault_behind bytes kind }
 {
     SourceFault {
         at: Place(as_place(bytes)),
@@ -173,7 +173,7 @@ fn next_token(text: &[u8], before: usize) -> Result<Option<Token>, SourceFault>
 /// `OutOfMemory` comes where a growth of memory was refused.
 #[tactic(auto, unfolding(crate::specs::Tokens::tokens))]
 pub(crate) fn tokens(alloc: Global, text: &[u8]) -> Result<Vec<Token>, SourceFault>
-    ensures { Agrees (λ found. found.items) (tokens text.now) result }
+    ensures { Yields (λ found. found.items) (tokens text.now) result }
 {
     if text.len() > MOST_BYTES {
         return Err(fault_at(MOST_BYTES, SourceFaultKind::TooLong));

@@ -3,7 +3,7 @@
 ghost use Rattle.std.specs.Prelude.{◌≡◌};
 ghost use Rattle.rust_source.specs.Attributes.{attribute_read, attribute_with, attributes_read, cfg_said, expanded, expanded_all, none_said, number_and_comma, one_attribute, range_read, simple_said};
 ghost use Rattle.rust_source.specs.Names.{texts};
-ghost use Rattle.rust_source.specs.Reading.{Reads, seen};
+ghost use Rattle.rust_source.specs.Reading.{Reads, read_as};
 
 use crate::fault::{SourceFault, SourceFaultKind};
 use crate::item::Repr;
@@ -58,7 +58,7 @@ fn none_said() -> Attributes
 /// The number that is next, without a suffix; it is passed over, with a `,`.
 #[tactic(auto, unfolding(crate::specs::Attributes::number_and_comma))]
 fn take_number(cursor: &mut Cursor<'_>) -> Result<u128, SourceFault>
-    ensures { seen (λ number. (number, cursor.new)) result ≡ number_and_comma cursor.old }
+    ensures { read_as (λ number. (number, cursor.new)) result ≡ number_and_comma cursor.old }
 {
     match next_number(cursor) {
         Number::Integer(value, None) => {

@@ -2,9 +2,9 @@
 
 ghost use Rattle.std.specs.Prelude.{◌≡◌, ◌∷◌, ◌++◌, [], IfErr, IfOk};
 ghost use Rattle.std.specs.Str.{bytes_eq};
-ghost use Rattle.rust_source.specs.Cfg.{combined, count_read, counted, family_name, has_flag, has_value, is_atomic_width, is_number, known_or, next_string, option_answer, option_read, other_value, predicate_read, predicate_with, unquoted, with_symbol, with_unknown};
+ghost use Rattle.rust_source.specs.Cfg.{combined, count_read, counting, family_name, has_flag, has_value, is_atomic_width, is_number, known_or, next_string, option_answer, option_read, other_value, predicate_read, predicate_with, unquoted, with_symbol, with_unknown};
 ghost use Rattle.rust_source.specs.Names.{texts};
-ghost use Rattle.rust_source.specs.Reading.{Reads, seen};
+ghost use Rattle.rust_source.specs.Reading.{Reads, read_as};
 ghost use Rattle.rust_source.specs.Slices.{now_of};
 
 use crate::fault::{SourceFault, SourceFaultKind};
@@ -176,7 +176,7 @@ fn option_answer(
     name: &str,
     cursor: &mut Cursor<'_>,
 ) -> Result<Option<bool>, SourceFault>
-    ensures { seen (λ found. (found, cursor.new)) result ≡ option_answer target.now name.now cursor.old }
+    ensures { read_as (λ found. (found, cursor.new)) result ≡ option_answer target.now name.now cursor.old }
 {
     if !take(cursor, b'=') {
         return Ok(has_flag(target, name));
@@ -218,7 +218,7 @@ fn is_option(
 
 /// How many there are with one more, where it counts.
 fn counted(so_many: usize, counts: bool) -> usize
-    ensures { result ≡ counted so_many counts }
+    ensures { result ≡ counting so_many counts }
 {
     if counts {
         so_many.saturating_add(1)

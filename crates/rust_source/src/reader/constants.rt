@@ -4,12 +4,12 @@ ghost use Rattle.std.specs.Prelude.{◌≡◌, IfErr, IfOk};
 ghost use Rattle.std.specs.Option.{option_map};
 ghost use Rattle.rust_source.specs.Constants.{impl_in, is_wanting, lifetimes, lifetimes_in, own_const, own_constants, own_item, own_items, owner_read};
 ghost use Rattle.rust_source.specs.Cursor.{inside};
-ghost use Rattle.rust_source.specs.Growth.{Keeps};
+ghost use Rattle.rust_source.specs.Growth.{KeepsItems};
 ghost use Rattle.rust_source.specs.Having.{next_owner, with_owner};
-ghost use Rattle.rust_source.specs.Items.{items_of};
+ghost use Rattle.rust_source.specs.Items.{items_as_read};
 ghost use Rattle.rust_source.specs.Names.{texts};
 ghost use Rattle.rust_source.specs.Reading.{Reads};
-ghost use Rattle.rust_source.specs.Syntax.{path_of};
+ghost use Rattle.rust_source.specs.Syntax.{path_as_read};
 
 use crate::fault::{SourceFault, SourceFaultKind};
 use crate::item::Items;
@@ -76,7 +76,7 @@ fn take_owner(
     names: &mut Names,
     cursor: &mut Cursor<'_>,
 ) -> Result<Option<Path>, SourceFault>
-    ensures { Reads (λ found. option_map (λ path. (path_of path, cursor.new)) found)
+    ensures { Reads (λ found. option_map (λ path. (path_as_read path, cursor.new)) found)
         (owner_read cursor.old (texts names.old)) (texts names.new) result }
 {
     if !pass_lifetimes(cursor) || !begins_path(cursor) {
@@ -105,9 +105,9 @@ fn read_own_const(
     owner: u32,
     cursor: &mut Cursor<'_>,
 ) -> Result<(), SourceFault>
-    ensures kept { Keeps items.old items.new }
-    ensures read { Reads (λ done. done) (own_const «module» said.now owner cursor.old (texts names.old, items_of items.old))
-        (texts names.new, items_of items.new) result }
+    ensures kept { KeepsItems items.old items.new }
+    ensures read { Reads (λ done. done) (own_const «module» said.now owner cursor.old (texts names.old, items_as_read items.old))
+        (texts names.new, items_as_read items.new) result }
 {
     match read_const(alloc, names, cursor, Some(owner)) {
         Ok(one) => put_item(items, module, said, one),
@@ -132,9 +132,9 @@ fn read_own_item(
     owner: u32,
     inside: &mut Cursor<'_>,
 ) -> Result<(), SourceFault>
-    ensures kept { Keeps items.old items.new }
-    ensures read { Reads (λ _. inside.new) (own_item rules.now «module» owner inside.old (texts names.old, items_of items.old))
-        (texts names.new, items_of items.new) result }
+    ensures kept { KeepsItems items.old items.new }
+    ensures read { Reads (λ _. inside.new) (own_item rules.now «module» owner inside.old (texts names.old, items_as_read items.old))
+        (texts names.new, items_as_read items.new) result }
 {
     let said = read_attributes(alloc, names, &mut items.unknown_cfgs, rules, inside)?;
     pass_visibility(inside);
@@ -158,9 +158,9 @@ fn read_own_items(
     owner: u32,
     inside: &mut Cursor<'_>,
 ) -> Result<(), SourceFault>
-    ensures kept { Keeps items.old items.new }
-    ensures read { Reads (λ done. done) (own_items rules.now «module» owner inside.old (texts names.old, items_of items.old))
-        (texts names.new, items_of items.new) result }
+    ensures kept { KeepsItems items.old items.new }
+    ensures read { Reads (λ done. done) (own_items rules.now «module» owner inside.old (texts names.old, items_as_read items.old))
+        (texts names.new, items_as_read items.new) result }
 {
     let turns = inside.end.saturating_sub(inside.at);
     for turn in 0..turns {
@@ -175,9 +175,9 @@ fn read_own_items(
 /// Puts a type behind those that have constants of their own, and is its number.
 #[tactic(auto, using(std::proofs::lemmas::Grind::common_steps))]
 fn put_owner(items: &mut Items, path: Path) -> Result<u32, SourceFault>
-    ensures kept { Keeps items.old items.new }
-    ensures number { IfOk result (λ owner. owner ≡ next_owner (items_of items.old)) }
-    ensures ok { IfOk result (λ _. items_of items.new ≡ with_owner (path_of path) (items_of items.old)) }
+    ensures kept { KeepsItems items.old items.new }
+    ensures number { IfOk result (λ owner. owner ≡ next_owner (items_as_read items.old)) }
+    ensures ok { IfOk result (λ _. items_as_read items.new ≡ with_owner (path_as_read path) (items_as_read items.old)) }
     ensures err { IfErr result (λ fault. fault.kind ≡ SourceFaultKind.OutOfMemory) }
 {
     let owner = as_place(items.owners.len());
@@ -195,10 +195,10 @@ fn read_impl(
     path: Path,
     cursor: &mut Cursor<'_>,
 ) -> Result<(), SourceFault>
-    ensures kept { Keeps items.old items.new }
+    ensures kept { KeepsItems items.old items.new }
     ensures read { Reads (λ done. done)
-        (impl_in rules.now «module» (path_of path) (inside cursor.old Bracket.Curly) (texts names.old, items_of items.old))
-        (texts names.new, items_of items.new) result }
+        (impl_in rules.now «module» (path_as_read path) (inside cursor.old Bracket.Curly) (texts names.old, items_as_read items.old))
+        (texts names.new, items_as_read items.new) result }
 {
     let Some(mut inside) = take_group(cursor, Bracket::Curly) else {
         return Ok(());
@@ -218,9 +218,9 @@ pub(crate) fn read_own_constants(
     module: u32,
     cursor: &Cursor<'_>,
 ) -> Result<(), SourceFault>
-    ensures kept { Keeps items.old items.new }
-    ensures read { Reads (λ done. done) (own_constants rules.now «module» cursor.now (texts names.old, items_of items.old))
-        (texts names.new, items_of items.new) result }
+    ensures kept { KeepsItems items.old items.new }
+    ensures read { Reads (λ done. done) (own_constants rules.now «module» cursor.now (texts names.old, items_as_read items.old))
+        (texts names.new, items_as_read items.new) result }
 {
     let mut ahead = *cursor;
     if !take_word(&mut ahead, Keyword::Impl) {

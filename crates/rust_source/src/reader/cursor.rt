@@ -1,9 +1,9 @@
 //! Where a reader stands among the tokens of a group.
 
 ghost use Rattle.std.specs.Prelude.{◌≡◌, ◌+◌, ◌||◌, if◌then◌else◌};
-ghost use Rattle.rust_source.specs.Reading.{seen};
+ghost use Rattle.rust_source.specs.Reading.{read_as};
 ghost use Rattle.rust_source.specs.Until.{until, up_to};
-ghost use Rattle.rust_source.specs.Cursor.{behind, comma_passed, fault, group_passed, inside, is_cut, is_done, is_group, is_lifetime, is_named_next, is_next, is_nth, is_nth_pair, is_pair, is_punct, is_word, kind_of, next_kind, nth, passed, place, place_behind, place_of, token_text, touch, tree_passed};
+ghost use Rattle.rust_source.specs.Cursor.{behind_group, comma_passed, fault, group_passed, inside, is_cut, is_done, is_group, is_lifetime, is_named_next, is_next, is_nth, is_nth_pair, is_pair, is_punct, is_keyword_next, kind_of_token, next_kind, nth, passed, place, place_behind, place_behind_start, token_text, touch, tree_passed};
 
 use crate::fault::{SourceFault, SourceFaultKind};
 use crate::place::Place;
@@ -66,15 +66,15 @@ pub(crate) fn pass(cursor: &mut Cursor<'_>, count: usize)
 }
 
 /// A number of bytes of the source as a place among all sources.
-#[tactic(auto, unfolding(crate::specs::Cursor::place_of))]
+#[tactic(auto, unfolding(crate::specs::Cursor::place_behind_start))]
 pub(crate) fn place_of(cursor: &Cursor<'_>, bytes: u32) -> Place
-    ensures { result ≡ place_of cursor.now bytes }
+    ensures { result ≡ place_behind_start cursor.now bytes }
 {
     Place(cursor.start.saturating_add(bytes))
 }
 
 /// Where the next token stands; behind the last token where none is left.
-#[tactic(auto, unfolding(crate::specs::Cursor::place, crate::specs::Cursor::place_of))]
+#[tactic(auto, unfolding(crate::specs::Cursor::place, crate::specs::Cursor::place_behind_start))]
 pub(crate) fn place(cursor: &Cursor<'_>) -> Place
     ensures { result ≡ place cursor.now }
 {
@@ -139,7 +139,7 @@ fn nth_behind(cursor: &Cursor<'_>, before: usize) -> Option<Token>
 
 /// Whether a token is this character.
 fn is_punct(token: Option<Token>, character: u8) -> bool
-    ensures { result ≡ is_punct character (kind_of token) }
+    ensures { result ≡ is_punct character (kind_of_token token) }
 {
     match token {
         Some(token) => token.kind == TokenKind::Punct(character),
@@ -200,9 +200,9 @@ pub(crate) fn is_lifetime(cursor: &Cursor<'_>) -> bool
 }
 
 /// Whether the next token is this keyword.
-#[tactic(auto, unfolding(crate::specs::Cursor::is_word))]
+#[tactic(auto, unfolding(crate::specs::Cursor::is_keyword_next))]
 pub(crate) fn is_word(cursor: &Cursor<'_>, keyword: Keyword) -> bool
-    ensures { result ≡ is_word cursor.now keyword }
+    ensures { result ≡ is_keyword_next cursor.now keyword }
 {
     match nth(cursor, 0) {
         Some(token) => token.kind == TokenKind::Keyword(keyword),
@@ -236,8 +236,8 @@ pub(crate) fn take_pair(cursor: &mut Cursor<'_>, first: u8, second: u8) -> bool
 
 /// Passes over the next token where it is this keyword, and says whether it is.
 pub(crate) fn take_word(cursor: &mut Cursor<'_>, keyword: Keyword) -> bool
-    ensures is { result ≡ is_word cursor.old keyword }
-    ensures passed { cursor.new ≡ (if is_word cursor.old keyword then passed cursor.old 1 else cursor.old) }
+    ensures is { result ≡ is_keyword_next cursor.old keyword }
+    ensures passed { cursor.new ≡ (if is_keyword_next cursor.old keyword then passed cursor.old 1 else cursor.old) }
 {
     let is = is_word(cursor, keyword);
     if is {
@@ -287,10 +287,10 @@ pub(crate) fn is_group(cursor: &Cursor<'_>, bracket: Bracket) -> bool
 }
 
 /// The tokens within brackets of this kind, where such a group is next; it is passed over.
-#[tactic(auto, unfolding(crate::specs::Cursor::is_group, crate::specs::Cursor::inside, crate::specs::Cursor::behind, crate::specs::Cursor::nth))]
+#[tactic(auto, unfolding(crate::specs::Cursor::is_group, crate::specs::Cursor::inside, crate::specs::Cursor::behind_group, crate::specs::Cursor::nth))]
 pub(crate) fn take_group<'a>(cursor: &mut Cursor<'a>, bracket: Bracket) -> Option<Cursor<'a>>
     ensures inside { result ≡ inside cursor.old bracket }
-    ensures passed { cursor.new ≡ (if is_group cursor.old bracket then behind cursor.old else cursor.old) }
+    ensures passed { cursor.new ≡ (if is_group cursor.old bracket then behind_group cursor.old else cursor.old) }
     ensures moved { cursor.new ≡ group_passed cursor.old result }
 {
     let token = nth(cursor, 0)?;
@@ -357,7 +357,7 @@ pub(crate) fn expect_comma(cursor: &mut Cursor<'_>) -> Result<(), SourceFault>
     ensures is { result ≡ (if is_done cursor.old || is_next cursor.old 44 then Ok tt
         else Err (fault cursor.old SourceFaultKind.ExpectedComma)) }
     ensures passed { cursor.new ≡ (if is_next cursor.old 44 then passed cursor.old 1 else cursor.old) }
-    ensures read { seen (λ _. cursor.new) result ≡ comma_passed cursor.old }
+    ensures read { read_as (λ _. cursor.new) result ≡ comma_passed cursor.old }
 {
     if is_done(cursor) || take(cursor, b',') {
         Ok(())

@@ -5,11 +5,11 @@ ghost use Rattle.rust_source.specs.Names.{texts};
 ghost use Rattle.rust_source.specs.Operators.{operands_of};
 ghost use Rattle.rust_source.specs.Cursor.{next_kind, token_text};
 ghost use Rattle.rust_source.specs.Literals.{char_code, number_written};
-ghost use Rattle.rust_source.specs.Reading.{Reads, seen};
-ghost use Rattle.rust_source.specs.Simple.{byte_read, char_read, is_literal, literal, literal_of, most_nested, number_read, sign_of, signed_literal, signs};
+ghost use Rattle.rust_source.specs.Reading.{Reads, read_as};
+ghost use Rattle.rust_source.specs.Simple.{byte_read, char_read, is_literal, literal_read, literal_of, most_nested, number_read, sign_of, signed_literal, signs};
 ghost use Rattle.rust_source.specs.Syntax.{cast, choice, expr_of, type_of};
-ghost use Rattle.rust_source.specs.Terms.{bracketed, cast_from, choice_behind, choice_read, choice_with, else_read, expr_read, expr_with, inner, is_told, operand, primary, value, values, whole};
-ghost use Rattle.rust_source.specs.Tokens.{Agrees};
+ghost use Rattle.rust_source.specs.Terms.{bracketed, cast_from, choice_behind, choice_read, choice_with, else_read, expr_read, expr_with, readers, is_told_anyway, operand, primary, value, expressions_in, whole};
+ghost use Rattle.rust_source.specs.Tokens.{Yields};
 
 use crate::fault::{SourceFault, SourceFaultKind};
 use crate::names::Names;
@@ -31,7 +31,7 @@ use std::alloc::Global;
 
 /// Whether a fault is told even where an expression needn't be read.
 fn is_told(kind: SourceFaultKind) -> bool
-    ensures { result ≡ is_told kind }
+    ensures { result ≡ is_told_anyway kind }
 {
     match kind {
         SourceFaultKind::OutOfMemory | SourceFaultKind::TooDeep | SourceFaultKind::BadNumber => {
@@ -50,7 +50,7 @@ pub(crate) fn read_whole(
     cursor: &mut Cursor<'_>,
     room: u32,
 ) -> Result<Expr, SourceFault>
-    ensures { Reads (λ value. (expr_of value, cursor.new)) (whole (inner room) cursor.old (texts names.old)) (texts names.new) result }
+    ensures { Reads (λ value. (expr_of value, cursor.new)) (whole (readers room) cursor.old (texts names.old)) (texts names.new) result }
 {
     if is_done(cursor) {
         return Err(fault(cursor, SourceFaultKind::ExpectedExpression));
@@ -110,7 +110,7 @@ fn read_joined(
     cursor: &mut Cursor<'_>,
     room: u32,
 ) -> Result<Expr, SourceFault>
-    ensures { Reads (λ value. (expr_of value, cursor.new)) (expr_with (inner room) cursor.old (texts names.old)) (texts names.new) result }
+    ensures { Reads (λ value. (expr_of value, cursor.new)) (expr_with (readers room) cursor.old (texts names.old)) (texts names.new) result }
 {
     let mut operands = Vec::new(alloc);
     let mut waiting: Vec<Waiting> = Vec::new(alloc);
@@ -143,7 +143,7 @@ fn next_sign(cursor: &Cursor<'_>) -> Option<Unary>
 /// The operators before an operand, which are passed over.
 #[tactic(auto, unfolding(crate::specs::Simple::signs), using(crate::proofs::Turns::signs_more, crate::proofs::Turns::signs_done))]
 fn take_signs(alloc: Global, cursor: &mut Cursor<'_>) -> Result<Vec<(Unary, Place)>, SourceFault>
-    ensures { Agrees (λ all. (all.items, cursor.new)) (signs cursor.old) result }
+    ensures { Yields (λ all. (all.items, cursor.new)) (signs cursor.old) result }
 {
     let mut all = Vec::new(alloc);
     let turns = most_nested();
@@ -167,7 +167,7 @@ fn read_operand(
     cursor: &mut Cursor<'_>,
     room: u32,
 ) -> Result<Expr, SourceFault>
-    ensures { Reads (λ value. (expr_of value, cursor.new)) (operand (inner room) cursor.old (texts names.old)) (texts names.new) result }
+    ensures { Reads (λ value. (expr_of value, cursor.new)) (operand (readers room) cursor.old (texts names.old)) (texts names.new) result }
 {
     let signs = take_signs(alloc, cursor)?;
     let first = read_primary(alloc, names, cursor, room)?;
@@ -196,7 +196,7 @@ fn read_casts(
     room: u32,
 ) -> Result<Expr, SourceFault>
     ensures { Reads (λ value. (expr_of value, cursor.new))
-        (cast_from (inner room) most_nested (expr_of operand) cursor.old (texts names.old)) (texts names.new) result }
+        (cast_from (readers room) most_nested (expr_of operand) cursor.old (texts names.old)) (texts names.new) result }
 {
     let mut operand = operand;
     let turns = most_nested();
@@ -221,7 +221,7 @@ fn read_in(
     bracket: Bracket,
     room: u32,
 ) -> Result<Expr, SourceFault>
-    ensures { Reads (λ value. (expr_of value, cursor.new)) (bracketed (inner room) bracket cursor.old (texts names.old)) (texts names.new) result }
+    ensures { Reads (λ value. (expr_of value, cursor.new)) (bracketed (readers room) bracket cursor.old (texts names.old)) (texts names.new) result }
 {
     let Some(mut inside) = take_group(cursor, bracket) else {
         return Err(fault(cursor, SourceFaultKind::ExpectedExpression));
@@ -260,7 +260,7 @@ fn read_tested(
     at: Place,
     room: u32,
 ) -> Result<Expr, SourceFault>
-    ensures { Reads (λ value. (expr_of value, cursor.new)) (choice_with (inner room) at cursor.old (texts names.old)) (texts names.new) result }
+    ensures { Reads (λ value. (expr_of value, cursor.new)) (choice_with (readers room) at cursor.old (texts names.old)) (texts names.new) result }
 {
     let test = read_expression(alloc, names, cursor, room)?;
     read_branches(alloc, names, cursor, test, at, room)
@@ -288,7 +288,7 @@ fn read_branches(
     room: u32,
 ) -> Result<Expr, SourceFault>
     ensures { Reads (λ value. (expr_of value, cursor.new))
-        (choice_behind (inner room) at (expr_of test) cursor.old (texts names.old)) (texts names.new) result }
+        (choice_behind (readers room) at (expr_of test) cursor.old (texts names.old)) (texts names.new) result }
 {
     let yes = read_in(alloc, names, cursor, Bracket::Curly, room)?;
     if !take_word(cursor, Keyword::Else) {
@@ -306,7 +306,7 @@ fn read_else(
     cursor: &mut Cursor<'_>,
     room: u32,
 ) -> Result<Expr, SourceFault>
-    ensures { Reads (λ value. (expr_of value, cursor.new)) (else_read (inner room) cursor.old (texts names.old)) (texts names.new) result }
+    ensures { Reads (λ value. (expr_of value, cursor.new)) (else_read (readers room) cursor.old (texts names.old)) (texts names.new) result }
 {
     let again = place(cursor);
     if take_word(cursor, Keyword::If) {
@@ -324,7 +324,7 @@ fn read_primary(
     cursor: &mut Cursor<'_>,
     room: u32,
 ) -> Result<Expr, SourceFault>
-    ensures { Reads (λ value. (expr_of value, cursor.new)) (primary (inner room) cursor.old (texts names.old)) (texts names.new) result }
+    ensures { Reads (λ value. (expr_of value, cursor.new)) (primary (readers room) cursor.old (texts names.old)) (texts names.new) result }
 {
     if is_literal(cursor) {
         return read_literal(cursor);
@@ -354,7 +354,7 @@ fn read_value(
     cursor: &mut Cursor<'_>,
     room: u32,
 ) -> Result<Expr, SourceFault>
-    ensures { Reads (λ value. (expr_of value, cursor.new)) (value (inner room) cursor.old (texts names.old)) (texts names.new) result }
+    ensures { Reads (λ value. (expr_of value, cursor.new)) (value (readers room) cursor.old (texts names.old)) (texts names.new) result }
 {
     let at = place(cursor);
     let path = read_path(alloc, names, cursor, false, room)?;
@@ -376,14 +376,14 @@ fn push_value(all: &mut Vec<Expr>, one: Expr) -> Result<(), SourceFault>
 
 /// The expressions that stand in parentheses.
 #[cycle(terms)]
-#[tactic(auto, unfolding(crate::specs::Terms::values), using(crate::proofs::Rooms::values_more, crate::proofs::Rooms::values_done))]
+#[tactic(auto, unfolding(crate::specs::Terms::expressions_in), using(crate::proofs::Rooms::values_more, crate::proofs::Rooms::values_done))]
 fn read_values(
     alloc: Global,
     names: &mut Names,
     inside: &mut Cursor<'_>,
     room: u32,
 ) -> Result<Vec<Expr>, SourceFault>
-    ensures { Reads (λ all. map expr_of all.items) (values (inner room) inside.old (texts names.old)) (texts names.new) result }
+    ensures { Reads (λ all. map expr_of all.items) (expressions_in (readers room) inside.old (texts names.old)) (texts names.new) result }
 {
     let mut all = Vec::new(alloc);
     let turns = inside.end.saturating_sub(inside.at);
@@ -412,7 +412,7 @@ pub(crate) fn is_literal(cursor: &Cursor<'_>) -> bool
 
 /// The number that the next token is.
 fn number_literal(cursor: &Cursor<'_>, token: Token) -> Result<Expr, SourceFault>
-    ensures { seen expr_of result ≡ number_read cursor.now (number_written (token_text cursor.now token)) }
+    ensures { read_as expr_of result ≡ number_read cursor.now (number_written (token_text cursor.now token)) }
 {
     let at = place(cursor);
     match number_of(text_of(cursor, token).as_bytes()) {
@@ -424,7 +424,7 @@ fn number_literal(cursor: &Cursor<'_>, token: Token) -> Result<Expr, SourceFault
 
 /// The character that the next token is.
 fn char_literal(cursor: &Cursor<'_>, token: Token) -> Result<Expr, SourceFault>
-    ensures { seen expr_of result ≡ char_read cursor.now (char_code (token_text cursor.now token)) }
+    ensures { read_as expr_of result ≡ char_read cursor.now (char_code (token_text cursor.now token)) }
 {
     let at = place(cursor);
     match char_code(text_of(cursor, token).as_bytes()) {
@@ -435,7 +435,7 @@ fn char_literal(cursor: &Cursor<'_>, token: Token) -> Result<Expr, SourceFault>
 
 /// The byte that the next token is.
 fn byte_literal(cursor: &Cursor<'_>, token: Token) -> Result<Expr, SourceFault>
-    ensures { seen expr_of result ≡ byte_read cursor.now (char_code (drop 1 (token_text cursor.now token))) }
+    ensures { read_as expr_of result ≡ byte_read cursor.now (char_code (drop 1 (token_text cursor.now token))) }
 {
     let at = place(cursor);
     match char_code(after(text_of(cursor, token).as_bytes(), 1)) {
@@ -446,7 +446,7 @@ fn byte_literal(cursor: &Cursor<'_>, token: Token) -> Result<Expr, SourceFault>
 
 /// The literal that the next token is.
 fn literal_of(cursor: &Cursor<'_>, token: Token) -> Result<Expr, SourceFault>
-    ensures { seen expr_of result ≡ literal_of cursor.now token token.kind }
+    ensures { read_as expr_of result ≡ literal_of cursor.now token token.kind }
 {
     match token.kind {
         TokenKind::Number => number_literal(cursor, token),
@@ -458,9 +458,9 @@ fn literal_of(cursor: &Cursor<'_>, token: Token) -> Result<Expr, SourceFault>
 }
 
 /// A literal.
-#[tactic(auto, unfolding(crate::specs::Simple::literal))]
+#[tactic(auto, unfolding(crate::specs::Simple::literal_read))]
 pub(crate) fn read_literal(cursor: &mut Cursor<'_>) -> Result<Expr, SourceFault>
-    ensures { seen (λ whole. (expr_of whole, cursor.new)) result ≡ literal cursor.old }
+    ensures { read_as (λ whole. (expr_of whole, cursor.new)) result ≡ literal_read cursor.old }
 {
     let Some(token) = nth(cursor, 0) else {
         return Err(fault(cursor, SourceFaultKind::ExpectedExpression));
@@ -473,7 +473,7 @@ pub(crate) fn read_literal(cursor: &mut Cursor<'_>) -> Result<Expr, SourceFault>
 /// A literal, with the operators before it.
 #[tactic(auto, unfolding(crate::specs::Simple::signed_literal))]
 pub(crate) fn read_signed(alloc: Global, cursor: &mut Cursor<'_>) -> Result<Expr, SourceFault>
-    ensures { Agrees (λ whole. (expr_of whole, cursor.new)) (signed_literal cursor.old) result }
+    ensures { Yields (λ whole. (expr_of whole, cursor.new)) (signed_literal cursor.old) result }
 {
     let signs = take_signs(alloc, cursor)?;
     if !is_literal(cursor) {

@@ -2,8 +2,8 @@
 
 ghost use Rattle.std.specs.Prelude.{◌≡◌, ◌∷◌, ◌++◌, [], IfErr, IfOk, map};
 ghost use Rattle.std.specs.Option.{option_map};
-ghost use Rattle.rust_source.specs.Fields.{field_more, field_read, field_typed, fields_all, fields_in, fields_read, is_restriction, next_field_number, value_read, variant_more, variant_read, variants_all, variants_in, visibility_passed, with_one};
-ghost use Rattle.rust_source.specs.Items.{field_of, fields_of, variant_of};
+ghost use Rattle.rust_source.specs.Fields.{field_more, field_read, field_typed, fields_all, fields_in, fields_read, is_restriction, next_field_number, value_read, variant_more, variant_read, variants_all, variants_in_braces, visibility_passed, with_one};
+ghost use Rattle.rust_source.specs.Items.{field_of, fields_as_read, variant_as_read};
 ghost use Rattle.rust_source.specs.Names.{texts};
 ghost use Rattle.rust_source.specs.Reading.{Reads};
 ghost use Rattle.rust_source.specs.Syntax.{expr_of};
@@ -184,7 +184,7 @@ fn read_fields_in(
     inside: &mut Cursor<'_>,
     is_tuple: bool,
 ) -> Result<Fields, SourceFault>
-    ensures { Reads fields_of (fields_in rules.now is_tuple inside.old (texts names.old, unknown.old.items))
+    ensures { Reads fields_as_read (fields_in rules.now is_tuple inside.old (texts names.old, unknown.old.items))
         (texts names.new, unknown.new.items) result }
 {
     let mut all = Vec::new(alloc);
@@ -202,7 +202,7 @@ pub(crate) fn read_fields(
     rules: &Rules<'_>,
     cursor: &mut Cursor<'_>,
 ) -> Result<Fields, SourceFault>
-    ensures { Reads (λ fields. (fields_of fields, cursor.new)) (fields_read rules.now cursor.old (texts names.old, unknown.old.items))
+    ensures { Reads (λ fields. (fields_as_read fields, cursor.new)) (fields_read rules.now cursor.old (texts names.old, unknown.old.items))
         (texts names.new, unknown.new.items) result }
 {
     if let Some(mut inside) = take_group(cursor, Bracket::Round) {
@@ -243,7 +243,7 @@ fn read_variant(
     rules: &Rules<'_>,
     cursor: &mut Cursor<'_>,
 ) -> Result<Variant, SourceFault>
-    ensures { Reads (λ one. (variant_of one, cursor.new)) (variant_read rules.now cursor.old (texts names.old, unknown.old.items))
+    ensures { Reads (λ one. (variant_as_read one, cursor.new)) (variant_read rules.now cursor.old (texts names.old, unknown.old.items))
         (texts names.new, unknown.new.items) result }
 {
     pass_visibility(cursor);
@@ -260,7 +260,7 @@ fn read_variant(
 
 /// Puts a variant behind the others, where it is there.
 fn push_variant(all: &mut Vec<Variant>, is_there: bool, one: Variant) -> Result<(), SourceFault>
-    ensures ok { IfOk result (λ _. map variant_of all.new.items ≡ with_one (map variant_of all.old.items) is_there (variant_of one)) }
+    ensures ok { IfOk result (λ _. map variant_as_read all.new.items ≡ with_one (map variant_as_read all.old.items) is_there (variant_as_read one)) }
     ensures err { IfErr result (λ fault. fault.kind ≡ SourceFaultKind.OutOfMemory) }
 {
     if is_there {
@@ -279,8 +279,8 @@ fn add_variant(
     inside: &mut Cursor<'_>,
     all: &mut Vec<Variant>,
 ) -> Result<(), SourceFault>
-    ensures { Reads (λ _. (map variant_of all.new.items, inside.new))
-        (variant_more rules.now (map variant_of all.old.items) inside.old (texts names.old, unknown.old.items))
+    ensures { Reads (λ _. (map variant_as_read all.new.items, inside.new))
+        (variant_more rules.now (map variant_as_read all.old.items) inside.old (texts names.old, unknown.old.items))
         (texts names.new, unknown.new.items) result }
 {
     let said = read_attributes(alloc, names, unknown, rules, inside)?;
@@ -299,8 +299,8 @@ fn add_variants(
     inside: &mut Cursor<'_>,
     all: &mut Vec<Variant>,
 ) -> Result<(), SourceFault>
-    ensures { Reads (λ _. map variant_of all.new.items)
-        (variants_all rules.now (map variant_of all.old.items) inside.old (texts names.old, unknown.old.items))
+    ensures { Reads (λ _. map variant_as_read all.new.items)
+        (variants_all rules.now (map variant_as_read all.old.items) inside.old (texts names.old, unknown.old.items))
         (texts names.new, unknown.new.items) result }
 {
     let turns = inside.end.saturating_sub(inside.at);
@@ -314,7 +314,7 @@ fn add_variants(
 }
 
 /// The variants within an enum's braces.
-#[tactic(auto, unfolding(crate::specs::Fields::variants_in))]
+#[tactic(auto, unfolding(crate::specs::Fields::variants_in_braces))]
 pub(crate) fn read_variants(
     alloc: Global,
     names: &mut Names,
@@ -322,7 +322,7 @@ pub(crate) fn read_variants(
     rules: &Rules<'_>,
     inside: &mut Cursor<'_>,
 ) -> Result<Enum, SourceFault>
-    ensures { Reads (λ all. map variant_of all.variants.items) (variants_in rules.now inside.old (texts names.old, unknown.old.items))
+    ensures { Reads (λ all. map variant_as_read all.variants.items) (variants_in_braces rules.now inside.old (texts names.old, unknown.old.items))
         (texts names.new, unknown.new.items) result }
 {
     let mut variants = Vec::new(alloc);

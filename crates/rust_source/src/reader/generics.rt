@@ -2,7 +2,7 @@
 
 ghost use Rattle.std.specs.Prelude.{◌≡◌, ◌∷◌, ◌++◌, [], IfErr, IfOk, map};
 ghost use Rattle.std.specs.Option.{option_map};
-ghost use Rattle.rust_source.specs.Generics.{asked, const_default, const_kind, const_parameter, constant_in, hashes_passed, is_bounded_name, let_unsized, parameter_more, parameters_in, parameters_read, type_default, type_parameter, where_all, where_one, where_read};
+ghost use Rattle.rust_source.specs.Generics.{asked, const_default, const_kind, const_parameter, constant_argument, hashes_passed, is_bounded_name, let_unsized, parameter_more, parameters_in, parameters_read, type_default, type_parameter, where_all, where_one, where_read};
 ghost use Rattle.rust_source.specs.Items.{parameter_kind_of, parameter_of};
 ghost use Rattle.rust_source.specs.Names.{texts};
 ghost use Rattle.rust_source.specs.Reading.{Reads};
@@ -29,7 +29,7 @@ use std::alloc::Global;
 
 /// The expression that an argument is, where it can be a constant.
 fn as_constant(argument: Argument) -> Option<Expr>
-    ensures { option_map expr_of result ≡ constant_in (argument_of argument) }
+    ensures { option_map expr_of result ≡ constant_argument (argument_of argument) }
 {
     match argument {
         Argument::Const(value) => Some(value),

@@ -2,10 +2,10 @@
 
 ghost use Rattle.std.specs.Prelude.{◌≡◌, IfErr, IfOk};
 ghost use Rattle.rust_source.specs.Cursor.{inside, next_kind};
-ghost use Rattle.rust_source.specs.Growth.{Keeps};
-ghost use Rattle.rust_source.specs.Having.{item_in, next_module, with_item, with_module};
-ghost use Rattle.rust_source.specs.Items.{item_of, items_of};
-ghost use Rattle.rust_source.specs.Modules.{all_read, is_inline_module, is_item_word, is_macro, is_passed_over, item_read, module_in, module_read, module_within, one_read, other_read, over_passed, passes_kind, path_passed, root_read, said_read, use_read};
+ghost use Rattle.rust_source.specs.Growth.{KeepsItems};
+ghost use Rattle.rust_source.specs.Having.{item_of_module, next_module, with_item, with_module};
+ghost use Rattle.rust_source.specs.Items.{item_of, items_as_read};
+ghost use Rattle.rust_source.specs.Modules.{all_read, is_inline_module, is_item_word, is_macro, is_passed_over, item_read, module_items, module_read, module_within, one_read, other_read, over_passed, passes_kind, path_passed, root_read, said_read, use_read};
 ghost use Rattle.rust_source.specs.Names.{texts};
 ghost use Rattle.rust_source.specs.Reading.{Reads};
 ghost use Rattle.rust_source.specs.Simple.{most_nested};
@@ -33,7 +33,7 @@ use std::alloc::Global;
 
 /// An item of a module, with what its attributes say.
 fn item_in(module: u32, said: &Attributes, one: Written) -> Item
-    ensures { item_of result ≡ item_in «module» said.now (written_of one) }
+    ensures { item_of result ≡ item_of_module «module» said.now (written_of one) }
 {
     let Written { head, kind } = one;
     Item {
@@ -54,8 +54,8 @@ pub(crate) fn put_item(
     said: &Attributes,
     one: Written,
 ) -> Result<(), SourceFault>
-    ensures kept { Keeps items.old items.new }
-    ensures ok { IfOk result (λ _. items_of items.new ≡ with_item (item_in «module» said.now (written_of one)) (items_of items.old)) }
+    ensures kept { KeepsItems items.old items.new }
+    ensures ok { IfOk result (λ _. items_as_read items.new ≡ with_item (item_of_module «module» said.now (written_of one)) (items_as_read items.old)) }
     ensures err { IfErr result (λ fault. fault.kind ≡ SourceFaultKind.OutOfMemory) }
 {
     items.items.push(item_in(module, said, one))?;
@@ -71,9 +71,9 @@ fn read_use(
     module: u32,
     cursor: &mut Cursor<'_>,
 ) -> Result<(), SourceFault>
-    ensures kept { Keeps items.old items.new }
-    ensures read { Reads (λ _. cursor.new) (use_read «module» cursor.old (texts names.old, items_of items.old))
-        (texts names.new, items_of items.new) result }
+    ensures kept { KeepsItems items.old items.new }
+    ensures read { Reads (λ _. cursor.new) (use_read «module» cursor.old (texts names.old, items_as_read items.old))
+        (texts names.new, items_as_read items.new) result }
 {
     let place = UsePlace {
         module,
@@ -151,8 +151,8 @@ fn is_passed_over(cursor: &Cursor<'_>) -> bool
 /// Passes over an item that makes no type, and counts it.
 #[tactic(auto, unfolding(crate::specs::Modules::over_passed))]
 fn pass_over(names: &Names, items: &mut Items, cursor: &mut Cursor<'_>) -> Result<(), SourceFault>
-    ensures kept { Keeps items.old items.new }
-    ensures read { Reads (λ _. cursor.new) (over_passed cursor.old (texts names.now, items_of items.old)) (texts names.now, items_of items.new) result }
+    ensures kept { KeepsItems items.old items.new }
+    ensures read { Reads (λ _. cursor.new) (over_passed cursor.old (texts names.now, items_as_read items.old)) (texts names.now, items_as_read items.new) result }
 {
     if !is_passed_over(cursor) {
         return Err(fault(cursor, SourceFaultKind::ExpectedItem));
@@ -172,9 +172,9 @@ fn read_other(
     module: u32,
     cursor: &mut Cursor<'_>,
 ) -> Result<(), SourceFault>
-    ensures kept { Keeps items.old items.new }
-    ensures read { Reads (λ _. cursor.new) (other_read rules.now «module» cursor.old (texts names.old, items_of items.old))
-        (texts names.new, items_of items.new) result }
+    ensures kept { KeepsItems items.old items.new }
+    ensures read { Reads (λ _. cursor.new) (other_read rules.now «module» cursor.old (texts names.old, items_as_read items.old))
+        (texts names.new, items_as_read items.new) result }
 {
     if take_word(cursor, Keyword::Use) {
         return read_use(alloc, names, items, module, cursor);
@@ -194,9 +194,9 @@ fn read_item(
     said: &Attributes,
     cursor: &mut Cursor<'_>,
 ) -> Result<(), SourceFault>
-    ensures kept { Keeps items.old items.new }
-    ensures read { Reads (λ _. cursor.new) (item_read rules.now «module» said.now cursor.old (texts names.old, items_of items.old))
-        (texts names.new, items_of items.new) result }
+    ensures kept { KeepsItems items.old items.new }
+    ensures read { Reads (λ _. cursor.new) (item_read rules.now «module» said.now cursor.old (texts names.old, items_as_read items.old))
+        (texts names.new, items_as_read items.new) result }
 {
     match read_written(alloc, names, &mut items.unknown_cfgs, rules, cursor)? {
         Some(one) => put_item(items, module, said, one),
@@ -207,9 +207,9 @@ fn read_item(
 /// Begins a module behind the modules that are there, and is its number.
 #[tactic(auto, using(std::proofs::lemmas::Grind::common_steps))]
 fn begin_module(items: &mut Items, name: Symbol, parent: Option<u32>) -> Result<u32, SourceFault>
-    ensures kept { Keeps items.old items.new }
-    ensures number { IfOk result (λ number. number ≡ next_module (items_of items.old)) }
-    ensures ok { IfOk result (λ _. items_of items.new ≡ with_module (record { name = name; parent = parent }) (items_of items.old)) }
+    ensures kept { KeepsItems items.old items.new }
+    ensures number { IfOk result (λ number. number ≡ next_module (items_as_read items.old)) }
+    ensures ok { IfOk result (λ _. items_as_read items.new ≡ with_module (record { name = name; parent = parent }) (items_as_read items.old)) }
     ensures err { IfErr result (λ fault. fault.kind ≡ SourceFaultKind.OutOfMemory) }
 {
     let number = as_place(items.modules.len());
@@ -240,10 +240,10 @@ fn read_braces(
     cursor: &mut Cursor<'_>,
     room: u32,
 ) -> Result<(), SourceFault>
-    ensures kept { Keeps items.old items.new }
+    ensures kept { KeepsItems items.old items.new }
     ensures read { Reads (λ _. cursor.new)
-        (module_in rules.now (module_within rules.now room) «module» cursor.old (inside cursor.old Bracket.Curly) (texts names.old, items_of items.old))
-        (texts names.new, items_of items.new) result }
+        (module_items rules.now (module_within rules.now room) «module» cursor.old (inside cursor.old Bracket.Curly) (texts names.old, items_as_read items.old))
+        (texts names.new, items_as_read items.new) result }
 {
     match take_group(cursor, Bracket::Curly) {
         Some(mut inside) => read_within(alloc, rules, names, items, module, &mut inside, room),
@@ -263,10 +263,10 @@ fn read_module(
     cursor: &mut Cursor<'_>,
     room: u32,
 ) -> Result<(), SourceFault>
-    ensures kept { Keeps items.old items.new }
+    ensures kept { KeepsItems items.old items.new }
     ensures read { Reads (λ _. cursor.new)
-        (module_read rules.now (module_within rules.now room) outer cursor.old (texts names.old, items_of items.old))
-        (texts names.new, items_of items.new) result }
+        (module_read rules.now (module_within rules.now room) outer cursor.old (texts names.old, items_as_read items.old))
+        (texts names.new, items_as_read items.new) result }
 {
     pass(cursor, 1);
     let (name, _at) = take_name(alloc, names, cursor)?;
@@ -287,10 +287,10 @@ fn read_said(
     cursor: &mut Cursor<'_>,
     room: u32,
 ) -> Result<(), SourceFault>
-    ensures kept { Keeps items.old items.new }
+    ensures kept { KeepsItems items.old items.new }
     ensures read { Reads (λ _. cursor.new)
-        (said_read rules.now (module_within rules.now room) «module» said.now cursor.old (texts names.old, items_of items.old))
-        (texts names.new, items_of items.new) result }
+        (said_read rules.now (module_within rules.now room) «module» said.now cursor.old (texts names.old, items_as_read items.old))
+        (texts names.new, items_as_read items.new) result }
 {
     if !said.holds {
         pass_item(cursor);
@@ -315,10 +315,10 @@ fn read_one(
     cursor: &mut Cursor<'_>,
     room: u32,
 ) -> Result<(), SourceFault>
-    ensures kept { Keeps items.old items.new }
+    ensures kept { KeepsItems items.old items.new }
     ensures read { Reads (λ _. cursor.new)
-        (one_read rules.now (module_within rules.now room) «module» cursor.old (texts names.old, items_of items.old))
-        (texts names.new, items_of items.new) result }
+        (one_read rules.now (module_within rules.now room) «module» cursor.old (texts names.old, items_as_read items.old))
+        (texts names.new, items_as_read items.new) result }
 {
     let said = read_attributes(alloc, names, &mut items.unknown_cfgs, rules, cursor)?;
     if is_done(cursor) {
@@ -340,10 +340,10 @@ fn read_all(
     cursor: &mut Cursor<'_>,
     room: u32,
 ) -> Result<(), SourceFault>
-    ensures kept { Keeps items.old items.new }
+    ensures kept { KeepsItems items.old items.new }
     ensures read { Reads (λ done. done)
-        (all_read rules.now (module_within rules.now room) «module» cursor.old (texts names.old, items_of items.old))
-        (texts names.new, items_of items.new) result }
+        (all_read rules.now (module_within rules.now room) «module» cursor.old (texts names.old, items_as_read items.old))
+        (texts names.new, items_as_read items.new) result }
 {
     let turns = cursor.end.saturating_sub(cursor.at);
     for turn in 0..turns {
@@ -367,9 +367,9 @@ fn read_within(
     cursor: &mut Cursor<'_>,
     room: u32,
 ) -> Result<(), SourceFault>
-    ensures kept { Keeps items.old items.new }
-    ensures read { Reads (λ done. done) (module_within rules.now room «module» cursor.old (texts names.old, items_of items.old))
-        (texts names.new, items_of items.new) result }
+    ensures kept { KeepsItems items.old items.new }
+    ensures read { Reads (λ done. done) (module_within rules.now room «module» cursor.old (texts names.old, items_as_read items.old))
+        (texts names.new, items_as_read items.new) result }
 {
     let room = less(cursor, room)?;
     read_all(alloc, rules, names, items, module, cursor, room)
@@ -385,9 +385,9 @@ pub(crate) fn read_root(
     name: Symbol,
     cursor: &mut Cursor<'_>,
 ) -> Result<u32, SourceFault>
-    ensures kept { Keeps items.old items.new }
-    ensures read { Reads (λ root. root) (root_read rules.now name cursor.old (texts names.old, items_of items.old))
-        (texts names.new, items_of items.new) result }
+    ensures kept { KeepsItems items.old items.new }
+    ensures read { Reads (λ root. root) (root_read rules.now name cursor.old (texts names.old, items_as_read items.old))
+        (texts names.new, items_as_read items.new) result }
 {
     let root = begin_module(items, name, None)?;
     read_all(alloc, rules, names, items, root, cursor, most_nested() + 1)?;

@@ -1,7 +1,7 @@
 //! The values of numbers and characters.
 
 ghost use Rattle.std.specs.Prelude.{◌≡◌, ◌≤◌, length, map};
-ghost use Rattle.rust_source.specs.Literals.{as_code, base_of, char_code, code_by, code_within, digit_value, digits_length, digits_value, kind_entry, escape_by, escaped_code, hex_code, integer_kind, integer_kind_in, is_digit_in, is_float_tail, letter_code, number_in, number_written, suffixed, with_digit, within};
+ghost use Rattle.rust_source.specs.Literals.{code_from, base_of, char_code, code_by, code_within, digit_value, digits_length, digits_value, kind_entry, escape_by, escaped_code, hex_code, integer_kind, integer_kind_in, is_digit_in, is_float_tail, letter_code, number_of_digits, number_written, suffixed, with_digit, bytes_between};
 ghost use Rattle.rust_source.specs.Characters.{first_char};
 ghost use Rattle.rust_source.specs.Slices.{now_of};
 
@@ -130,9 +130,9 @@ fn suffixed(value: Option<u128>, kind: Option<IntegerKind>, is_bare: bool) -> Nu
 }
 
 /// The number that digits of a base are, and what follows them.
-#[tactic(auto, unfolding(crate::specs::Literals::number_in))]
+#[tactic(auto, unfolding(crate::specs::Literals::number_of_digits))]
 fn number_in(text: &[u8], base: u8) -> Number
-    ensures { result ≡ number_in base text.now }
+    ensures { result ≡ number_of_digits base text.now }
 {
     let length = digits_length(text, base);
     let suffix = after(text, length);
@@ -198,7 +198,7 @@ fn letter_code(letter: char) -> Option<u32>
 
 /// A number that is a character's code.
 fn as_code(value: Option<u128>) -> Option<u32>
-    ensures { result ≡ as_code value }
+    ensures { result ≡ code_from value }
 {
     let code = u32::try_from(value?).ok()?;
     if char::from_u32(code).is_some() {
@@ -209,9 +209,9 @@ fn as_code(value: Option<u128>) -> Option<u32>
 }
 
 /// The bytes between a first one and a last one.
-#[tactic(auto, unfolding(crate::specs::Literals::within))]
+#[tactic(auto, unfolding(crate::specs::Literals::bytes_between))]
 pub(crate) fn within(bytes: &[u8], first: u8, last: u8) -> Option<&[u8]>
-    ensures { now_of result ≡ within first last bytes.now }
+    ensures { now_of result ≡ bytes_between first last bytes.now }
 {
     let end = bytes.len();
     if end >= 2 && bytes[0] == first && bytes[end - 1] == last {

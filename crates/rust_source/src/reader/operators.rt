@@ -1,9 +1,9 @@
 //! Operators between operands, and which bind tighter.
 
 ghost use Rattle.std.specs.Prelude.{◌≡◌, ◌+◌, IfErr, IfOk, reverse};
-ghost use Rattle.rust_source.specs.Operators.{all_joined, is_comparison, joined, joined_tighter, last_binds, last_compares, next_operator, of_one, operands_of, operator_put, pair_in, pairs, signed, stands_beside, tightness};
+ghost use Rattle.rust_source.specs.Operators.{all_joined, is_comparison, joined, joined_tighter, last_binds, last_compares, next_operator, of_one, operands_of, operator_put, pair_in, pairs, with_operators, stands_beside, tightness};
 ghost use Rattle.rust_source.specs.Syntax.{expr_of, unary};
-ghost use Rattle.rust_source.specs.Tokens.{Agrees};
+ghost use Rattle.rust_source.specs.Tokens.{Yields};
 
 use crate::fault::{SourceFault, SourceFaultKind};
 use crate::place::Place;
@@ -202,7 +202,7 @@ pub(crate) fn put_operator(
     waiting: &mut Vec<Waiting>,
     by: Waiting,
 ) -> Result<(), SourceFault>
-    ensures { Agrees (λ _. (operands_of operands.new.items, reverse waiting.new.items))
+    ensures { Yields (λ _. (operands_of operands.new.items, reverse waiting.new.items))
         (operator_put cursor.now (operands_of operands.old.items) (reverse waiting.old.items) by) result }
 {
     if is_beside(alloc, operands, waiting, by.operator)? {
@@ -221,7 +221,7 @@ pub(crate) fn join_all(
     operands: Vec<Expr>,
     waiting: Vec<Waiting>,
 ) -> Result<Expr, SourceFault>
-    ensures { Agrees expr_of (all_joined cursor.now (operands_of operands.items) (reverse waiting.items)) result }
+    ensures { Yields expr_of (all_joined cursor.now (operands_of operands.items) (reverse waiting.items)) result }
 {
     let mut operands = operands;
     let mut waiting = waiting;
@@ -247,7 +247,7 @@ pub(crate) fn with_signs(
     operand: Expr,
     signs: Vec<(Unary, Place)>,
 ) -> Result<Expr, SourceFault>
-    ensures ok { IfOk result (λ whole. expr_of whole ≡ signed (expr_of operand) signs.items) }
+    ensures ok { IfOk result (λ whole. expr_of whole ≡ with_operators (expr_of operand) signs.items) }
     ensures err { IfErr result (λ fault. fault.kind ≡ SourceFaultKind.OutOfMemory) }
 {
     let mut signs = signs;

@@ -1,7 +1,7 @@
 //! What is passed over: bounds, angle brackets, and items that make no types.
 
 ghost use Rattle.std.specs.Prelude.{◌≡◌, ◌==◌, ◌&&◌, ◌||◌};
-ghost use Rattle.rust_source.specs.Cursor.{kind_of};
+ghost use Rattle.rust_source.specs.Cursor.{kind_of_token};
 ghost use Rattle.rust_source.specs.Passing.{angles_passed, body_passed, bounds, ends_at_semicolon, ends_bounds, ends_item, is_question, item_passed, names_constant, one_passed, open_behind, semicolon_passed};
 
 use crate::reader::cursor::{
@@ -170,7 +170,7 @@ fn pass_to_body(cursor: &mut Cursor<'_>)
 
 /// Whether a token names a constant.
 fn names_constant(token: Option<Token>) -> bool
-    ensures { result ≡ names_constant (kind_of token) }
+    ensures { result ≡ names_constant (kind_of_token token) }
 {
     match token {
         Some(token) => match token.kind {

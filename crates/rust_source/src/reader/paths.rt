@@ -5,9 +5,9 @@ ghost use Rattle.rust_source.specs.Cursor.{is_next, passed};
 ghost use Rattle.rust_source.specs.Names.{texts};
 ghost use Rattle.rust_source.specs.Reading.{Reads};
 ghost use Rattle.rust_source.specs.Simple.{is_literal};
-ghost use Rattle.rust_source.specs.Tokens.{Agrees};
-ghost use Rattle.rust_source.specs.Syntax.{argument_of, path, path_of, segment_of, segments as segments_of, type_of};
-ghost use Rattle.rust_source.specs.Terms.{argument, argument_behind, argument_more, arguments_begin, arguments_by, arguments_read, constant_read, inner, is_binding, path_read, segment_read};
+ghost use Rattle.rust_source.specs.Tokens.{Yields};
+ghost use Rattle.rust_source.specs.Syntax.{argument_of, path, path_as_read, segment_of, segments as segments_of, type_of};
+ghost use Rattle.rust_source.specs.Terms.{argument, argument_behind, argument_more, arguments_begin, arguments_by, arguments_read, constant_read, readers, is_binding, path_read, segment_read};
 
 use crate::fault::{SourceFault, SourceFaultKind};
 use crate::names::Names;
@@ -47,7 +47,7 @@ fn push_segment(all: &mut Vec<Segment>, one: Segment) -> Result<(), SourceFault>
 
 /// The path of these segments.
 fn path_of(is_global: bool, segments: Vec<Segment>) -> Path
-    ensures { path_of result ≡ path is_global (segments_of (map segment_of segments.items)) }
+    ensures { path_as_read result ≡ path is_global (segments_of (map segment_of segments.items)) }
 {
     Path {
         is_global,
@@ -65,7 +65,7 @@ pub(crate) fn read_path(
     in_type: bool,
     room: u32,
 ) -> Result<Path, SourceFault>
-    ensures { Reads (λ path. (path_of path, cursor.new)) (path_read (inner room) in_type cursor.old (texts names.old)) (texts names.new) result }
+    ensures { Reads (λ path. (path_as_read path, cursor.new)) (path_read (readers room) in_type cursor.old (texts names.old)) (texts names.new) result }
 {
     let is_global = take_pair(cursor, b':', b':');
     let mut segments = Vec::new(alloc);
@@ -90,7 +90,7 @@ fn read_segment(
     in_type: bool,
     room: u32,
 ) -> Result<Segment, SourceFault>
-    ensures { Reads (λ one. (segment_of one, cursor.new)) (segment_read (inner room) in_type cursor.old (texts names.old)) (texts names.new) result }
+    ensures { Reads (λ one. (segment_of one, cursor.new)) (segment_read (readers room) in_type cursor.old (texts names.old)) (texts names.new) result }
 {
     let (name, at) = take_path_name(alloc, names, cursor)?;
     let arguments = read_name_arguments(alloc, names, cursor, in_type, room)?;
@@ -111,7 +111,7 @@ fn read_name_arguments(
     room: u32,
 ) -> Result<Vec<Argument>, SourceFault>
     ensures { Reads (λ all. (map argument_of all.items, cursor.new))
-        (arguments_by (inner room) cursor.old (arguments_begin in_type cursor.old) (texts names.old)) (texts names.new) result }
+        (arguments_by (readers room) cursor.old (arguments_begin in_type cursor.old) (texts names.old)) (texts names.new) result }
 {
     if takes_arguments(cursor, in_type) {
         return read_arguments(alloc, names, cursor, room);
@@ -137,7 +137,7 @@ fn read_arguments(
     cursor: &mut Cursor<'_>,
     room: u32,
 ) -> Result<Vec<Argument>, SourceFault>
-    ensures { Reads (λ all. (map argument_of all.items, cursor.new)) (arguments_read (inner room) cursor.old (texts names.old)) (texts names.new) result }
+    ensures { Reads (λ all. (map argument_of all.items, cursor.new)) (arguments_read (readers room) cursor.old (texts names.old)) (texts names.new) result }
 {
     let mut arguments = Vec::new(alloc);
     let turns = cursor.end.saturating_sub(cursor.at);
@@ -164,7 +164,7 @@ fn add_argument(
     room: u32,
 ) -> Result<(), SourceFault>
     ensures { Reads (λ _. (map argument_of arguments.new.items, cursor.new))
-        (argument_more (inner room) (map argument_of arguments.old.items) cursor.old (texts names.old)) (texts names.new) result }
+        (argument_more (readers room) (map argument_of arguments.old.items) cursor.old (texts names.old)) (texts names.new) result }
 {
     if is_lifetime(cursor) {
         pass(cursor, 1);
@@ -203,7 +203,7 @@ fn begins_constant(cursor: &Cursor<'_>) -> bool
 
 /// The constant that a literal is, with the operators before it.
 fn read_constant(alloc: Global, cursor: &mut Cursor<'_>) -> Result<Argument, SourceFault>
-    ensures { Agrees (λ one. (argument_of one, cursor.new)) (constant_read cursor.old) result }
+    ensures { Yields (λ one. (argument_of one, cursor.new)) (constant_read cursor.old) result }
 {
     Ok(Argument::Const(read_signed(alloc, cursor)?))
 }
@@ -217,7 +217,7 @@ pub(crate) fn read_argument(
     cursor: &mut Cursor<'_>,
     room: u32,
 ) -> Result<Argument, SourceFault>
-    ensures { Reads (λ one. (argument_of one, cursor.new)) (argument (inner room) cursor.old (texts names.old)) (texts names.new) result }
+    ensures { Reads (λ one. (argument_of one, cursor.new)) (argument (readers room) cursor.old (texts names.old)) (texts names.new) result }
 {
     if let Some(mut inside) = take_group(cursor, Bracket::Curly) {
         let value = read_whole(alloc, names, &mut inside, room)?;

@@ -2,10 +2,10 @@
 
 ghost use Rattle.std.specs.Prelude.{◌≡◌, ◌==◌, ◌∷◌, ◌++◌, [], map, Ok, Err, if◌then◌else◌};
 ghost use Rattle.std.specs.List.{list_any};
-ghost use Rattle.rust_source.specs.Items.{field_of, parameter_of, variant_of};
+ghost use Rattle.rust_source.specs.Items.{field_of, parameter_of, variant_as_read};
 ghost use Rattle.rust_source.specs.Reading.{Reads};
 ghost use Rattle.rust_source.specs.Repeated.{field_names, met, none_twice, parameter_names, variant_names};
-ghost use Rattle.rust_source.specs.Tokens.{Agrees};
+ghost use Rattle.rust_source.specs.Tokens.{Yields};
 
 use crate::fault::{SourceFault, SourceFaultKind};
 use crate::item::{Field, FieldName, Parameter, Variant};
@@ -29,7 +29,7 @@ fn meet(seen: &mut IndexSet<u32>, name: Symbol, at: Place) -> Result<(), SourceF
 
 /// A fault at the first field that has the name of one before it.
 pub(crate) fn refuse_repeated_fields(alloc: Global, all: &[Field]) -> Result<(), SourceFault>
-    ensures { Agrees (λ done. done) (none_twice (field_names (map field_of all.now))) result }
+    ensures { Yields (λ done. done) (none_twice (field_names (map field_of all.now))) result }
 {
     let mut seen = IndexSet::new(alloc);
     for field in all {
@@ -42,7 +42,7 @@ pub(crate) fn refuse_repeated_fields(alloc: Global, all: &[Field]) -> Result<(),
 
 /// A fault at the first variant that has the name of one before it.
 pub(crate) fn refuse_repeated_variants(alloc: Global, all: &[Variant]) -> Result<(), SourceFault>
-    ensures { Agrees (λ done. done) (none_twice (variant_names (map variant_of all.now))) result }
+    ensures { Yields (λ done. done) (none_twice (variant_names (map variant_as_read all.now))) result }
 {
     let mut seen = IndexSet::new(alloc);
     for variant in all {
@@ -56,7 +56,7 @@ pub(crate) fn refuse_repeated_parameters(
     alloc: Global,
     all: &[Parameter],
 ) -> Result<(), SourceFault>
-    ensures { Agrees (λ done. done) (none_twice (parameter_names (map parameter_of all.now))) result }
+    ensures { Yields (λ done. done) (none_twice (parameter_names (map parameter_of all.now))) result }
 {
     let mut seen = IndexSet::new(alloc);
     for parameter in all {

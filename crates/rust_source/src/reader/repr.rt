@@ -2,8 +2,8 @@
 
 ghost use Rattle.std.specs.Prelude.{◌≡◌};
 ghost use Rattle.rust_source.specs.Literals.{integer_kind};
-ghost use Rattle.rust_source.specs.Reading.{seen};
-ghost use Rattle.rust_source.specs.Repr.{bytes_in, first_at, integer_by, largest, next_number, with_bytes, with_packed, with_repr, with_word, word_by, word_more};
+ghost use Rattle.rust_source.specs.Reading.{read_as};
+ghost use Rattle.rust_source.specs.Repr.{bytes_in, first_at, integer_by, greater_of, next_number, with_bytes, with_packed, with_repr, with_word, word_by, word_more};
 
 use crate::fault::{SourceFault, SourceFaultKind};
 use crate::item::Repr;
@@ -75,7 +75,7 @@ fn with_packed(asked: Repr, bytes: u64) -> Repr
 
 /// The greater of two numbers, of which one may be missing.
 fn largest(one: Option<u64>, other: u64) -> Option<u64>
-    ensures { result ≡ largest one other }
+    ensures { result ≡ greater_of one other }
 {
     match one {
         Some(one) => Some(one.max(other)),
@@ -156,7 +156,7 @@ fn with_named(
 /// What is asked for with the word more that is next; it is passed over, with its number and a `,`.
 #[tactic(auto, unfolding(crate::specs::Repr::word_more))]
 fn with_next(asked: Repr, inside: &mut Cursor<'_>) -> Result<Repr, SourceFault>
-    ensures { seen (λ asked. (asked, inside.new)) result ≡ word_more asked inside.old }
+    ensures { read_as (λ asked. (asked, inside.new)) result ≡ word_more asked inside.old }
 {
     let before = *inside;
     pass(inside, 1);

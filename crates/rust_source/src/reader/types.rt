@@ -1,12 +1,12 @@
 //! Types.
 
 ghost use Rattle.std.specs.Prelude.{◌≡◌, [], ◌∷◌, ◌++◌, false, IfErr, IfOk, map, if◌then◌else◌};
-ghost use Rattle.rust_source.specs.Reading.{Reads, seen};
+ghost use Rattle.rust_source.specs.Reading.{Reads, read_as};
 ghost use Rattle.rust_source.specs.Names.{texts};
-ghost use Rattle.rust_source.specs.Terms.{inner, is_empty, list_read, target, tuple_read, type_read, type_with};
+ghost use Rattle.rust_source.specs.Terms.{readers, has_none, list_read, pointee_read, tuple_read, type_read, type_next};
 ghost use Rattle.rust_source.specs.Simple.{after_path, associated_passed, before_function, begins_path, function_behind, function_read, lifetime_passed, pointed, pointing, pointing_to, pointings, simple, worded};
-ghost use Rattle.rust_source.specs.Syntax.{other_type, path_of, tuple, type_of, types};
-ghost use Rattle.rust_source.specs.Tokens.{Agrees};
+ghost use Rattle.rust_source.specs.Syntax.{other_type, path_as_read, tuple, type_of, type_list};
+ghost use Rattle.rust_source.specs.Tokens.{Yields};
 ghost use Rattle.rust_source.specs.Cursor.{is_done, place};
 
 use crate::fault::{SourceFault, SourceFaultKind};
@@ -47,7 +47,7 @@ fn pass_lifetime(cursor: &mut Cursor<'_>)
 /// The `&` or `*` that is next, which is passed over with what belongs to it. None where neither is next.
 #[tactic(auto, unfolding(crate::specs::Simple::pointing))]
 fn take_pointing(cursor: &mut Cursor<'_>) -> Result<Option<Pointing>, SourceFault>
-    ensures { seen (λ found. (found, cursor.new)) result ≡ pointing cursor.old }
+    ensures { read_as (λ found. (found, cursor.new)) result ≡ pointing cursor.old }
 {
     if take(cursor, b'&') {
         pass_lifetime(cursor);
@@ -67,7 +67,7 @@ fn take_pointing(cursor: &mut Cursor<'_>) -> Result<Option<Pointing>, SourceFaul
 /// What stands before a type, which is passed over.
 #[tactic(auto, unfolding(crate::specs::Simple::pointings), using(crate::proofs::Turns::pointings_more, crate::proofs::Turns::pointings_done))]
 fn take_all_pointing(alloc: Global, cursor: &mut Cursor<'_>) -> Result<Vec<Pointing>, SourceFault>
-    ensures { Agrees (λ all. (all.items, cursor.new)) (pointings cursor.old) result }
+    ensures { Yields (λ all. (all.items, cursor.new)) (pointings cursor.old) result }
 {
     let mut all = Vec::new(alloc);
     let turns = most_nested();
@@ -82,7 +82,7 @@ fn take_all_pointing(alloc: Global, cursor: &mut Cursor<'_>) -> Result<Vec<Point
 
 /// The type that points to another one.
 fn pointing_to(alloc: Global, target: Type, pointing: Pointing) -> Result<Type, SourceFault>
-    ensures ok { IfOk result (λ whole. type_of whole ≡ pointing_to (type_of target) pointing) }
+    ensures ok { IfOk result (λ whole. type_of whole ≡ pointing_to (type_of pointee_read) pointing) }
     ensures err { IfErr result (λ fault. fault.kind ≡ SourceFaultKind.OutOfMemory) }
 {
     let target = Box::new(alloc, target)?;
@@ -95,7 +95,7 @@ fn pointing_to(alloc: Global, target: Type, pointing: Pointing) -> Result<Type, 
 /// The type with what stands before it, of which the last is the nearest.
 #[tactic(auto, using(crate::proofs::Pointed::pointed_last))]
 fn pointed(alloc: Global, target: Type, pointing: Vec<Pointing>) -> Result<Type, SourceFault>
-    ensures ok { IfOk result (λ whole. type_of whole ≡ pointed (type_of target) pointing.items) }
+    ensures ok { IfOk result (λ whole. type_of whole ≡ pointed (type_of pointee_read) pointing.items) }
     ensures err { IfErr result (λ fault. fault.kind ≡ SourceFaultKind.OutOfMemory) }
 {
     let mut pointing = pointing;
@@ -144,7 +144,7 @@ fn pass_before_function(cursor: &mut Cursor<'_>)
 /// A function pointer, behind its `fn`. What it gives is passed over.
 #[tactic(auto, unfolding(crate::specs::Simple::function_behind, crate::specs::Cursor::is_group, crate::specs::Cursor::inside))]
 fn take_behind_fn(cursor: &mut Cursor<'_>) -> Result<Type, SourceFault>
-    ensures { seen (λ ty. (type_of ty, cursor.new)) result ≡ function_behind cursor.old }
+    ensures { read_as (λ ty. (type_of ty, cursor.new)) result ≡ function_behind cursor.old }
 {
     if take_group(cursor, Bracket::Round).is_none() {
         return Err(fault(cursor, SourceFaultKind::ExpectedType));
@@ -158,7 +158,7 @@ fn take_behind_fn(cursor: &mut Cursor<'_>) -> Result<Type, SourceFault>
 /// A function pointer, or a trait behind `for<'a>`. What it gives is passed over.
 #[tactic(auto, unfolding(crate::specs::Simple::function_read))]
 fn take_function(cursor: &mut Cursor<'_>) -> Result<Type, SourceFault>
-    ensures { seen (λ ty. (type_of ty, cursor.new)) result ≡ function_read cursor.old }
+    ensures { read_as (λ ty. (type_of ty, cursor.new)) result ≡ function_read cursor.old }
 {
     pass_before_function(cursor);
     if take_word(cursor, Keyword::Fn) {
@@ -170,7 +170,7 @@ fn take_function(cursor: &mut Cursor<'_>) -> Result<Type, SourceFault>
 
 /// A type that begins with this keyword, and is no path.
 fn take_worded(cursor: &mut Cursor<'_>, first: Keyword) -> Result<Type, SourceFault>
-    ensures { seen (λ ty. (type_of ty, cursor.new)) result ≡ worded cursor.old first }
+    ensures { read_as (λ ty. (type_of ty, cursor.new)) result ≡ worded cursor.old first }
 {
     let at = place(cursor);
     match first {
@@ -194,7 +194,7 @@ fn take_worded(cursor: &mut Cursor<'_>, first: Keyword) -> Result<Type, SourceFa
 /// A type that has no types within it that are read, and is no path.
 #[tactic(auto, unfolding(crate::specs::Simple::simple))]
 fn take_simple(cursor: &mut Cursor<'_>) -> Result<Type, SourceFault>
-    ensures { seen (λ ty. (type_of ty, cursor.new)) result ≡ simple cursor.old }
+    ensures { read_as (λ ty. (type_of ty, cursor.new)) result ≡ simple cursor.old }
 {
     match next_kind(cursor) {
         Some(TokenKind::Punct(b'!')) => {
@@ -214,7 +214,7 @@ fn take_simple(cursor: &mut Cursor<'_>) -> Result<Type, SourceFault>
 /// The type that a path is, or the call of the macro that it names.
 #[tactic(auto, unfolding(crate::specs::Simple::after_path))]
 fn after_path(cursor: &mut Cursor<'_>, path: Path, at: Place) -> Type
-    ensures { (type_of result, cursor.new) ≡ after_path cursor.old (path_of path) at }
+    ensures { (type_of result, cursor.new) ≡ after_path cursor.old (path_as_read path) at }
 {
     if take(cursor, b'!') {
         pass_tree(cursor);
@@ -249,14 +249,14 @@ pub(crate) fn read_type(
 
 /// A type with the `&` and `*` before it.
 #[cycle(terms)]
-#[tactic(auto, unfolding(crate::specs::Terms::type_with))]
+#[tactic(auto, unfolding(crate::specs::Terms::type_next))]
 fn read_pointed(
     alloc: Global,
     names: &mut Names,
     cursor: &mut Cursor<'_>,
     room: u32,
 ) -> Result<Type, SourceFault>
-    ensures { Reads (λ ty. (type_of ty, cursor.new)) (type_with (inner room) cursor.old (texts names.old)) (texts names.new) result }
+    ensures { Reads (λ ty. (type_of ty, cursor.new)) (type_next (readers room) cursor.old (texts names.old)) (texts names.new) result }
 {
     let pointing = take_all_pointing(alloc, cursor)?;
     let target = read_target(alloc, names, cursor, room)?;
@@ -265,14 +265,14 @@ fn read_pointed(
 
 /// A type that no `&` or `*` stands before.
 #[cycle(terms)]
-#[tactic(auto, unfolding(crate::specs::Terms::target))]
+#[tactic(auto, unfolding(crate::specs::Terms::pointee_read))]
 fn read_target(
     alloc: Global,
     names: &mut Names,
     cursor: &mut Cursor<'_>,
     room: u32,
 ) -> Result<Type, SourceFault>
-    ensures { Reads (λ ty. (type_of ty, cursor.new)) (target (inner room) cursor.old (texts names.old)) (texts names.new) result }
+    ensures { Reads (λ ty. (type_of ty, cursor.new)) (pointee_read (readers room) cursor.old (texts names.old)) (texts names.new) result }
 {
     if let Some(mut inside) = take_group(cursor, Bracket::Round) {
         return read_tuple(alloc, names, &mut inside, room);
@@ -290,14 +290,14 @@ fn read_target(
 
 /// Whether the first of the types is all that stands in its parentheses.
 fn is_alone(before: &Vec<Type>, inside: &Cursor<'_>) -> bool
-    ensures { result ≡ (if is_empty (map type_of before.now.items) then is_done inside.now else false) }
+    ensures { result ≡ (if has_none (map type_of before.now.items) then is_done inside.now else false) }
 {
     before.is_empty() && is_done(inside)
 }
 
 /// The type of these types together.
 fn tuple(all: Vec<Type>) -> Type
-    ensures { type_of result ≡ tuple (types (map type_of all.items)) }
+    ensures { type_of result ≡ tuple (type_list (map type_of all.items)) }
 {
     Type::Tuple(all)
 }
@@ -320,7 +320,7 @@ fn read_tuple(
     inside: &mut Cursor<'_>,
     room: u32,
 ) -> Result<Type, SourceFault>
-    ensures { Reads type_of (tuple_read (inner room) inside.old (texts names.old)) (texts names.new) result }
+    ensures { Reads type_of (tuple_read (readers room) inside.old (texts names.old)) (texts names.new) result }
 {
     let mut all = Vec::new(alloc);
     let turns = inside.end.saturating_sub(inside.at);
@@ -347,7 +347,7 @@ fn read_list(
     inside: &mut Cursor<'_>,
     room: u32,
 ) -> Result<Type, SourceFault>
-    ensures { Reads type_of (list_read (inner room) inside.old (texts names.old)) (texts names.new) result }
+    ensures { Reads type_of (list_read (readers room) inside.old (texts names.old)) (texts names.new) result }
 {
     let element = Box::new(alloc, read_type(alloc, names, inside, room)?)?;
     if is_done(inside) {

@@ -6,7 +6,7 @@ ghost use Rattle.rust_source.specs.Growth.{BeginsWith};
 ghost use Rattle.rust_source.specs.Items.{use_of};
 ghost use Rattle.rust_source.specs.Names.{texts};
 ghost use Rattle.rust_source.specs.Reading.{Reads};
-ghost use Rattle.rust_source.specs.Uses.{begins_globally, glob, group_read, is_self, last, names_read, path_used, used_place, rename_read, tree_on, tree_read, tree_with, without_self};
+ghost use Rattle.rust_source.specs.Uses.{begins_globally, glob, group_read, is_named_self, last, names_read, path_used, used_place, rename_read, tree_on, tree_read, tree_with, without_self};
 
 use crate::fault::{SourceFault, SourceFaultKind};
 use crate::item::{Use, UsedName};
@@ -60,7 +60,7 @@ fn last_name(path: &Vec<UsedName>) -> Option<UsedName>
 
 /// Whether a name is `self`.
 fn is_self(name: Option<UsedName>) -> bool
-    ensures { result ≡ is_self name }
+    ensures { result ≡ is_named_self name }
 {
     match name {
         Some(name) => name.name == Symbol::SELF,

@@ -1,7 +1,7 @@
 //! Brackets and their partners.
 
 ghost use Rattle.std.specs.Prelude.{◌≡◌, ◌+◌, ◌-◌, ◌≤◌, ◌^◌, length, slice_get};
-ghost use Rattle.rust_source.specs.Tokens.{Agrees, all_closed, group_closed, group_opened, is_same, put, with_partner};
+ghost use Rattle.rust_source.specs.Tokens.{Yields, all_closed, group_closed, group_opened, is_same, token_put, with_partner};
 
 use crate::fault::{SourceFault, SourceFaultKind};
 use crate::tokens::token::{Bracket, Token, TokenKind};
@@ -63,7 +63,7 @@ fn open_group(
     bracket: Bracket,
 ) -> Result<(), SourceFault>
     requires { length found.old.items ≤ 2 ^ 30 }
-    ensures same { Agrees (λ _. (found.new.items, «open».new.items))
+    ensures same { Yields (λ _. (found.new.items, «open».new.items))
         (group_opened (found.old.items, «open».old.items) token bracket) result }
     ensures longer { length found.new.items ≤ length found.old.items + 1 }
 {
@@ -90,7 +90,7 @@ fn close_group(
 ) -> Result<(), SourceFault>
     requires { length found.old.items ≤ 2 ^ 30 }
     ensures same { let last = slice_get «open».old.items (length «open».old.items - 1) in
-        Agrees (λ _. (found.new.items, «open».new.items))
+        Yields (λ _. (found.new.items, «open».new.items))
         (group_closed (found.old.items, «open».old.items) token bracket last) result }
     ensures longer { length found.new.items ≤ length found.old.items + 1 }
 {
@@ -111,15 +111,15 @@ fn close_group(
 }
 
 /// Puts a token behind those that are found, and keeps which brackets are open.
-#[tactic(auto, unfolding(crate::specs::Tokens::put))]
+#[tactic(auto, unfolding(crate::specs::Tokens::token_put))]
 pub(crate) fn put(
     found: &mut Vec<Token>,
     open: &mut Vec<Opened>,
     token: Token,
 ) -> Result<(), SourceFault>
     requires { length found.old.items ≤ 2 ^ 30 }
-    ensures same { Agrees (λ _. (found.new.items, «open».new.items))
-        (put (found.old.items, «open».old.items) token) result }
+    ensures same { Yields (λ _. (found.new.items, «open».new.items))
+        (token_put (found.old.items, «open».old.items) token) result }
     ensures longer { length found.new.items ≤ length found.old.items + 1 }
 {
     match token.kind {
@@ -135,7 +135,7 @@ pub(crate) fn put(
 /// The tokens, where no bracket is open at the end.
 pub(crate) fn close_all(found: Vec<Token>, open: &Vec<Opened>) -> Result<Vec<Token>, SourceFault>
     ensures { let last = slice_get «open».now.items (length «open».now.items - 1) in
-        Agrees (λ tokens. tokens.items) (all_closed found.items last) result }
+        Yields (λ tokens. tokens.items) (all_closed found.items last) result }
 {
     match last_open(open) {
         Some(opened) => Err(fault_at(opened.start as usize, SourceFaultKind::UnmatchedBracket)),

@@ -1,7 +1,7 @@
 //! Strings, characters and lifetimes.
 
 ghost use Rattle.std.specs.Prelude.{◌≡◌, ◌+◌, ◌<◌, ◌≤◌, ◌^◌, IfOk, IfSome, length};
-ghost use Rattle.rust_source.specs.Quoted.{byte_token, closed, escaped_length, escapes, is_end, hashes_with, lifetime, prefixed_token, quote_token, raw_end, raw_name, raw_token, string_token};
+ghost use Rattle.rust_source.specs.Quoted.{byte_token, token_closed, escaped_length, escapes, is_end, hashes_with, lifetime, prefixed_token, quote_token, raw_end, raw_name, raw_token, string_token};
 
 use crate::fault::SourceFaultKind;
 use crate::tokens::characters::{after, byte_at, first_char, name_length};
@@ -74,7 +74,7 @@ pub(crate) type Lexed = Result<(TokenKind, usize), SourceFaultKind>;
 /// The token of this kind, where its end was found behind `before` bytes.
 fn closed(kind: TokenKind, before: usize, length: Option<usize>) -> Lexed
     requires { IfSome length (λ bytes. before + bytes < 2 ^ 64) }
-    ensures { result ≡ closed kind before length }
+    ensures { result ≡ token_closed kind before length }
 {
     match length {
         Some(length) => Ok((kind, before + length)),

@@ -30,7 +30,7 @@ use Rattle.reference.proofs.Variants.{known_aligned}
 use Rattle.reference.proofs.Small.{laid_by_size, laid_c_union, laid_scalar, laid_unit}
 use Rattle.reference.proofs.Sections.{given}
 use Rattle.reference.proofs.Sections as sections
-use Rattle.reference.specs.Chapter.{HasLayout}
+use Rattle.reference.specs.Chapter.{LiesAs}
 use Rattle.reference.proofs.documented.lay_out_as_documented.Goals as goal
 
 pub returns-clause-properties : goal.returns-clause-properties
@@ -86,13 +86,13 @@ returns-clause-c c unpadded =
 pub returns-clause-option : goal.returns-clause-option
 returns-clause-option c unpadded =
     sections.option c.args.dl.now (tree_of c.args.tree.now) c.lay_out.result
-    (given c.args.dl.now (tree_of c.args.tree.now) (OfOption c.args.dl.now (HasLayout c.args.dl.now) IsAsLarge) c.lay_out.result (each_inner_if c.args.dl.now (tree_of c.args.tree.now) (c.args.dl.now.aggregate_align ≡ 0) (OfOption c.args.dl.now (λ t p. IsLaying c.args.dl.now t (Ok p)) IsAsLarge)
+    (given c.args.dl.now (tree_of c.args.tree.now) (OfOption c.args.dl.now (LiesAs c.args.dl.now) IsAsLarge) c.lay_out.result (each_inner_if c.args.dl.now (tree_of c.args.tree.now) (c.args.dl.now.aggregate_align ≡ 0) (OfOption c.args.dl.now (λ t p. IsLaying c.args.dl.now t (Ok p)) IsAsLarge)
     (known_size c.args.dl.now) c.lay_out.result
     (each_only c.args.dl.now (tree_of c.args.tree.now) c.lay_out.result c.lay_out.ensures.one_each c.lay_out.ensures.parts) c.lay_out.ensures.each_layout) unpadded)
-    (given c.args.dl.now (tree_of c.args.tree.now) (OfOption c.args.dl.now (HasLayout c.args.dl.now) (IsNoneZero c.args.dl.now)) c.lay_out.result (each_inner_if c.args.dl.now (tree_of c.args.tree.now) (c.args.dl.now.aggregate_align ≡ 0) (OfOption c.args.dl.now (λ t p. IsLaying c.args.dl.now t (Ok p)) (IsNoneZero c.args.dl.now))
+    (given c.args.dl.now (tree_of c.args.tree.now) (OfOption c.args.dl.now (LiesAs c.args.dl.now) (IsNoneZero c.args.dl.now)) c.lay_out.result (each_inner_if c.args.dl.now (tree_of c.args.tree.now) (c.args.dl.now.aggregate_align ≡ 0) (OfOption c.args.dl.now (λ t p. IsLaying c.args.dl.now t (Ok p)) (IsNoneZero c.args.dl.now))
     (known_none c.args.dl.now) c.lay_out.result
     (each_only c.args.dl.now (tree_of c.args.tree.now) c.lay_out.result c.lay_out.ensures.one_each c.lay_out.ensures.parts) c.lay_out.ensures.each_layout) unpadded)
-    (given c.args.dl.now (tree_of c.args.tree.now) (OfOption c.args.dl.now (HasLayout c.args.dl.now) (IsSomeAlike c.args.dl.now)) c.lay_out.result (each_inner_if c.args.dl.now (tree_of c.args.tree.now) (c.args.dl.now.aggregate_align ≡ 0) (OfOption c.args.dl.now (λ t p. IsLaying c.args.dl.now t (Ok p)) (IsSomeAlike c.args.dl.now))
+    (given c.args.dl.now (tree_of c.args.tree.now) (OfOption c.args.dl.now (LiesAs c.args.dl.now) (IsSomeAlike c.args.dl.now)) c.lay_out.result (each_inner_if c.args.dl.now (tree_of c.args.tree.now) (c.args.dl.now.aggregate_align ≡ 0) (OfOption c.args.dl.now (λ t p. IsLaying c.args.dl.now t (Ok p)) (IsSomeAlike c.args.dl.now))
     (known_some c.args.dl.now) c.lay_out.result
     (each_only c.args.dl.now (tree_of c.args.tree.now) c.lay_out.result c.lay_out.ensures.one_each c.lay_out.ensures.parts) c.lay_out.ensures.each_layout) unpadded)
 
@@ -102,7 +102,7 @@ returns-clause-repr_c_enum c premise =
 
 pub returns-clause-repr_alignment_packed : goal.returns-clause-repr_alignment_packed
 returns-clause-repr_alignment_packed c premise =
-    given c.args.dl.now (tree_of c.args.tree.now) (IsPackedWide (HasLayout c.args.dl.now)) c.lay_out.result (each_beside_if c.args.dl.now (tree_of c.args.tree.now) (c.args.dl.now.aggregate_align ≡ 0) (IsPackedWide (λ t p. IsLaying c.args.dl.now t (Ok p))) (λ given law. only_wide c.args.dl.now law given) c.lay_out.result c.lay_out.ensures.lawful
+    given c.args.dl.now (tree_of c.args.tree.now) (IsPackedWide (LiesAs c.args.dl.now)) c.lay_out.result (each_beside_if c.args.dl.now (tree_of c.args.tree.now) (c.args.dl.now.aggregate_align ≡ 0) (IsPackedWide (λ t p. IsLaying c.args.dl.now t (Ok p))) (λ given law. only_wide c.args.dl.now law given) c.lay_out.result c.lay_out.ensures.lawful
     (each_only c.args.dl.now (tree_of c.args.tree.now) c.lay_out.result c.lay_out.ensures.one_each c.lay_out.ensures.parts)) premise
 
 pub returns-clause-repr_transparent_layout_abi : goal.returns-clause-repr_transparent_layout_abi

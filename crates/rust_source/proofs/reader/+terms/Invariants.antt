@@ -4,7 +4,7 @@ use Rattle.rust_source.specs.Names.{texts}
 use Rattle.rust_source.specs.Operators.{operands_of}
 use Rattle.rust_source.specs.Simple.{most_nested}
 use Rattle.rust_source.specs.Syntax.{argument_of, expr_of, segment_of, type_of}
-use Rattle.rust_source.specs.Terms.{arguments_from, arguments_read, cast_from, expr_from, expr_with, inner, path_from, path_read, tuple_from, tuple_read, values, values_from}
+use Rattle.rust_source.specs.Terms.{arguments_from, arguments_read, cast_from, expr_from, expr_with, readers, path_from, path_read, tuple_behind, tuple_read, expressions_in, values_from}
 use Rattle.rust_source.proofs.reader.+terms.Given as goal
 
 abbrev pub decreases-types::read_type : goal.decreases-types::read_type
@@ -81,28 +81,28 @@ decreases-expressions::read_values l = 32 * l.room + 1
 
 abbrev pub invariant-types::read_tuple-loop-turn : goal.invariant-types::read_tuple-loop-turn
 invariant-types::read_tuple-loop-turn l =
-    tuple_from (inner l.room) (l.turns - l.turn) (map type_of l.all.items) l.inside (texts l.names) ≡ tuple_read (inner l.room) l.fn.inside (texts l.fn.names)
+    tuple_behind (readers l.room) (l.turns - l.turn) (map type_of l.all.items) l.inside (texts l.names) ≡ tuple_read (readers l.room) l.fn.inside (texts l.fn.names)
 
 abbrev pub invariant-paths::read_path-loop-turn : goal.invariant-paths::read_path-loop-turn
 invariant-paths::read_path-loop-turn l =
-    path_from (inner l.room) l.in_type l.is_global (l.turns - l.turn) (map segment_of l.segments.items) l.cursor (texts l.names)
-    ≡ path_read (inner l.room) l.in_type l.fn.cursor (texts l.fn.names)
+    path_from (readers l.room) l.in_type l.is_global (l.turns - l.turn) (map segment_of l.segments.items) l.cursor (texts l.names)
+    ≡ path_read (readers l.room) l.in_type l.fn.cursor (texts l.fn.names)
 
 abbrev pub invariant-paths::read_arguments-loop-turn : goal.invariant-paths::read_arguments-loop-turn
 invariant-paths::read_arguments-loop-turn l =
-    arguments_from (inner l.room) (l.turns - l.turn) (map argument_of l.arguments.items) l.cursor (texts l.names)
-    ≡ arguments_read (inner l.room) l.fn.cursor (texts l.fn.names)
+    arguments_from (readers l.room) (l.turns - l.turn) (map argument_of l.arguments.items) l.cursor (texts l.names)
+    ≡ arguments_read (readers l.room) l.fn.cursor (texts l.fn.names)
 
 abbrev pub invariant-expressions::read_joined-loop-turn : goal.invariant-expressions::read_joined-loop-turn
 invariant-expressions::read_joined-loop-turn l =
-    expr_from (inner l.room) (l.turns - l.turn) (operands_of l.operands.items) (reverse l.waiting.items) l.cursor (texts l.names)
-    ≡ expr_with (inner l.room) l.fn.cursor (texts l.fn.names)
+    expr_from (readers l.room) (l.turns - l.turn) (operands_of l.operands.items) (reverse l.waiting.items) l.cursor (texts l.names)
+    ≡ expr_with (readers l.room) l.fn.cursor (texts l.fn.names)
 
 abbrev pub invariant-expressions::read_casts-loop-turn : goal.invariant-expressions::read_casts-loop-turn
 invariant-expressions::read_casts-loop-turn l =
-    cast_from (inner l.room) (l.turns - l.turn) (expr_of l.operand) l.cursor (texts l.names)
-    ≡ cast_from (inner l.room) most_nested (expr_of l.fn.operand) l.fn.cursor (texts l.fn.names)
+    cast_from (readers l.room) (l.turns - l.turn) (expr_of l.operand) l.cursor (texts l.names)
+    ≡ cast_from (readers l.room) most_nested (expr_of l.fn.operand) l.fn.cursor (texts l.fn.names)
 
 abbrev pub invariant-expressions::read_values-loop-turn : goal.invariant-expressions::read_values-loop-turn
 invariant-expressions::read_values-loop-turn l =
-    values_from (inner l.room) (l.turns - l.turn) (map expr_of l.all.items) l.inside (texts l.names) ≡ values (inner l.room) l.fn.inside (texts l.fn.names)
+    values_from (readers l.room) (l.turns - l.turn) (map expr_of l.all.items) l.inside (texts l.names) ≡ expressions_in (readers l.room) l.fn.inside (texts l.fn.names)

@@ -1,14 +1,14 @@
 -- What was there stays in front, and what is read so far goes on to the whole.
 use Rattle.std.proofs.Common.{◌≡◌, ◌-◌}
 use Rattle.rust_source.specs.Constants.{own_from, own_items}
-use Rattle.rust_source.specs.Growth.{Keeps}
-use Rattle.rust_source.specs.Items.{items_of}
+use Rattle.rust_source.specs.Growth.{KeepsItems}
+use Rattle.rust_source.specs.Items.{items_as_read}
 use Rattle.rust_source.specs.Names.{texts}
 use Rattle.rust_source.proofs.reader.constants.read_own_items.Given as goal
 
 abbrev pub invariant-loop-turn : goal.invariant-loop-turn
 invariant-loop-turn l = record {
-  kept : Keeps l.initial.items l.items;
-  same : own_from l.rules (l.turns - l.turn) l.«module» l.owner l.inside (texts l.names, items_of l.items)
-      ≡ own_items l.rules l.«module» l.owner l.fn.inside (texts l.fn.names, items_of l.fn.items);
+  kept : KeepsItems l.initial.items l.items;
+  same : own_from l.rules (l.turns - l.turn) l.«module» l.owner l.inside (texts l.names, items_as_read l.items)
+      ≡ own_items l.rules l.«module» l.owner l.fn.inside (texts l.fn.names, items_as_read l.fn.items);
 }

@@ -1,7 +1,7 @@
 -- A module within another is read within less room, what was there stays in front, and what is read goes on to the whole.
 use Rattle.std.proofs.Common.{◌≡◌, ◌+◌, ◌-◌, ◌*◌}
-use Rattle.rust_source.specs.Growth.{Keeps}
-use Rattle.rust_source.specs.Items.{items_of}
+use Rattle.rust_source.specs.Growth.{KeepsItems}
+use Rattle.rust_source.specs.Items.{items_as_read}
 use Rattle.rust_source.specs.Modules.{all_from, all_read, module_within}
 use Rattle.rust_source.specs.Names.{texts}
 use Rattle.rust_source.proofs.reader.items.+modules.Given as goal
@@ -26,7 +26,7 @@ decreases-read_all l = 8 * l.room + 5
 
 abbrev pub invariant-read_all-loop-turn : goal.invariant-read_all-loop-turn
 invariant-read_all-loop-turn l = record {
-  kept : Keeps l.initial.items l.items;
-  same : all_from l.rules (module_within l.rules l.room) (l.turns - l.turn) l.«module» l.cursor (texts l.names, items_of l.items)
-      ≡ all_read l.rules (module_within l.rules l.room) l.«module» l.fn.cursor (texts l.fn.names, items_of l.fn.items);
+  kept : KeepsItems l.initial.items l.items;
+  same : all_from l.rules (module_within l.rules l.room) (l.turns - l.turn) l.«module» l.cursor (texts l.names, items_as_read l.items)
+      ≡ all_read l.rules (module_within l.rules l.room) l.«module» l.fn.cursor (texts l.fn.names, items_as_read l.fn.items);
 }
