@@ -7,7 +7,7 @@ use rust_source::{IntegerKind, Place, SourceFault, SourceFaultKind, Symbol, Unev
 use rustc_abi::LayError;
 use std::alloc::{AllocError, AllocFailed};
 
-/// Where a fault stands.
+/// Where a fault stands, in bytes from the beginning of a text that the caller handed in.
 #[derive(Clone, Copy, PartialEq, Eq)]
 pub enum FaultPlace {
     /// Behind this many bytes of the file.
@@ -18,7 +18,7 @@ pub enum FaultPlace {
     Nowhere,
 }
 
-/// What is wrong.
+/// What is wrong with a source, or with a type of it.
 #[derive(Clone, Copy)]
 pub enum FaultKind {
     /// A growth of memory was refused, which says nothing of the source.
@@ -87,7 +87,7 @@ pub enum FaultKind {
     Layout(LayError),
 }
 
-/// What is wrong, and where.
+/// What is wrong with a source or a type of it, and at which byte.
 #[derive(Clone, Copy)]
 pub struct Fault {
     /// Where it stands.

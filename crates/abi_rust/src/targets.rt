@@ -2,7 +2,7 @@
 
 use rust_source::{CfgTarget, Family};
 
-/// A target.
+/// A target of the compiler's, with what its types' layouts depend on (`docs/TARGETS.md`).
 #[derive(Clone, Copy)]
 pub struct Target {
     /// Its triple, as `x86_64-unknown-linux-gnu`.
@@ -449,7 +449,7 @@ pub static TARGETS: [Target; 36] = [
     },
 ];
 
-/// The target of this triple.
+/// The target of this triple, of those in `TARGETS`. None for any other text.
 pub fn target_named(triple: &str) -> Option<&'static Target> {
     for target in &TARGETS {
         if target.triple == triple {

@@ -6,6 +6,7 @@ mod ItemFacts
 mod ItemTurns
 mod ModuleTurns
 mod NameTexts
+pub mod Joining
 mod Operators
 mod Pointed
 mod Rooms

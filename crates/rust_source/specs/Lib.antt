@@ -17,6 +17,7 @@ pub mod Reading
 pub mod Repr
 pub mod Simple
 pub mod Terms
+pub mod Joining
 pub mod Cfg
 pub mod Attributes
 pub mod Items

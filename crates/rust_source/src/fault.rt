@@ -5,7 +5,7 @@ ghost use Rattle.std.specs.Prelude.{◌<◌, length};
 use crate::place::Place;
 use std::alloc::{AllocError, AllocFailed};
 
-/// What is wrong in a source.
+/// What is wrong in a source: of several faults the first, as the source is read.
 #[derive(Clone, Copy, PartialEq, Eq)]
 pub enum SourceFaultKind {
     /// A growth of memory was refused, which says nothing of the source. Its place says nothing either.

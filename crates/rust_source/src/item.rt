@@ -26,7 +26,7 @@ pub struct Repr {
     pub align: Option<u64>,
 }
 
-/// The name of a field.
+/// The name of a field of a struct, a union or a variant.
 #[derive(Clone, Copy, PartialEq, Eq)]
 pub enum FieldName {
     /// As it is written.
@@ -35,7 +35,7 @@ pub enum FieldName {
     Numbered(u32),
 }
 
-/// A field.
+/// A field as it is declared, with the places that faults and answers point at.
 #[derive(Drop)]
 pub struct Field {
     /// Its name.
@@ -58,7 +58,7 @@ pub struct Fields {
     pub all: Vec<Field>,
 }
 
-/// A variant of an enum.
+/// A variant of an enum, with its fields and the discriminant that is written (Rust Reference, "Enumerations").
 #[derive(Drop)]
 pub struct Variant {
     pub name: Symbol,
@@ -93,7 +93,7 @@ pub struct Enum {
     pub variants: Vec<Variant>,
 }
 
-/// A constant's type and value.
+/// The type and the value of a constant, of a module's or of a type's own.
 #[derive(Drop)]
 pub struct Const {
     pub ty: Type,
@@ -103,7 +103,7 @@ pub struct Const {
     pub owner: Option<u32>,
 }
 
-/// What an item is.
+/// What an item defines: a type, another name of one, or a constant (Rust Reference, "Items").
 #[derive(Drop)]
 pub enum ItemKind {
     Struct(Fields),
@@ -153,7 +153,7 @@ pub struct Use {
     pub is_glob: bool,
 }
 
-/// A module.
+/// A module of a source, by its name and the one around it (Rust Reference, "Modules").
 #[derive(Clone, Copy, PartialEq, Eq)]
 pub struct Module {
     /// Its name; of a source's root that of the source.

@@ -23,6 +23,7 @@ mod written;
 ghost use Rattle.std.specs.Prelude.{◌≡◌, [], IfOk, length};
 ghost use Rattle.rust_source.specs.Growth.{KeepsItems};
 ghost use Rattle.rust_source.specs.Items.{items_as_read, no_items};
+ghost use Rattle.rust_source.specs.Joining.{OperatorsBindByStrength};
 ghost use Rattle.rust_source.specs.Names.{texts};
 ghost use Rattle.rust_source.specs.Reading.{Reads};
 ghost use Rattle.rust_source.specs.Simple.{most_nested};
@@ -59,7 +60,7 @@ pub struct Source<'a> {
 }
 
 impl Items {
-    /// Nothing read.
+    /// What sources have of which nothing is read yet. No memory is asked for.
     pub fn new(alloc: Global) -> Items
         ensures modules { result.modules.items ≡ [] }
         ensures items { result.items.items ≡ [] }
@@ -152,7 +153,8 @@ pub fn read_type(
     text: &str,
     start: Place,
 ) -> Result<Type, SourceFault>
-    ensures { MeansType text.now start.0 (texts names.old) (texts names.new) result }
+    ensures means { MeansType text.now start.0 (texts names.old) (texts names.new) result }
+    ensures strength { OperatorsBindByStrength }
 {
     let found = tokens_at(alloc, text, start)?;
     let mut cursor = beginning(text, start, &found);

@@ -19,7 +19,7 @@ pub enum IntegerKind {
     Usize,
 }
 
-/// What this reader doesn't evaluate.
+/// What stands where a type or a value is needed, and isn't evaluated: the fault there tells which it was.
 #[derive(Clone, Copy, PartialEq, Eq)]
 pub enum Unevaluated {
     /// A macro's call.
@@ -35,7 +35,7 @@ pub enum Unevaluated {
     Expression,
 }
 
-/// A type, as it is written.
+/// A type as it is written, before any name in it is resolved (Rust Reference, "Types").
 #[cycle(syntax)]
 #[derive(Drop)]
 pub enum Type {
@@ -71,7 +71,7 @@ pub struct Path {
     pub segments: Vec<Segment>,
 }
 
-/// A name of a path.
+/// One name of a path, with what it is given in angle brackets (Rust Reference, "Paths").
 #[cycle(syntax)]
 #[derive(Drop)]
 pub struct Segment {
@@ -83,7 +83,7 @@ pub struct Segment {
     pub arguments: Vec<Argument>,
 }
 
-/// What a parameter is given.
+/// What one parameter of a generic item is given, as it is written.
 #[cycle(syntax)]
 #[derive(Drop)]
 pub enum Argument {
@@ -95,7 +95,7 @@ pub enum Argument {
     Binding(Place),
 }
 
-/// An operator before its operand.
+/// An operator that stands before its operand (Rust Reference, "Operator expressions").
 #[derive(Clone, Copy, PartialEq, Eq)]
 pub enum Unary {
     /// `-`
@@ -104,7 +104,7 @@ pub enum Unary {
     Not,
 }
 
-/// An operator between its operands.
+/// An operator that stands between its operands (Rust Reference, "Operator expressions").
 #[derive(Clone, Copy, PartialEq, Eq)]
 pub enum Binary {
     Add,
@@ -129,7 +129,7 @@ pub enum Binary {
     Or,
 }
 
-/// An expression, as it is written.
+/// An expression as it is written, of those that a length, a discriminant or a constant may be made of here.
 #[cycle(syntax)]
 #[derive(Drop)]
 pub enum Expr {

@@ -1,6 +1,6 @@
 //! What `cfg` asks of a target.
 
-/// The family of a target's system.
+/// The family of a target's system, for which `unix` and `windows` ask.
 #[derive(Clone, Copy, PartialEq, Eq)]
 pub enum Family {
     Unix,
@@ -10,7 +10,7 @@ pub enum Family {
     Neither,
 }
 
-/// What `cfg` asks of a target.
+/// What the predicates of `cfg` are told of a target (Rust Reference, "Conditional compilation").
 #[derive(Clone, Copy)]
 pub struct CfgTarget<'a> {
     /// `target_pointer_width`, in bits.

@@ -82,7 +82,7 @@ fn take_all_pointing(alloc: Global, cursor: &mut Cursor<'_>) -> Result<Vec<Point
 
 /// The type that points to another one.
 fn pointing_to(alloc: Global, target: Type, pointing: Pointing) -> Result<Type, SourceFault>
-    ensures ok { IfOk result (λ whole. type_of whole ≡ pointing_to (type_of pointee_read) pointing) }
+    ensures ok { IfOk result (λ whole. type_of whole ≡ pointing_to (type_of target) pointing) }
     ensures err { IfErr result (λ fault. fault.kind ≡ SourceFaultKind.OutOfMemory) }
 {
     let target = Box::new(alloc, target)?;
@@ -95,7 +95,7 @@ fn pointing_to(alloc: Global, target: Type, pointing: Pointing) -> Result<Type, 
 /// The type with what stands before it, of which the last is the nearest.
 #[tactic(auto, using(crate::proofs::Pointed::pointed_last))]
 fn pointed(alloc: Global, target: Type, pointing: Vec<Pointing>) -> Result<Type, SourceFault>
-    ensures ok { IfOk result (λ whole. type_of whole ≡ pointed (type_of pointee_read) pointing.items) }
+    ensures ok { IfOk result (λ whole. type_of whole ≡ pointed (type_of target) pointing.items) }
     ensures err { IfErr result (λ fault. fault.kind ≡ SourceFaultKind.OutOfMemory) }
 {
     let mut pointing = pointing;
