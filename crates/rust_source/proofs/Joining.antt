@@ -86,16 +86,18 @@ joins least (w ∷ ws) (j ∷ k ∷ js) h t =
             top = more.top;
             below = more.below;
             operands = more.operands ∙ sym (append_assoc (operands_all js) (operands_in k) (operands_in j));
-            operators = more.operators ∙ same_operators w ws j k js h }
+            operators = more.operators ∙ same_operators w ws j k js h;
+          }
       | false ↦ λ e. record {
-          made = j ∷ k ∷ js;
-          left = w ∷ ws;
-          is = rw e refl;
-          stands = h;
-          top = t;
-          below = grind (arith, nat_tests);
-          operands = refl;
-          operators = refl }
+        made = j ∷ k ∷ js;
+        left = w ∷ ws;
+        is = rw e refl;
+        stands = h;
+        top = t;
+        below = grind (arith, nat_tests);
+        operands = refl;
+        operators = refl;
+      }
     ]) refl
 
 -- ---- an operator more
@@ -142,7 +144,8 @@ module _ (c : Cursor) (by : Waiting) (ws : List Waiting) (js : List Joining) (s 
         top = subst (λ n. TopBinds n m.made) (sym least) m.top;
         below = m.below;
         operands = m.operands;
-        operators = m.operators }
+        operators = m.operators;
+      }
 
   -- beside a comparison nothing is left that binds alike
   puts_comparison : (tightness by.operator == 2) ≡ true → (least_before by.operator ≡ tightness by.operator + 1)
@@ -152,9 +155,9 @@ module _ (c : Cursor) (by : Waiting) (ws : List Waiting) (js : List Joining) (s 
       let m : Joins (tightness by.operator + 1) js ws = joins (tightness by.operator + 1) ws js h (t (tightness by.operator + 1)) in
       let below : Below (tightness by.operator) m.left = below_less (tightness by.operator) m.left two m.below (ap (λ p. last_compares p.1) m.is ∙ alone) in
       let same : (map expression_of m.made, m.left) ≡ joined_tighter (tightness by.operator) (map expression_of js) ws =
-          sym (none_tighter (tightness by.operator) (map expression_of m.made) m.left (none_binds (tightness by.operator) m.left below))
-          ∙ ap (λ p. joined_tighter (tightness by.operator) p.0 p.1) m.is
-          ∙ tighter_twice (tightness by.operator) (map expression_of js) ws in
+      sym (none_tighter (tightness by.operator) (map expression_of m.made) m.left (none_binds (tightness by.operator) m.left below))
+      ∙ ap (λ p. joined_tighter (tightness by.operator) p.0 p.1) m.is
+      ∙ tighter_twice (tightness by.operator) (map expression_of js) ws in
       record {
         made = m.made;
         left = m.left;
@@ -163,7 +166,8 @@ module _ (c : Cursor) (by : Waiting) (ws : List Waiting) (js : List Joining) (s 
         top = subst (λ n. TopBinds n m.made) (sym least) m.top;
         below = below;
         operands = m.operands;
-        operators = m.operators }
+        operators = m.operators;
+      }
 
   puts : operator_put c (map expression_of js) ws by ≡ Ok s → Puts by js ws s
   unfolding operator_put
@@ -174,9 +178,9 @@ module _ (c : Cursor) (by : Waiting) (ws : List Waiting) (js : List Joining) (s 
       let Q : Bool → Type 0 = λ v. beside ≡ v → (tightness by.operator == 2) ≡ true → (if v then Err (fault c ExpectedExpression) else Ok (all.0, by ∷ all.1)) ≡ Ok s → Puts by js ws s in
       (elim (tightness by.operator == 2) as P [
         | true ↦ λ two all_is. (elim beside as Q [
-            | true ↦ λ _ _ wrong. absurd (no_ok (fault c ExpectedExpression) s wrong)
-            | false ↦ λ alone is_two right. puts_comparison is_two (rw is_two refl) alone (ok_of (all.0, by ∷ all.1) s right)
-          ]) refl two all_is
+          | true ↦ λ _ _ wrong. absurd (no_ok (fault c ExpectedExpression) s wrong)
+          | false ↦ λ alone is_two right. puts_comparison is_two (rw is_two refl) alone (ok_of (all.0, by ∷ all.1) s right)
+        ]) refl two all_is
         | false ↦ λ other right. puts_joined (rw other refl) (ok_of (all.0, by ∷ all.1) s right)
       ]) refl is
 
@@ -237,7 +241,7 @@ module _ (R : Readers) (d : Cursor) (known : Known) (e : ExprRead) where
         let m : Joins 0 (lone e0 ∷ js) ws = joins 0 ws (lone e0 ∷ js) (stands_operand ws js e0 h) tt in
         let one : (j : Joining) × (m.made ≡ j ∷ []) × (m.left ≡ []) × IsJoinedByStrength j = last_one m.left m.made m.below m.stands in
         let joined : all_joined d0 (e0 ∷ map expression_of js) ws ≡ Ok (expression_of one.0) =
-            ap (λ p. last_operand d0 p.0) (sym m.is) ∙ ap (λ xs. last_operand d0 (map expression_of xs)) one.1 in
+        ap (λ p. last_operand d0 p.0) (sym m.is) ∙ ap (λ xs. last_operand d0 (map expression_of xs)) one.1 in
         let all : ◌≡◌ {A = Reading (ExprRead × Cursor)} (Ok (expression_of one.0, d0), ns) (Ok (e, d), known) = ap (λ r. (read_as (λ x. (x, d0)) r, ns)) (sym joined) ∙ is in
         let both : ◌≡◌ {A = ExprRead × Cursor} (expression_of one.0, d0) (e, d) = ok_of (expression_of one.0, d0) (e, d) (ap (λ p. p.0) all) in
         let end : d0 ≡ d = ap (λ p. p.1) both in
@@ -250,7 +254,8 @@ module _ (R : Readers) (d : Cursor) (known : Known) (e : ExprRead) where
           read = (subst (λ k. operand R c names ≡ (Ok (e0, d), k)) last (subst (λ x. operand R c names ≡ (Ok (e0, x), ns)) end at), ap next_operator (sym end) ∙ none);
           strong = one.3;
           all_operands = ap operands_all (sym one.1) ∙ m.operands;
-          all_operators = ap₂ operators_all (sym one.2) (sym one.1) ∙ m.operators ∙ operators_operand ws js e0 ∙ sym (append-nil (operators_pending ws js)) }
+          all_operators = ap₂ operators_all (sym one.2) (sym one.1) ∙ m.operators ∙ operators_operand ws js e0 ∙ sym (append-nil (operators_pending ws js));
+        }
 
     -- an operator stands behind it, and is put
     law_put : (limit : ℕ) → Goes limit → (o : Binary × ℕ) → next_operator d0 ≡ Some o
@@ -261,8 +266,8 @@ module _ (R : Readers) (d : Cursor) (known : Known) (e : ExprRead) where
         let by : Waiting = record { operator = o.0; at = place d0 } in
         let p : Puts by (lone e0 ∷ js) ws s = puts d0 by ws (lone e0 ∷ js) s (stands_operand ws js e0 h) (λ n. tt) put in
         let l : Law R (by ∷ p.left) p.made (passed d0 o.1) d ns known e =
-            go (by ∷ p.left) p.made (passed d0 o.1) ns (pending by p.left p.made p.top p.below p.stands)
-            (ap (λ s. expr_from R limit s.0 s.1 (passed d0 o.1) ns) p.is ∙ is) in
+        go (by ∷ p.left) p.made (passed d0 o.1) ns (pending by p.left p.made p.top p.below p.stands)
+        (ap (λ s. expr_from R limit s.0 s.1 (passed d0 o.1) ns) p.is ∙ is) in
         record {
           operators = by ∷ l.operators;
           operands = e0 ∷ l.operands;
@@ -272,7 +277,8 @@ module _ (R : Readers) (d : Cursor) (known : Known) (e : ExprRead) where
           strong = l.strong;
           all_operands = l.all_operands ∙ ap (λ xs. xs ++ l.operands) p.operands ∙ append_assoc (operands_all js) (e0 ∷ []) l.operands;
           all_operators = l.all_operators ∙ ap (λ xs. (xs ++ by ∷ []) ++ l.operators) (p.operators ∙ operators_operand ws js e0)
-              ∙ append_assoc (operators_pending ws js) (by ∷ []) l.operators }
+              ∙ append_assoc (operators_pending ws js) (by ∷ []) l.operators;
+        }
 
     law_on : (limit : ℕ) → Goes limit → (o : Option (Binary × ℕ)) → next_operator d0 ≡ o
         → expr_on (expr_from R limit) (e0 ∷ map expression_of js) ws d0 o ns ≡ (Ok (e, d), known) → Law R ws js c d names known e
@@ -294,7 +300,10 @@ module _ (R : Readers) (d : Cursor) (known : Known) (e : ExprRead) where
 pub bind_by_strength : OperatorsBindByStrength
 unfolding expr_with
 bind_by_strength R c d names known e is =
-    let l : Law R [] [] c d names known e = law R d known e most_nested [] [] c names tt is in
-    (l.joining, l.is,
-    subst (λ os. AreRead R os (operands_in l.joining) c names d known) (sym l.all_operators)
-    (subst (λ es. AreRead R l.operators es c names d known) (sym l.all_operands) l.read), l.strong)
+    let l : Law R [] [] c d names known e = law R d known e most_nested [] [] c names tt is in (
+      l.joining,
+      l.is,
+      subst (λ os. AreRead R os (operands_in l.joining) c names d known) (sym l.all_operators)
+          (subst (λ es. AreRead R l.operators es c names d known) (sym l.all_operands) l.read),
+      l.strong,
+    )

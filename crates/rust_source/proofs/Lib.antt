@@ -6,7 +6,8 @@ mod ItemFacts
 mod ItemTurns
 mod ModuleTurns
 mod NameTexts
-pub mod Joining
+mod Joining
+mod OneJoining
 mod Operators
 mod Pointed
 mod Rooms

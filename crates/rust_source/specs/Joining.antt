@@ -59,3 +59,8 @@ abbrev pub OperatorsBindByStrength : Type 0
 OperatorsBindByStrength =
     (R : Readers) (c d : Cursor) (names known : Known) (e : ExprRead) → expr_with R c names ≡ (Ok (e, d), known)
     → (j : Joining) × (expression_of j ≡ e) × AreRead R (operators_in j) (operands_in j) c names d known × IsJoinedByStrength j
+
+-- and there is no other way to join these operands and operators so
+abbrev pub OneJoiningByStrength : Type 0
+OneJoiningByStrength =
+    (i j : Joining) → IsJoinedByStrength i → IsJoinedByStrength j → operators_in i ≡ operators_in j → operands_in i ≡ operands_in j → i ≡ j

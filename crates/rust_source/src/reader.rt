@@ -23,7 +23,7 @@ mod written;
 ghost use Rattle.std.specs.Prelude.{◌≡◌, [], IfOk, length};
 ghost use Rattle.rust_source.specs.Growth.{KeepsItems};
 ghost use Rattle.rust_source.specs.Items.{items_as_read, no_items};
-ghost use Rattle.rust_source.specs.Joining.{OperatorsBindByStrength};
+ghost use Rattle.rust_source.specs.Joining.{OneJoiningByStrength, OperatorsBindByStrength};
 ghost use Rattle.rust_source.specs.Names.{texts};
 ghost use Rattle.rust_source.specs.Reading.{Reads};
 ghost use Rattle.rust_source.specs.Simple.{most_nested};
@@ -155,6 +155,7 @@ pub fn read_type(
 ) -> Result<Type, SourceFault>
     ensures means { MeansType text.now start.0 (texts names.old) (texts names.new) result }
     ensures strength { OperatorsBindByStrength }
+    ensures one { OneJoiningByStrength }
 {
     let found = tokens_at(alloc, text, start)?;
     let mut cursor = beginning(text, start, &found);
