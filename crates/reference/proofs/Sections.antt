@@ -20,11 +20,11 @@ use Rattle.reference.specs.RustLayout.{IsAligned, IsApart, LiesAsAlone}
 
 module _ (dl : TargetDataLayout) (tree : Tree) where
   -- a rule of each type, where the tree is laid out
-  Rule : (P : Tree → Placed → Type 0) → Result Laid LayError → Type 0
+  abbrev Rule : (P : Tree → Placed → Type 0) → Result Laid LayError → Type 0
   Rule P r = IfOk r (EachIn dl tree P)
 
   -- the same where the data layout is of some kind
-  RuleIf : Type 0 → (P : Tree → Placed → Type 0) → Result Laid LayError → Type 0
+  abbrev RuleIf : Type 0 → (P : Tree → Placed → Type 0) → Result Laid LayError → Type 0
   RuleIf A P r = IfOk r (λ laid. A → EachIn dl tree P laid)
 
   pub given : {A : Type 0} (P : Tree → Placed → Type 0) (r : Result Laid LayError) → RuleIf A P r → A → Rule P r
