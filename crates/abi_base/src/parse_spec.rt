@@ -1,10 +1,10 @@
 //! The specs of a data layout string, one by one.
 
-ghost use Rattle.std.specs.Prelude.{◌≡◌, ◌∷◌, ◌<◌, slice_index};
+ghost use Rattle.std.specs.Prelude.{◌≡◌, ◌∷◌, ◌<◌, slice_index, true};
 ghost use Rattle.std.specs.Option.{option_copied};
 ghost use Rattle.abi_base.specs.declared.endian.Endian.{Endian};
 ghost use Rattle.abi_base.specs.DataLayoutFault.{IsReading};
-ghost use Rattle.abi_base.specs.DataLayoutSpec.{aligned, aligned_word, alignment_in, bits_in, index_text, instructions, integer, lettered_row, spec_parts_left, pointers_in, pointer_setting, pointer_space, row_of, space_text, setting_in, setting_of, size_in, space_in, vector};
+ghost use Rattle.abi_base.specs.DataLayoutSpec.{aligned, aligned_word, alignment_in, begins, bits_in, index_text, instructions, integer, lettered_row, spec_parts_left, pointers_in, pointer_setting, pointer_space, row_of, space_text, setting_in, setting_of, size_in, space_in, vector};
 
 use crate::address_space::AddressSpace;
 use crate::align::Align;
@@ -153,13 +153,12 @@ fn pointer_spec<'a>(
     pointers(begins(rest, 'f'), space, bytes, parts)
 }
 
-/// What a word names an alignment of.
-fn aligned_word(word: &str) -> Option<AlignedWord>
+/// What a word that begins with `f` names an alignment of: a float.
+fn float_word(word: &str) -> Option<AlignedWord>
+    requires { begins 102 word.now ≡ true }
     ensures { result ≡ aligned_word word.now }
 {
-    if word == "a" {
-        Some(AlignedWord::Aggregate)
-    } else if word == "f16" {
+    if word == "f16" {
         Some(AlignedWord::F16)
     } else if word == "f32" {
         Some(AlignedWord::F32)
@@ -167,6 +166,19 @@ fn aligned_word(word: &str) -> Option<AlignedWord>
         Some(AlignedWord::F64)
     } else if word == "f128" {
         Some(AlignedWord::F128)
+    } else {
+        None
+    }
+}
+
+/// What a word names an alignment of. Most words are told by their first letter alone.
+fn aligned_word(word: &str) -> Option<AlignedWord>
+    ensures { result ≡ aligned_word word.now }
+{
+    if begins(word, 'f') {
+        float_word(word)
+    } else if word == "a" {
+        Some(AlignedWord::Aggregate)
     } else {
         None
     }

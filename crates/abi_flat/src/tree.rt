@@ -21,6 +21,7 @@ const MOST_NESTED: u64 = 201;
 const FIRST_ROOM: u64 = 8;
 
 /// Elements.
+#[inline(never)]
 #[cycle(read)]
 fn read_array(
     alloc: Global,
@@ -38,6 +39,7 @@ fn read_array(
 }
 
 /// Lanes.
+#[inline(never)]
 #[cycle(read)]
 fn read_vector(
     alloc: Global,
@@ -82,6 +84,7 @@ fn read_each(
 }
 
 /// Fields.
+#[inline(never)]
 #[cycle(read)]
 fn read_struct(
     alloc: Global,
@@ -104,6 +107,7 @@ fn read_struct(
 }
 
 /// Fields in an order that is handed in.
+#[inline(never)]
 #[cycle(read)]
 fn read_ordered(
     alloc: Global,
@@ -128,6 +132,7 @@ fn read_ordered(
 }
 
 /// Fields that share their bytes.
+#[inline(never)]
 #[cycle(read)]
 fn read_union(
     alloc: Global,
@@ -184,6 +189,7 @@ fn read_variants(
 }
 
 /// Variants.
+#[inline(never)]
 #[cycle(read)]
 fn read_enum(
     alloc: Global,
@@ -201,6 +207,7 @@ fn read_enum(
 }
 
 /// A suspended computation.
+#[inline(never)]
 #[cycle(read)]
 fn read_coroutine(
     alloc: Global,

@@ -5,3 +5,4 @@ pub mod RoomLemmas
 pub mod DataPlacesLemmas
 pub mod NeededLemmas
 pub mod MadeLemmas
+pub mod MarkedLemmas

@@ -100,6 +100,7 @@ fn recent_place(
 }
 
 /// The place of the layout among these, behind which it is put, unless one of the newest is equal.
+#[inline(always)]
 fn place_of(
     layouts: &mut Vec<LayoutData<FieldIdx, VariantIdx>>,
     layout: LayoutData<FieldIdx, VariantIdx>,
@@ -117,6 +118,7 @@ fn place_of(
 }
 
 /// Puts an entry behind the others. Where a growth is refused, they are as they were.
+#[inline(always)]
 fn put_entry(entries: &mut Vec<Entry>, entry: Entry) -> Result<(), AllocError>
     ensures ok { OnOk result (entries.new.items ≡ entries.old.items ++ entry ∷ []) }
     ensures err { OnErr result (entries.new.items ≡ entries.old.items) }
@@ -147,6 +149,7 @@ impl Nodes {
     }
 
     /// Puts a node behind the others. `AllocError` where memory is refused: then they are as they were.
+    #[inline(always)]
     pub fn push(
         &mut self,
         layout: LayoutData<FieldIdx, VariantIdx>,

@@ -1,17 +1,17 @@
 //! The runs of a node's data places: the bytes that decide which value is held.
 
-ghost use Rattle.std.specs.Prelude.{◌≡◌, ℕ, ◌+◌, ◌*◌, ◌-◌, ◌^◌, ◌<◌, ◌≤◌, ◌||◌, [], All, IfOk, IfSome, List, None, OnOk, get_or, length, map, true, nat_lt};
-ghost use Rattle.abi_index.specs.RangeSet.{is_in_ranges};
+ghost use Rattle.std.specs.Prelude.{◌≡◌, ℕ, ◌+◌, ◌*◌, ◌-◌, ◌^◌, ◌<◌, ◌≤◌, ◌&&◌, ◌||◌, [], All, IfOk, IfSome, IsTrue, List, None, OnOk, false, get_or, length, map, not, true, nat_lt};
+ghost use Rattle.abi_index.specs.RangeSet.{is_in_ranges, is_in_run};
 ghost use Rattle.abi_index.specs.Runs.{Adds, moved_to, repeated};
 ghost use Rattle.abi_laid.specs.declared.node.Node.{Node as OneNode};
 ghost use Rattle.abi_laid.specs.Laws.{keep_laws};
 ghost use Rattle.abi_laid.specs.Needed.{AreMade, AreNeeded, AreVisits, IsMadeOf, IsSet, parts_cover, sets_at, some_covers};
-ghost use Rattle.abi_laid.specs.Nodes.{lent_node, meaning, placed_at};
+ghost use Rattle.abi_laid.specs.Nodes.{lent_node, meaning, parts_at, placed_at};
 ghost use Rattle.abi_laid.specs.Placed.{Placed};
-ghost use Rattle.abi_laid.specs.Places.{is_data_place};
+ghost use Rattle.abi_laid.specs.Places.{is_data_place, is_place_of_part};
 ghost use Rattle.abi_laid.specs.Room.{has_room};
 ghost use Rattle.abi_laid.specs.Runs.{is_padding_of};
-ghost use Rattle.abi_laid.specs.Well.{are_nodes};
+ghost use Rattle.abi_laid.specs.Well.{all_at, are_nodes};
 
 use crate::counted::Counted;
 use crate::needed::{needed_nodes, placed};
@@ -19,6 +19,9 @@ use crate::node::{NodeRef, Shape, offsets, state_tag_offset, tag_offset};
 use abi_base::Size;
 use abi_index::{RangeSet, RangeSetBuilder};
 use std::alloc::{AllocError, Global};
+
+/// Types of at most so many bytes have these marked one by one.
+const MOST_MARKED: usize = 64;
 
 /// The set that was made for a place.
 pub(crate) fn set_at(done: &[RangeSet], place: usize) -> &RangeSet
@@ -269,6 +272,135 @@ pub(crate) fn data_places(
     joined_runs(alloc, &kept)
 }
 
+/// The size of the number that is kept at a place, if one is.
+fn number_size(kept: &[Option<NodeRef<'_>>], place: usize) -> Option<u64>
+    ensures { IfSome result (λ size. (ns : List OneNode) → AreNeeded ns kept.now → (k : ℕ) →
+        is_data_place (placed_at ns place) k ≡ nat_lt k size) }
+{
+    let node = (*kept.get(place)?)?;
+    match node.shape {
+        Shape::Scalar(_) => Some(node.layout.size.bytes()),
+        _ => None,
+    }
+}
+
+/// Marks a run of bytes, where it ends among the marks; whether it does.
+fn mark_run(marks: &mut [bool], offset: u64, size: u64) -> bool
+    ensures long { length marks.new ≡ length marks.old }
+    ensures marked { IsTrue result → (k : ℕ) →
+        get_or marks.new k false ≡ (get_or marks.old k false || is_in_run k (offset, size)) }
+{
+    let count = marks.len() as u64;
+    if offset > count || size > count - offset {
+        return false;
+    }
+    for at in offset..offset + size {
+        marks[at as usize] = true;
+    }
+    true
+}
+
+/// Marks the bytes of fields, each at its offset, where all are numbers that end among the marks; whether they are.
+fn mark_numbers(
+    marks: &mut [bool],
+    offsets: &[Size],
+    children: &[usize],
+    kept: &[Option<NodeRef<'_>>],
+) -> bool
+    ensures { IsTrue result → (ns : List OneNode) → AreNeeded ns kept.now → (k : ℕ) →
+        get_or marks.new k false ≡ (get_or marks.old k false
+        || is_place_of_part (parts_at offsets.now (all_at ns children.now)) k) }
+{
+    for i in 0..offsets.len().min(children.len()) {
+        let Some(size) = number_size(kept, children[i]) else {
+            return false;
+        };
+        if !mark_run(marks, offsets[i].bytes(), size) {
+            return false;
+        }
+    }
+    true
+}
+
+/// Those of the first bytes, so many of them, that aren't marked.
+fn unmarked(alloc: Global, marks: &[bool], size: u64) -> Result<RangeSet, AllocError>
+    requires { size ≤ length marks.now }
+    ensures { IfOk result (λ set. (k : ℕ) →
+        is_in_ranges set k ≡ (nat_lt k size && not (get_or marks.now k false))) }
+{
+    let mut set = RangeSet::new(alloc);
+    for at in 0..size {
+        if !marks[at as usize] {
+            set.add_range(at, 1)?;
+        }
+    }
+    Ok(set)
+}
+
+/// The padding of the node at a place, where it has few bytes, and its fields are numbers.
+fn numbers_padding(
+    alloc: Global,
+    kept: &[Option<NodeRef<'_>>],
+    place: usize,
+) -> Result<Option<RangeSet>, AllocError>
+    ensures { IfOk result (λ found. IfSome found (λ set. (ns : List OneNode) → AreNeeded ns kept.now →
+        (k : ℕ) → is_in_ranges set k ≡ is_padding_of (placed_at ns place) k)) }
+{
+    let Some(Some(node)) = kept.get(place) else {
+        return Ok(None);
+    };
+    let Shape::Fields(_, children) = node.shape else {
+        return Ok(None);
+    };
+    let size = node.layout.size.bytes();
+    let mut marks = [false; MOST_MARKED];
+    if size <= MOST_MARKED as u64
+        && mark_numbers(&mut marks, offsets(node.layout), children, kept)
+    {
+        let set = unmarked(alloc, &marks, size)?;
+        Ok(Some(set))
+    } else {
+        Ok(None)
+    }
+}
+
+/// The padding of the last node that is kept: what the data places leave of its bytes.
+#[inline(never)]
+fn joined_padding(
+    alloc: Global,
+    kept: &[Option<NodeRef<'_>>],
+    node: usize,
+) -> Result<RangeSet, AllocError>
+    requires needed { (ns : List OneNode) × AreNeeded ns kept.now }
+    requires last { length kept.now ≡ node + 1 }
+    ensures { IfOk result (λ set. (ns : List OneNode) → AreNeeded ns kept.now → (k : ℕ) →
+        is_in_ranges set k ≡ is_padding_of (placed_at ns node) k) }
+{
+    let places = joined_runs(alloc, kept)?;
+    let mut whole = RangeSet::new(alloc);
+    whole.add_range(0, kept_size(kept, node))?;
+    let rest = whole.difference(alloc, &places)?;
+    Ok(rest)
+}
+
+/// The padding of the last node that is kept. The bytes of a few numbers are marked one by one, which takes fewer steps
+/// than sets of them.
+fn kept_padding(
+    alloc: Global,
+    kept: &[Option<NodeRef<'_>>],
+    node: usize,
+) -> Result<RangeSet, AllocError>
+    requires needed { (ns : List OneNode) × AreNeeded ns kept.now }
+    requires last { length kept.now ≡ node + 1 }
+    ensures { IfOk result (λ set. (ns : List OneNode) → AreNeeded ns kept.now → (k : ℕ) →
+        is_in_ranges set k ≡ is_padding_of (placed_at ns node) k) }
+{
+    match numbers_padding(alloc, kept, node)? {
+        Some(set) => Ok(set),
+        None => joined_padding(alloc, kept, node),
+    }
+}
+
 /// The padding of a node: the bytes below its size that are no data places; and how many nodes were read.
 pub(crate) fn padding(
     alloc: Global,
@@ -286,8 +418,6 @@ pub(crate) fn padding(
     ensures few { IfOk result (λ r. r.1 ≤ node + 1) }
 {
     let (kept, visits) = needed_nodes(alloc, nodes, node)?;
-    let places = joined_runs(alloc, &kept)?;
-    let mut whole = RangeSet::new(alloc);
-    whole.add_range(0, kept_size(&kept, node))?;
-    Ok((whole.difference(alloc, &places)?, visits))
+    let set = kept_padding(alloc, &kept, node)?;
+    Ok((set, visits))
 }

@@ -23,6 +23,7 @@ use abi_scalar::{LayoutData, Scalar};
 use std::alloc::Global;
 
 /// Whether both ends of its range, if it has one, are numbers of its width.
+#[inline(always)]
 fn has_range_within(dl: &TargetDataLayout, value: Scalar) -> bool
     requires { is_lawful_primitive dl.now (primitive_of value) ≡ true }
     ensures { result ≡ has_range_within dl.now value }
@@ -37,6 +38,7 @@ fn has_range_within(dl: &TargetDataLayout, value: Scalar) -> bool
 }
 
 /// The fault, if it has one, of a scalar whose pointer has none: its range's.
+#[inline(always)]
 fn range_fault(dl: &TargetDataLayout, value: Scalar) -> Option<LayError>
     requires { is_lawful_primitive dl.now (primitive_of value) ≡ true }
     ensures { result ≡ scalar_fault dl.now value }
@@ -49,6 +51,7 @@ fn range_fault(dl: &TargetDataLayout, value: Scalar) -> Option<LayError>
 }
 
 /// The scalar's fault, if it has one: its pointer's before its range's.
+#[inline(always)]
 fn scalar_fault(dl: &TargetDataLayout, value: Scalar) -> Option<LayError>
     ensures { result ≡ scalar_fault dl.now value }
 {
@@ -61,6 +64,7 @@ fn scalar_fault(dl: &TargetDataLayout, value: Scalar) -> Option<LayError>
 }
 
 /// A node for a scalar without a fault.
+#[inline(always)]
 fn add_lawful(dl: &TargetDataLayout, nodes: &mut Nodes, value: Scalar) -> Result<usize, LayError>
     requires data_layout { IsLawfulDataLayout dl.now }
     requires faultless { scalar_fault dl.now value ≡ None }
@@ -76,6 +80,7 @@ fn add_lawful(dl: &TargetDataLayout, nodes: &mut Nodes, value: Scalar) -> Result
 }
 
 /// A node for a scalar. Its fault is told before memory is asked for.
+#[inline(never)]
 pub(crate) fn add_scalar(
     dl: &TargetDataLayout,
     nodes: &mut Nodes,
@@ -142,6 +147,7 @@ fn add_two(
 }
 
 /// A node for two scalars, and one for each of them. Their fault is told before memory is asked for.
+#[inline(never)]
 pub(crate) fn add_pair(
     alloc: Global,
     dl: &TargetDataLayout,
@@ -163,6 +169,7 @@ pub(crate) fn add_pair(
 }
 
 /// A node for a type with no values.
+#[inline(never)]
 pub(crate) fn add_never(dl: &TargetDataLayout, nodes: &mut Nodes) -> Result<usize, LayError>
     requires { IsLawfulDataLayout dl.now }
     ensures ok { IfOk result (λ i. IsAdded dl.now nodes.old nodes.new i never) }
@@ -179,6 +186,7 @@ pub(crate) fn add_never(dl: &TargetDataLayout, nodes: &mut Nodes) -> Result<usiz
 }
 
 /// A node for a type with one value, which takes no bytes.
+#[inline(never)]
 pub(crate) fn add_unit(
     alloc: Global,
     dl: &TargetDataLayout,

@@ -17,6 +17,7 @@ use abi_scalar::LayoutData;
 use std::alloc::{AllocError, Global};
 
 /// Puts a node behind the others. `OutOfMemory` where memory is refused: then they are as they were.
+#[inline(always)]
 pub(crate) fn add(
     nodes: &mut Nodes,
     layout: LayoutData<FieldIdx, VariantIdx>,
