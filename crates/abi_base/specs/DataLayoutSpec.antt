@@ -53,8 +53,8 @@ unfoldable pub bits_in : (kind text cause : List ℕ) → Result ℕ Fault
 bits_in kind text cause = or_fault (bad_bits kind text cause) (number_answer (2 ^ 64) text)
 
 -- a size in bytes, written in bits
-unfoldable pub size_in : (text cause : List ℕ) → Result ℕ Fault
-size_in text cause = do
+unfoldable pub size_written : (text cause : List ℕ) → Result ℕ Fault
+size_written text cause = do
   bits ← bits_in (codes "size") text cause
   Ok (div_ceil bits 8)
 
@@ -115,8 +115,8 @@ aligned_row (Some named) word parts = aligned named word parts
 aligned_row None word parts = lettered_row word parts
 
 -- the row of a spec, by its first part and the others: the first that fits
-unfoldable pub row_of : (word : List ℕ) → (parts : List (List ℕ)) → Row
-row_of word parts =
+unfoldable pub row_of_spec : (word : List ℕ) → (parts : List (List ℕ)) → Row
+row_of_spec word parts =
     if not (has_parts parts) && bytes_eq word (codes "e") then order Little
     else (if not (has_parts parts) && bytes_eq word (codes "E") then order Big
     else (if not (has_parts parts) && begins 80 word then instructions (drop 1 word)
@@ -139,9 +139,9 @@ index_text size parts = size
 unfoldable pub pointers_in : (fat : Bool) → (space size : List ℕ) → (parts : List (List ℕ)) → Result Setting Fault
 pointers_in fat space size parts = do
   number ← pointer_space space
-  bytes ← size_in size (codes "p-")
+  bytes ← size_written size (codes "p-")
   align ← alignment_in parts (codes "p-")
-  index ← size_in (index_text size parts) (codes "p-")
+  index ← size_written (index_text size parts) (codes "p-")
   Ok (Pointer number (record { pointer_size = bytes; pointer_align = align; pointer_offset = index; is_fat = fat }))
 
 -- what a pointer spec sets
@@ -166,7 +166,7 @@ setting_in (integer word parts) = do
   align ← alignment_in parts word
   Ok (Integer bits align)
 setting_in (vector word parts) = do
-  size ← size_in (drop 1 word) (codes "v")
+  size ← size_written (drop 1 word) (codes "v")
   align ← alignment_in parts word
   Ok (Vector size align)
 setting_in ignored = Ok Nothing
@@ -174,7 +174,7 @@ setting_in ignored = Ok Nothing
 -- what a spec of these parts sets, or its first fault
 abbrev pub setting_of_parts : List (List ℕ) → Result Setting Fault
 setting_of_parts [] = Ok Nothing
-setting_of_parts (word ∷ parts) = setting_in (row_of word parts)
+setting_of_parts (word ∷ parts) = setting_in (row_of_spec word parts)
 
 -- what a spec sets, or its first fault
 unfoldable pub setting_of : List ℕ → Result Setting Fault

@@ -4,7 +4,7 @@ ghost use Rattle.std.specs.Prelude.{◌≡◌, ◌∷◌, ◌<◌, slice_index, 
 ghost use Rattle.std.specs.Option.{option_copied};
 ghost use Rattle.abi_base.specs.declared.endian.Endian.{Endian};
 ghost use Rattle.abi_base.specs.DataLayoutFault.{IsReading};
-ghost use Rattle.abi_base.specs.DataLayoutSpec.{aligned, aligned_word, alignment_in, begins, bits_in, index_text, instructions, integer, lettered_row, spec_parts_left, pointers_in, pointer_setting, pointer_space, row_of, space_text, setting_in, setting_of, size_in, space_in, vector};
+ghost use Rattle.abi_base.specs.DataLayoutSpec.{aligned, aligned_word, alignment_in, begins, bits_in, index_text, instructions, integer, lettered_row, spec_parts_left, pointers_in, pointer_setting, pointer_space, row_of_spec, space_text, setting_in, setting_of, size_written, space_in, vector};
 
 use crate::address_space::AddressSpace;
 use crate::align::Align;
@@ -33,7 +33,7 @@ fn bits<'a>(kind: &'a str, text: &'a str, cause: &'a str) -> Result<u64, TargetD
 
 /// A size, written in bits.
 fn size<'a>(text: &'a str, cause: &'a str) -> Result<Size, TargetDataLayoutError<'a>>
-    ensures { IsReading (size_in text.now cause.now) result }
+    ensures { IsReading (size_written text.now cause.now) result }
 {
     let bits = bits("size", text, cause)?;
     Ok(Size::from_bits(bits))

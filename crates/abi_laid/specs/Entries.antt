@@ -18,5 +18,5 @@ abbrev pub AreEntries : List Layout → List Entry → Type 0
 AreEntries layouts entries = All (λ entry. entry.layout < length layouts) entries
 
 -- some layouts may have been put behind others
-abbrev pub HasMore : (old new : List Layout) → Type 0
-HasMore old new = (more : List Layout) × (new ≡ old ++ more)
+abbrev pub KeepsLayouts : (old new : List Layout) → Type 0
+KeepsLayouts old new = (more : List Layout) × (new ≡ old ++ more)

@@ -2,7 +2,7 @@
 
 ghost use Rattle.std.specs.Prelude.{◌≡◌, ◌+◌, ◌-◌, ◌<◌, ◌^◌, ◌∷◌, ◌++◌, [], IfOk, IfSome, OnErr, OnOk, get_or, length};
 ghost use Rattle.abi_types.specs.Ty.Typed.{no_layout};
-ghost use Rattle.abi_laid.specs.Entries.{HasMore};
+ghost use Rattle.abi_laid.specs.Entries.{KeepsLayouts};
 ghost use Rattle.abi_laid.specs.Nodes.{lent_node, placed_at};
 ghost use Rattle.abi_laid.specs.Placed.{layout_of};
 
@@ -107,7 +107,7 @@ fn place_of(
 ) -> Result<usize, AllocError>
     ensures there { IfOk result (λ at. at < length layouts.new.items) }
     ensures same { IfOk result (λ at. get_or layouts.new.items at no_layout ≡ layout) }
-    ensures more { HasMore layouts.old.items layouts.new.items }
+    ensures more { KeepsLayouts layouts.old.items layouts.new.items }
 {
     if let Some(at) = recent_place(layouts, &layout) {
         return Ok(at);

@@ -21,7 +21,7 @@ use Rattle.rustc_abi.specs.declared.error.LayError.TheVariants.{SizeOverflow}
 use Rattle.rustc_abi.specs.ScalarFault.{scalar_fault}
 use Rattle.rustc_abi.specs.Laying.{IsLaying, one_scalar, two_scalars, unless}
 use Rattle.reference.specs.Words.{Extent, align_in_bytes, extent_of}
-use Rattle.reference.specs.Primitive.{HasPointersOfIndex, HasWideIndex, HoldsAddresses, IsSignless, IsThin, IsWide, index_of}
+use Rattle.reference.specs.Primitive.{HasPointersOfIndex, HasWideIndex, HoldsAddresses, IsSignless, IsThin, IsWidePointer, index_of}
 
 abbrev primitive_extent : TargetDataLayout → Primitive → Extent
 primitive_extent dl q = record { size = primitive_size dl q; align = 2 ^ primitive_align dl q }
@@ -107,7 +107,7 @@ module _ (dl : TargetDataLayout) where
   two_faultless a b p None (Some f) fits e = absurd (no_error p f e)
   two_faultless a b p (Some f) second fits e = absurd (no_error p f e)
 
-  pub laid_wide : (t : Tree) (p : Placed) → IsLaying dl t (Ok p) → IsWide HasLayout t p
+  pub laid_wide : (t : Tree) (p : Placed) → IsLaying dl t (Ok p) → IsWidePointer HasLayout t p
   laid_wide (pair a b) p h = λ thin there.
       let whole : p ≡ two_scalars dl a b = two_faultless a b p (scalar_fault dl a) (scalar_fault dl b) (nat_lt (pair_size dl a b) (size_bound dl)) h in
       let one : extent_of thin ≡ primitive_extent dl (primitive_of a) = scalar_extent a thin there in

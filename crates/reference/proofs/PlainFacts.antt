@@ -24,7 +24,7 @@ use Rattle.abi_scalar.specs.Layout.{Layout}
 use Rattle.rustc_abi.specs.Laying.{one_scalar}
 use Rattle.reference.specs.Words.{Extent, align_in_bytes, extent_of, padding_needed_for, rounded_up}
 use Rattle.reference.specs.Modifiers.{IsPacked, IsPackedWide, IsRaisable, IsRaised, IsRaisedEnum, LieClosely, LiePacked, positioned}
-use Rattle.reference.specs.Primitive.{HasPowerAlign, HoldsAddresses, IsAlignedBySize, IsSignless, IsSizedByTable, IsThin, IsUnit, IsWhole, IsWide}
+use Rattle.reference.specs.Primitive.{HasPowerAlign, HoldsAddresses, IsAlignedBySize, IsSignless, IsSizedByTable, IsThin, IsUnit, IsWhole, IsWidePointer}
 use Rattle.reference.specs.Transparent.{IsTransparent}
 use Rattle.reference.specs.RustLayout.{DontOverlap, IsAligned, IsApart, LiesAsAlone, places}
 use Rattle.reference.proofs.Facts.{byte_type, c, inj-Some, pair_of, sized, two_fields, u16, u32, u8, unsigned, word_type}
@@ -93,13 +93,13 @@ thin_of_twice_the_size : IsThin default_data_layout (Is (scalar (sized 8 3) (uns
 thin_of_twice_the_size h =
     let size : 16 ≡ 8 = ap (λ (e : Extent). e.size) (h refl (unsigned I64) false (scalar (sized 8 3) (unsigned I64)) refl refl) in absurd (omega (arith, size))
 
-wide_right : IsWide (Is (scalar (sized 8 3) pointer)) (two_numbers pointer (unsigned I64)) (pair (sized 16 3) no_parts)
+wide_right : IsWidePointer (Is (scalar (sized 8 3) pointer)) (two_numbers pointer (unsigned I64)) (pair (sized 16 3) no_parts)
 wide_right = λ thin there. (
   subst (λ p. size_of p ≤ 16) (sym there) (lit≤ tt),
   subst (λ p. align_in_bytes p ≤ 8) (sym there) (lit≤ tt),
 )
 
-wide_aligned_to_less : IsWide (Is (scalar (sized 8 3) pointer)) (two_numbers pointer (unsigned I64)) (pair (sized 16 2) no_parts) → ⊥
+wide_aligned_to_less : IsWidePointer (Is (scalar (sized 8 3) pointer)) (two_numbers pointer (unsigned I64)) (pair (sized 16 2) no_parts) → ⊥
 wide_aligned_to_less h = absurd (let le : 8 ≤ 4 = (h (scalar (sized 8 3) pointer) refl).1 in omega (arith, le))
 
 -- ---- the Rust representation: a struct of `u8` and `u32`

@@ -15,7 +15,7 @@ use Rattle.reference.specs.FieldEnums.{IsCEnum, IsPrimitiveEnum}
 use Rattle.reference.specs.Modifiers.{IsPacked, IsPackedC, IsRaised, IsRaisedEnum}
 use Rattle.reference.specs.Option.{IsAsLarge, IsNoneZero, IsSomeAlike, OfOption}
 use Rattle.reference.specs.Primitive.{HasPointersOfIndex, HasPowerAlign, HasWideIndex, HoldsAddresses}
-use Rattle.reference.specs.Primitive.{IsAlignedBySize, IsSignless, IsSizedByTable, IsThin, IsUnit, IsWhole, IsWide}
+use Rattle.reference.specs.Primitive.{IsAlignedBySize, IsSignless, IsSizedByTable, IsThin, IsUnit, IsWhole, IsWidePointer}
 use Rattle.reference.specs.RustLayout.{IsAligned, IsApart, LiesAsAlone}
 
 module _ (dl : TargetDataLayout) (tree : Tree) where
@@ -38,7 +38,7 @@ module _ (dl : TargetDataLayout) (tree : Tree) where
 
   pub simple : (r : Result Laid LayError) → Rule IsSizedByTable r → RuleIf (HasWideIndex dl) (HoldsAddresses dl) r
       → Rule (IsSignless (LiesAs dl)) r → Rule IsAlignedBySize r
-      → RuleIf (HasPointersOfIndex dl) (IsThin dl (LiesAs dl)) r → Rule (IsWide (LiesAs dl)) r
+      → RuleIf (HasPointersOfIndex dl) (IsThin dl (LiesAs dl)) r → Rule (IsWidePointer (LiesAs dl)) r
       → Rule IsArray r → Rule IsUnit r → IfOk r (HasSimpleTypes dl tree)
   simple (Ok laid) r1 r2 r3 r4 r5 r6 r7 r8 = record {
     primitive_size = r1;

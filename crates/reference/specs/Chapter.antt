@@ -14,7 +14,7 @@ use Rattle.reference.specs.FieldEnums.{IsCEnum, IsPrimitiveEnum}
 use Rattle.reference.specs.Modifiers.{IsPacked, IsPackedC, IsRaised, IsRaisedEnum}
 use Rattle.reference.specs.Option.{IsAsLarge, IsNoneZero, IsSomeAlike, OfOption}
 use Rattle.reference.specs.Primitive.{HasPointersOfIndex, HasPowerAlign, HasWideIndex, HoldsAddresses}
-use Rattle.reference.specs.Primitive.{IsAlignedBySize, IsSignless, IsSizedByTable, IsThin, IsUnit, IsWhole, IsWide}
+use Rattle.reference.specs.Primitive.{IsAlignedBySize, IsSignless, IsSizedByTable, IsThin, IsUnit, IsWhole, IsWidePointer}
 use Rattle.reference.specs.RustLayout.{IsAligned, IsApart, LiesAsAlone}
 
 -- the type lies so, by itself
@@ -41,7 +41,7 @@ pub record HasSimpleTypes (dl : TargetDataLayout) (tree : Tree) (laid : Laid) : 
   -- a thin pointer is as `usize` is, where that is aligned as a pointer
   pub pointer_thin : HasPointersOfIndex dl → EachIn dl tree (IsThin dl (LiesAs dl)) laid
   -- a wide pointer is no smaller and no less aligned than a thin one
-  pub pointer_unsized : EachIn dl tree (IsWide (LiesAs dl)) laid
+  pub pointer_unsized : EachIn dl tree (IsWidePointer (LiesAs dl)) laid
   -- an array's elements lie one after another
   pub array : EachIn dl tree IsArray laid
   -- unit has size 0 and alignment 1

@@ -70,9 +70,9 @@ HoldsAddresses dl _ placed = ⊤
 
 module _ (HasLayout : Tree → Placed → Type 0) where
   -- `pointer.unsized`: a pointer and what it brings along are no smaller and no less aligned than the pointer
-  abbrev pub IsWide : Tree → Placed → Type 0
-  IsWide (pair a b) placed = (thin : Placed) → HasLayout (scalar a) thin → (size_of thin ≤ size_of placed) × (align_in_bytes thin ≤ align_in_bytes placed)
-  IsWide _ placed = ⊤
+  abbrev pub IsWidePointer : Tree → Placed → Type 0
+  IsWidePointer (pair a b) placed = (thin : Placed) → HasLayout (scalar a) thin → (size_of thin ≤ size_of placed) × (align_in_bytes thin ≤ align_in_bytes placed)
+  IsWidePointer _ placed = ⊤
 
   -- `primitive.integer-alignment`, and of sizes: an integer with a sign and one without are alike
   abbrev pub IsSignless : Tree → Placed → Type 0

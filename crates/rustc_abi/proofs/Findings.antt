@@ -13,7 +13,7 @@ use Rattle.abi_base.specs.declared.primitive.Primitive.TheVariants.{Int}
 use Rattle.abi_base.specs.Align.{IsLeastPower, max_exponent}
 use Rattle.abi_base.specs.DataLayout.{default_data_layout, vector_align_of}
 use Rattle.abi_base.specs.DataLayoutFault.{Fault}
-use Rattle.abi_base.specs.DataLayoutSpec.{alignment_in, bits_in, lettered_row, pointer_setting, pointer_space, pointers_in, row_of, setting_in, setting_of, settings_of, size_in}
+use Rattle.abi_base.specs.DataLayoutSpec.{alignment_in, bits_in, lettered_row, pointer_setting, pointer_space, pointers_in, row_of_spec, setting_in, setting_of, settings_of, size_written}
 use Rattle.abi_base.specs.DataLayoutText.{data_layout_in}
 use Rattle.abi_base.specs.NumberText.{number_answer}
 use Rattle.abi_scalar.specs.declared.scalar.Scalar.{Scalar}
@@ -64,7 +64,7 @@ index_size_of text = either_size (data_layout_in (record { 0 = 0 }) text) where
   either_size (Err fault) = 0
 
 pub narrow_indices_are_narrow : index_size_of narrow_indices ≡ 4
-unfolding data_layout_in settings_of setting_of setting_in row_of lettered_row pointer_setting chars pointers_in pointer_space size_in bits_in number_answer alignment_in count_trailing_zeros
+unfolding data_layout_in settings_of setting_of setting_in row_of_spec lettered_row pointer_setting chars pointers_in pointer_space size_written bits_in number_answer alignment_in count_trailing_zeros
 narrow_indices_are_narrow = refl
 
 pub fifth_part_is_not_read : index_size_of narrow_indices ≢ index_size_in_the_crate

@@ -14,7 +14,7 @@ use Rattle.abi_scalar.specs.Order.{indices_by_offset}
 use Rattle.abi_lists.specs.Part.{max_align}
 use Rattle.abi_calc.proofs.AtIndex.{left_at}
 use Rattle.abi_calc.specs.Enums.Growth.{first_align, grown_tag, larger_integer, start_align}
-use Rattle.abi_calc.specs.Enums.Lists.{AreListsOf, IsListOf}
+use Rattle.abi_calc.specs.Enums.Lists.{AreListsOf, ListsFields}
 use Rattle.abi_calc.specs.Enums.Path.{is_free}
 
 -- ---- the variants' lists
@@ -28,7 +28,7 @@ lists_count (fields ∷ variants) (list ∷ lists) h = ap suc (lists_count varia
 
 -- the list at a place is that of the variant there
 pub list_at : {A F V : Type 0} (variants : List (List A)) (lists : List (LayoutData F V)) (i : ℕ) (fields : List A) (list : LayoutData F V) → AreListsOf variants lists → i < length lists
-    → IsListOf (get_or variants i fields) (get_or lists i list)
+    → ListsFields (get_or variants i fields) (get_or lists i list)
 list_at [] [] i fields list h short = absurd (omega arith)
 list_at [] (l ∷ lists) i fields list h short = absurd h
 list_at (v ∷ variants) [] i fields list h short = absurd h

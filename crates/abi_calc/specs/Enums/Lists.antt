@@ -49,7 +49,7 @@ IsFirstListError layout_of at first dl repr kind (fields ∷ variants) error =
     ⊎ ((list : LayoutData _ _) × IsListAnswer layout_of at first dl repr kind fields (Ok list) × IsFirstListError layout_of at first dl repr kind variants error)
 
 -- The list's fields are listed one by one: an offset for each of these, and a place in memory order.
-pub record IsListOf {A F V : Type 0} (fields : List A) (list : LayoutData F V) : Type 0 where
+pub record ListsFields {A F V : Type 0} (fields : List A) (list : LayoutData F V) : Type 0 where
   pub listed : IsListed list.fields
   pub count : length (listed_offsets list.fields) ≡ length fields
   pub places : HasPlaceForEach list.fields
@@ -59,7 +59,7 @@ pub record IsListOf {A F V : Type 0} (fields : List A) (list : LayoutData F V) :
 -- the most free numbers.
 pub record IsGoodList {F V H : Type 0} (layout_of : H → LayoutData F V) (at : ℕ → F) (first : V) (dl : TargetDataLayout) (repr : ReprOptions) (kind : StructKind) (fields : List H) (list : LayoutData F V) : Type 0 where
   pub exact : IsListAnswer layout_of at first dl repr kind fields (Ok list)
-  pub listed : IsListOf fields list
+  pub listed : ListsFields fields list
   pub lawful : IsLawfulLayout dl list
   pub placed : LiesInSomeOrder at dl repr kind (map layout_of fields) list
   pub least : IsLeastSize dl repr kind (map layout_of fields) list.size
@@ -84,5 +84,5 @@ HaveGoodLists layout_of at first dl repr kind variants = (lists : List (LayoutDa
 -- each variant has a list of its own
 abbrev pub AreListsOf : {A F V : Type 0} → (variants : List (List A)) → (lists : List (LayoutData F V)) → Type 0
 AreListsOf [] [] = ⊤
-AreListsOf (fields ∷ variants) (list ∷ lists) = IsListOf fields list × AreListsOf variants lists
+AreListsOf (fields ∷ variants) (list ∷ lists) = ListsFields fields list × AreListsOf variants lists
 AreListsOf _ _ = ⊥

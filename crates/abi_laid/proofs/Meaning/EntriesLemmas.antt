@@ -6,9 +6,9 @@ use Rattle.abi_scalar.specs.Layout.{Layout}
 use Rattle.abi_types.specs.Ty.Typed.{no_layout}
 use Rattle.abi_laid.specs.declared.node.Shape.{Shape}
 use Rattle.abi_laid.specs.declared.nodes.Entry.{Entry}
-use Rattle.abi_laid.specs.Entries.{AreEntries, HasMore, entered, nodes_of}
+use Rattle.abi_laid.specs.Entries.{AreEntries, KeepsLayouts, entered, nodes_of}
 
-module _ (old new : List Layout) (more : HasMore old new) where
+module _ (old new : List Layout) (more : KeepsLayouts old new) where
   -- a node that is kept stays where layouts are put behind
   entered-more : (e : Entry) → e.layout < length old → entered new e ≡ entered old e
   entered-more e lt =

@@ -10,7 +10,7 @@ use Rattle.reference.specs.FieldEnums.{IsCEnum, IsCTag, IsPrimitiveEnum}
 use Rattle.reference.specs.Modifiers.{IsPacked, IsPackedC, IsPackedWide, IsRaised, IsRaisedEnum}
 use Rattle.reference.specs.Option.{IsAsLarge, IsNoneZero, IsSomeAlike, OfOption}
 use Rattle.reference.specs.Primitive.{HasPointersOfIndex, HasPowerAlign, HasWideIndex, HoldsAddresses}
-use Rattle.reference.specs.Primitive.{IsAlignedBySize, IsSignless, IsSizedByTable, IsThin, IsUnit, IsWhole, IsWide}
+use Rattle.reference.specs.Primitive.{IsAlignedBySize, IsSignless, IsSizedByTable, IsThin, IsUnit, IsWhole, IsWidePointer}
 use Rattle.reference.specs.RustLayout.{IsAligned, IsApart}
 use Rattle.reference.specs.Tags.{HasEnumsOfIndex}
 use Rattle.reference.specs.Transparent.{IsTransparent}
@@ -47,7 +47,7 @@ returns-clause-simple c =
     (each_laid c.args.dl.now (tree_of c.args.tree.now) (IsSignless (λ t p. IsLaying c.args.dl.now t (Ok p))) (λ law. laid_signless c.args.dl.now) c.lay_out.result c.lay_out.ensures.lawful c.lay_out.ensures.parts)
     (each_laid c.args.dl.now (tree_of c.args.tree.now) IsAlignedBySize (λ law. laid_by_size c.args.dl.now law) c.lay_out.result c.lay_out.ensures.lawful c.lay_out.ensures.parts)
     (each_laid_if c.args.dl.now (tree_of c.args.tree.now) (HasPointersOfIndex c.args.dl.now) (IsThin c.args.dl.now (λ t p. IsLaying c.args.dl.now t (Ok p))) (λ given law. laid_thin c.args.dl.now law given) c.lay_out.result c.lay_out.ensures.lawful c.lay_out.ensures.parts)
-    (each_laid c.args.dl.now (tree_of c.args.tree.now) (IsWide (λ t p. IsLaying c.args.dl.now t (Ok p))) (λ law. laid_wide c.args.dl.now) c.lay_out.result c.lay_out.ensures.lawful c.lay_out.ensures.parts)
+    (each_laid c.args.dl.now (tree_of c.args.tree.now) (IsWidePointer (λ t p. IsLaying c.args.dl.now t (Ok p))) (λ law. laid_wide c.args.dl.now) c.lay_out.result c.lay_out.ensures.lawful c.lay_out.ensures.parts)
     (each_laid c.args.dl.now (tree_of c.args.tree.now) IsArray (λ law. laid_array c.args.dl.now) c.lay_out.result c.lay_out.ensures.lawful c.lay_out.ensures.parts)
     (each_laid c.args.dl.now (tree_of c.args.tree.now) IsUnit (λ law. laid_unit c.args.dl.now law) c.lay_out.result c.lay_out.ensures.lawful c.lay_out.ensures.parts)
 
