@@ -1,20 +1,46 @@
 -- The niche of a list of parts.
-use Rattle.std.specs.Prelude.{◌≡◌, ℕ, ◌+◌, ◌-◌, ◌≤◌, ◌⊎◌, ◌&&◌, All, Bool, false, List, ◌∷◌, max, nat_lt, Option, Some, None, IfSome, if◌then◌else◌}
+use Rattle.std.specs.Prelude.{◌≡◌, ℕ, ◌+◌, ◌-◌, ◌^◌, ◌<◌, ◌≤◌, ◌⊎◌, ◌&&◌, All, Bool, false, List, ◌∷◌, max, nat_lt, Option, Some, None, IfSome, length, if◌then◌else◌}
 use Rattle.abi_base.specs.declared.data_layout.TargetDataLayout.{TargetDataLayout}
 use Rattle.abi_scalar.specs.declared.niche.Niche.{Niche}
 use Rattle.abi_scalar.specs.declared.layout_data.LayoutData.{LayoutData}
 use Rattle.abi_scalar.specs.Niche.{niche_size, available_in}
 use Rattle.abi_scalar.specs.Pair.{larger_niche}
+use Rattle.abi_lists.specs.declared.list_niche.GreatestNiche.{GreatestNiche}
+use Rattle.abi_lists.specs.declared.list_niche.NicheSoFar.{NicheSoFar}
+use Rattle.abi_lists.specs.declared.list_niche.PlacedField.{PlacedField}
 use Rattle.abi_lists.specs.declared.order.NicheBias.{NicheBias}
 use Rattle.abi_lists.specs.declared.order.NicheBias.TheVariants.{Start, End}
 use Rattle.abi_lists.specs.declared.part.Part.{Part}
 use Rattle.abi_lists.specs.declared.list_repr.ListRepr.{ListRepr}
+use Rattle.abi_lists.specs.ListView.{part_at}
 use Rattle.abi_lists.specs.Placement.{in_order, offsets_from, start_of}
 
 -- a part's niche, told from the start of the whole
 abbrev pub niche_of_part : (offset : ℕ) → Option Niche → Option Niche
 niche_of_part offset None = None
 niche_of_part offset (Some own) = Some (record own { offset = offset + own.offset })
+
+-- the part at this index lies at this offset
+abbrev pub placed_field : (index offset : ℕ) → Option PlacedField
+placed_field index offset = Some (record { index = index; offset = offset })
+
+-- its niche, told from the start of the whole
+abbrev pub niche_of_placed : List Part → Option PlacedField → Option Niche
+niche_of_placed parts None = None
+niche_of_placed parts (Some field) = niche_of_part field.offset (part_at parts field.index).largest_niche
+
+-- it is one of the parts, and its niche begins at a number of 64 bits
+abbrev pub IsPlacedField : List Part → Option PlacedField → Type 0
+IsPlacedField parts field =
+    IfSome field (λ f. (f.index < length parts) × IfSome (part_at parts f.index).largest_niche (λ own. f.offset + own.offset < 2 ^ 64))
+
+-- the niches of the parts that were found to have the greatest so far
+abbrev pub niche_found : List Part → NicheSoFar → GreatestNiche
+niche_found parts so_far = record {
+  first = niche_of_placed parts so_far.first;
+  last = niche_of_placed parts so_far.last;
+  free = so_far.free;
+}
 
 -- the niche with more free numbers; of equals a bias to the start keeps the earlier, one to the end the later
 abbrev pub greater_niche : NicheBias → TargetDataLayout → (earlier later : Option Niche) → Option Niche

@@ -1,11 +1,11 @@
 //! How a code generator sees a list of fields.
 
-ghost use Rattle.std.specs.Prelude.{◌≡◌, ℕ, ◌+◌, ◌^◌, ◌<◌, ◌≤◌, ⊤, All, IfOk, MatchBool, length, slice_index};
+ghost use Rattle.std.specs.Prelude.{◌≡◌, ℕ, ◌+◌, ◌^◌, ◌<◌, ◌≤◌, ⊤, All, IfOk, MatchBool, length, not, slice_index};
 ghost use Rattle.abi_lists.specs.declared.list_view.Bulk.TheVariants.{More};
 ghost use Rattle.abi_base.specs.DataLayout.{IsLawfulDataLayout, size_bound};
 ghost use Rattle.abi_scalar.specs.Scalar.{IsLawfulScalar};
-ghost use Rattle.abi_lists.specs.Part.{IsLawfulPart};
-ghost use Rattle.abi_lists.specs.ListView.{any_unsized, bulk_of, bulk_with, bulky_align, bulky_parts, bulky_view, is_bulky, kept_view, list_view, one_view, pair_view, part_at, transparent_align, two_view};
+ghost use Rattle.abi_lists.specs.Part.{IsLawfulPart, is_empty_view};
+ghost use Rattle.abi_lists.specs.ListView.{any_unsized, bulk_of, bulk_with, bulky_align, bulky_parts, bulky_view, kept_view, list_view, one_view, pair_view, part_at, transparent_align, two_view};
 
 use crate::part::{Part, Parts, is_unsized};
 use abi_base::{Align, Size, TargetDataLayout};
@@ -13,11 +13,11 @@ use abi_index::Idx;
 use abi_scalar::{BackendRepr, LayoutHandle, Scalar};
 
 /// Whether the field has bytes, or is seen as more than bytes in memory.
-fn is_bulky(part: &Part) -> bool
-    ensures { result ≡ is_bulky part.now }
+fn is_bulky(view: &BackendRepr, size: Size) -> bool
+    ensures { result ≡ not (is_empty_view view.now size) }
 {
-    match part.view {
-        BackendRepr::Memory { sized } => !(sized && part.size == Size::ZERO),
+    match view {
+        BackendRepr::Memory { sized } => !(*sized && size == Size::ZERO),
         _ => true,
     }
 }
@@ -64,7 +64,8 @@ pub(crate) fn bulk_of<FieldIdx: Idx, VariantIdx: Idx, F: LayoutHandle<FieldIdx, 
         if is_more(bulk) {
             return bulk;
         }
-        if is_bulky(&parts.at(index)) {
+        let layout = parts.layout_at(index);
+        if is_bulky(&layout.backend_repr, layout.size) {
             bulk = bulk_with(bulk, index);
         }
     }
@@ -78,7 +79,7 @@ pub(crate) fn any_unsized<FieldIdx: Idx, VariantIdx: Idx, F: LayoutHandle<FieldI
     ensures { result ≡ any_unsized parts.now }
 {
     for index in 0..parts.len() {
-        if is_unsized(parts.at(index).view) {
+        if is_unsized(parts.layout_at(index).backend_repr) {
             return true;
         }
     }
@@ -192,6 +193,7 @@ fn bulky_view<FieldIdx: Idx, VariantIdx: Idx, F: LayoutHandle<FieldIdx, VariantI
 }
 
 /// How a code generator sees a list of this size and alignment, whose fields lie at these offsets.
+#[inline(always)]
 pub(crate) fn list_view<FieldIdx: Idx, VariantIdx: Idx, F: LayoutHandle<FieldIdx, VariantIdx>>(
     dl: &TargetDataLayout,
     fixed: bool,
@@ -207,10 +209,10 @@ pub(crate) fn list_view<FieldIdx: Idx, VariantIdx: Idx, F: LayoutHandle<FieldIdx
     requires bulk { bulk ≡ bulk_of (bulky_parts parts.now) }
     ensures { result ≡ list_view dl.now fixed size align parts.now offsets.now }
 {
-    if any_unsized(parts) {
-        BackendRepr::Memory { sized: false }
-    } else if size == Size::ZERO {
-        BackendRepr::Memory { sized: true }
+    let sized = !any_unsized(parts);
+    // (one branch for all that is seen as bytes: a view is large, and copied where branches meet)
+    if !sized | (size == Size::ZERO) | is_more(bulk) {
+        BackendRepr::Memory { sized }
     } else {
         bulky_view(dl, fixed, size, align, parts, offsets, bulk)
     }

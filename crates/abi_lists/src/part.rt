@@ -1,6 +1,6 @@
 //! What the layout of a list asks of its fields.
 
-ghost use Rattle.std.specs.Prelude.{◌≡◌, ◌<◌, All, IfSome, length, map};
+ghost use Rattle.std.specs.Prelude.{◌≡◌, ◌<◌, All, IfSome, length, map, slice_index_or};
 ghost use Rattle.std.specs.Option.{option_map_or};
 ghost use Rattle.abi_base.specs.DataLayout.{IsLawfulDataLayout};
 ghost use Rattle.abi_scalar.specs.Lawful.{IsLawfulLayout, IsLawfulNiche};
@@ -89,6 +89,15 @@ fn part_of<C: HasDataLayout, FieldIdx: Idx, VariantIdx: Idx>(
     }
 }
 
+/// The field at an index, lent.
+#[inline(always)]
+fn field_at<F>(fields: &[F], index: usize) -> &F
+    requires { index < length fields.now }
+    ensures { result.now ≡ slice_index_or fields.now index result.now }
+{
+    &fields[index]
+}
+
 /// The fields of a list, as parts: each is told by its field's layout, when it is asked for.
 #[derive(Drop)]
 pub struct Parts<'a, FieldIdx: Idx, VariantIdx: Idx, F: LayoutHandle<FieldIdx, VariantIdx>> {
@@ -143,6 +152,18 @@ impl<'a, FieldIdx: Idx, VariantIdx: Idx, F: LayoutHandle<FieldIdx, VariantIdx>> 
         ensures { result ≡ part_at self.now index }
     {
         part_of(self.dl, self.fields[index].layout())
+    }
+
+    /// The layout of the field at an index: what it tells is there, where `at` works out the rest.
+    #[inline(always)]
+    pub(crate) fn layout_at(&self, index: usize) -> &LayoutData<FieldIdx, VariantIdx>
+        requires { index < length self.now }
+        ensures size { result.now.size ≡ (part_at self.now index).size }
+        ensures align { result.now.align.abi ≡ (part_at self.now index).align }
+        ensures view { result.now.backend_repr ≡ (part_at self.now index).view }
+        ensures niche { result.now.largest_niche ≡ (part_at self.now index).largest_niche }
+    {
+        field_at(self.fields, index).layout()
     }
 
     /// The parts that may move: all but a last one that may be unsized.

@@ -8,7 +8,7 @@ ghost use Rattle.abi_lists.specs.ListNiche.{niche_in};
 ghost use Rattle.abi_lists.specs.Fault.{fault_from, is_maybe_unsized};
 ghost use Rattle.abi_lists.specs.declared.placing.ListFault.TheVariants.{OutOfMemory};
 
-use crate::list_niche::GreatestNiche;
+use crate::list_niche::{GreatestNiche, NicheSoFar};
 use crate::list_repr::{ListRepr, cut_to, rounded};
 use crate::memory_order::MemoryOrder;
 use crate::order::NicheBias;
@@ -79,7 +79,7 @@ pub(crate) fn list_align<FieldIdx: Idx, VariantIdx: Idx, F: LayoutHandle<FieldId
 {
     let mut greatest = repr.align.max(prefix_align(repr.kind, repr.pack));
     for index in 0..parts.len() {
-        greatest = greatest.max(cut_to(parts.at(index).align, repr.pack));
+        greatest = greatest.max(cut_to(parts.layout_at(index).align.abi, repr.pack));
     }
     greatest
 }
@@ -137,7 +137,7 @@ pub(crate) fn place<FieldIdx: Idx, VariantIdx: Idx, F: LayoutHandle<FieldIdx, Va
 {
     let mut offsets = vec![in alloc; Size::ZERO; parts.len()]?;
     let mut end = list_start(repr.kind, repr.pack, dl.obj_size_bound());
-    let mut niche = GreatestNiche::NONE;
+    let mut niche = NicheSoFar::NONE;
     let count = order.len();
     for at in 0..count {
         let index = order.at(at);
@@ -153,12 +153,12 @@ pub(crate) fn place<FieldIdx: Idx, VariantIdx: Idx, F: LayoutHandle<FieldIdx, Va
             return Err(ListFault::Unsized(index));
         }
         offsets[index] = offset;
-        niche = niche.with(offset, &part);
+        niche = niche.with(index, offset, part.free);
         end = next;
     }
     Ok(Placement {
         offsets,
         end,
-        niche,
+        niche: niche.found(parts),
     })
 }

@@ -1,5 +1,5 @@
 -- The loop that places fields in an order.
-use Rattle.std.proofs.Common.{◌≡◌, ℕ, zero, suc, ◌+◌, ◌<◌, ◌≤◌, ◌≢◌, true, false, List, [], ◌∷◌, ◌++◌, Option, Some, length, take, drop, map, get_or, set, refl, sym, ap, ap₂, subst, ◌∙◌, arith, get_or-set_same, get_or-set_other, length-set, length-take, eqb, max, nat_lt}
+use Rattle.std.proofs.Common.{◌≡◌, ℕ, zero, suc, ◌+◌, ◌<◌, ◌≤◌, ◌≢◌, Bool, true, false, List, [], ◌∷◌, ◌++◌, Option, Some, length, take, drop, map, get_or, set, refl, sym, ap, ap₂, subst, ◌∙◌, arith, get_or-set_same, get_or-set_other, length-set, length-take, eqb, max, nat_lt}
 use Rattle.std.proofs.lemmas.Bool.Decides.{Decides-eqb}
 use Rattle.std.proofs.Math.Nat.{max_comm}
 use Rattle.std.proofs.lemmas.List.FromFn.{length-range_with_len, get_or-range_with_len}
@@ -19,7 +19,8 @@ use Rattle.abi_lists.specs.declared.order.NicheBias.{NicheBias}
 use Rattle.abi_lists.specs.declared.order.NicheBias.TheVariants.{Start, End}
 use Rattle.abi_lists.specs.declared.placing.ListFault.TheVariants.{Unsized, TooLarge}
 use Rattle.abi_lists.specs.Fault.{fault_from, is_empty, is_maybe_unsized}
-use Rattle.abi_lists.specs.ListNiche.{greatest_niche, greater_niche, niche_of_part}
+use Rattle.abi_lists.specs.declared.list_niche.PlacedField.{PlacedField}
+use Rattle.abi_lists.specs.ListNiche.{IsPlacedField, greatest_niche, greater_niche, niche_of_part, niche_of_placed}
 use Rattle.abi_lists.specs.Part.{IsLawfulPart, is_unsized}
 use Rattle.abi_lists.specs.Placement.{place_of, offsets_from, end_from, no_part, in_order, source_order}
 use Rattle.abi_lists.proofs.Offsets.Ends.{end_from-append}
@@ -103,6 +104,16 @@ greatest_more dl os ps v part now next many law g first last free =
       counted_first = rw (first, free) (counted_more dl now.free part.free now.first own g.counted_first here);
       counted_last = rw (last, free, max_comm now.free part.free) (counted_more dl part.free now.free own now.last here g.counted_last);
     }
+
+-- what lies of one of two lies as that one
+pub placed_if : (parts : List Part) (b : Bool) (x y : Option PlacedField) → IsPlacedField parts x → IsPlacedField parts y → IsPlacedField parts (if b then x else y)
+placed_if parts true x y one other = one
+placed_if parts false x y one other = other
+
+-- and its niche is the niche of that one
+pub niche_if : (parts : List Part) (b : Bool) (x y : Option PlacedField) → niche_of_placed parts (if b then x else y) ≡ (if b then niche_of_placed parts x else niche_of_placed parts y)
+niche_if parts true x y = refl
+niche_if parts false x y = refl
 
 -- after k fields
 pub record IsPlaced (dl : TargetDataLayout) (repr : ListRepr) (bound from : ℕ) (parts : List Part) (order : List ℕ) (k : ℕ) (offsets : List ℕ) (end : ℕ) (niche : GreatestNiche) : Type 0 where

@@ -17,6 +17,7 @@ use abi_index::VariantIdx;
 use abi_scalar::{BackendRepr, FieldsShape, Variants};
 
 /// The register that all bytes of a type are passed in, one after another.
+#[inline(always)]
 #[cycle(uniform)]
 fn uniform<W: Walk>(this: W) -> Result<HomogeneousAggregate, Heterogeneous>
     requires { W.is_valid this }

@@ -1,4 +1,6 @@
-use Rattle.std.proofs.Common.{◌≡◌, ℕ, ◌+◌, ◌-◌, Bool, arith, filter, length, sym, ap, ◌∙◌}
+use Rattle.std.proofs.Common.{◌≡◌, ℕ, ◌+◌, ◌-◌, Bool, arith, filter, length, sym, ap, ap₂, ◌∙◌}
+use Rattle.std.specs.Prelude.{not}
+use Rattle.abi_lists.specs.Part.{is_empty_view}
 use Rattle.abi_lists.specs.ListView.{bulk_of, is_bulky, part_at}
 use Rattle.abi_lists.specs.Placement.{source_order}
 use Rattle.abi_lists.proofs.Views.ViewLemmas.{bulk_else, bulk_stays, bulk_then}
@@ -7,7 +9,8 @@ use Rattle.abi_lists.proofs.list_view.bulk_of.Goals.{then-is_bulky, else-is_bulk
 
 pub loop-index-preserved : goal.loop-index-preserved
 loop-index-preserved g c =
-    let test : c.is_bulky.result ≡ is_bulky (part_at c.args.parts.now c.loop-index.index) = c.is_bulky.ensures ∙ ap is_bulky c.at.ensures in
+    let test : c.is_bulky.result ≡ is_bulky (part_at c.args.parts.now c.loop-index.index)
+    = c.is_bulky.ensures ∙ ap₂ (λ view size. not (is_empty_view view size)) c.layout_at-layout.ensures.view c.layout_at-layout.ensures.size in
     elim c.if-is_bulky.branch [
       | then-is_bulky w ↦
           bulk_then (λ i. is_bulky (part_at c.args.parts.now i)) c.loop-index.index c.loop-index.bulk c.if-is_bulky.bulk c.loop-index.invariant (sym test ∙ w.if-is_bulky.true)
