@@ -10,9 +10,9 @@ use Rattle.rust_source.specs.declared.reader.operators.Waiting.{Waiting}
 use Rattle.rust_source.specs.declared.syntax.Binary.{Binary}
 use Rattle.rust_source.specs.Cursor.{fault, passed, place}
 use Rattle.rust_source.specs.Joining.{AreRead, BindsFrom, IsJoinedByStrength, Joining, OperatorsBindByStrength, expression_of, least_before, linked, lone, operands_in, operators_in}
-use Rattle.rust_source.specs.Operators.{all_joined, is_comparison, joined_tighter, last_binds, last_compares, last_operand, next_operator, operator_put, stands_beside, tightness}
+use Rattle.rust_source.specs.Operators.{all_joined, joined_tighter, last_binds, last_compares, last_operand, next_operator, operator_put, tightness}
 use Rattle.rust_source.specs.Reading.{Reading, after_by, read_as}
-use Rattle.rust_source.specs.Syntax.{ExprRead, binary}
+use Rattle.rust_source.specs.Syntax.{ExprRead}
 use Rattle.rust_source.specs.Simple.{most_nested}
 use Rattle.rust_source.specs.Terms.{Known, Readers, expr_from, expr_on, expr_with, operand}
 use Rattle.rust_source.proofs.Operators.{none_tighter, tighter_twice}

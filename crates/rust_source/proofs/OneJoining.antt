@@ -1,6 +1,6 @@
 -- Operands and operators are joined by strength in one way: around the last of the operators that bind least.
 use Rattle.std.proofs.Common.{◌≡◌, ℕ, ◌+◌, ◌≤◌, List, [], ◌∷◌, ◌++◌, length, refl, sym, ap, ap₂, subst, ◌∙◌, arith}
-use Rattle.std.specs.Prelude.{Bool, true, false, ◌==◌, ⊤, if◌then◌else◌}
+use Rattle.std.specs.Prelude.{Bool, true, false, ⊤, if◌then◌else◌}
 use Rattle.std.proofs.lemmas.List.{length-append}
 use Rattle.std.proofs.Math.Seq.{drop-append_seam, take-append_seam}
 use Rattle.std.specs.Prelude.{drop, take}

@@ -1,7 +1,6 @@
 -- The law of operators: an expression is the operands and the operators that are read, joined so that each operator takes what binds
 -- tighter, and from left to right what binds alike.
 use Rattle.std.specs.Prelude.{◌≡◌, ℕ, ◌+◌, ◌≤◌, List, [], ◌∷◌, ◌++◌, None, Some, Ok, ⊤, if◌then◌else◌}
-use Rattle.rust_source.specs.declared.place.Place.{Place}
 use Rattle.rust_source.specs.declared.reader.cursor.Cursor.{Cursor}
 use Rattle.rust_source.specs.declared.reader.operators.Waiting.{Waiting}
 use Rattle.rust_source.specs.declared.syntax.Binary.{Binary}
