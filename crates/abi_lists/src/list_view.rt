@@ -1,7 +1,7 @@
 //! How a code generator sees a list of fields.
 
-ghost use Rattle.std.specs.Prelude.{◌≡◌, ℕ, ◌+◌, ◌^◌, ◌<◌, ◌≤◌, ⊤, All, IfOk, MatchBool, length, not, slice_index};
-ghost use Rattle.abi_lists.specs.declared.list_view.Bulk.TheVariants.{More};
+ghost use Rattle.std.specs.Prelude.{◌≡◌, ℕ, ◌+◌, ◌^◌, ◌<◌, ◌≤◌, ◌⊎◌, ⊤, All, IfOk, MatchBool, length, not, slice_index};
+ghost use Rattle.abi_lists.specs.declared.list_view.Bulk.TheVariants.{More, Nothing};
 ghost use Rattle.abi_base.specs.DataLayout.{IsLawfulDataLayout, size_bound};
 ghost use Rattle.abi_scalar.specs.Scalar.{IsLawfulScalar};
 ghost use Rattle.abi_lists.specs.Part.{IsLawfulPart, is_empty_view};
@@ -50,6 +50,17 @@ fn is_more(bulk: Bulk) -> bool
     match bulk {
         Bulk::More => true,
         _ => false,
+    }
+}
+
+/// Whether a view may be one of theirs: where there are one or two.
+fn is_few(bulk: Bulk) -> bool
+    ensures { MatchBool result ⊤ ((bulk ≡ Nothing) ⊎ (bulk ≡ More)) }
+{
+    match bulk {
+        Bulk::Nothing => false,
+        Bulk::More => false,
+        _ => true,
     }
 }
 
@@ -211,7 +222,7 @@ pub(crate) fn list_view<FieldIdx: Idx, VariantIdx: Idx, F: LayoutHandle<FieldIdx
 {
     let sized = !any_unsized(parts);
     // (one branch for all that is seen as bytes: a view is large, and copied where branches meet)
-    if !sized | (size == Size::ZERO) | is_more(bulk) {
+    if !sized | (size == Size::ZERO) | !is_few(bulk) {
         BackendRepr::Memory { sized }
     } else {
         bulky_view(dl, fixed, size, align, parts, offsets, bulk)

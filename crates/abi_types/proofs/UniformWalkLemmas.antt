@@ -1,7 +1,9 @@
 -- The walk that looks for the one register of a type.
-use Rattle.std.proofs.Common.{◌≡◌, ℕ, suc, ◌+◌, ◌-◌, ◌<◌, ◌↔◌, ◌≢◌, not, Bool, true, false, List, [], ◌∷◌, filter, length, max, Option, None, Result, Ok, Err, IfOk, IsErr, IsOk, refl, ap, subst, sym, ◌∙◌, arith}
+use Rattle.std.proofs.Common.{◌≡◌, ℕ, suc, ◌+◌, ◌-◌, ◌<◌, ◌≤◌, ◌↔◌, ◌≢◌, not, Bool, true, false, List, [], ◌∷◌, filter, length, max, Option, None, Result, Ok, Err, IfOk, IsErr, IsOk, refl, ap, subst, sym, ◌∙◌, arith}
 use Rattle.std.specs.List.{range_with_len}
+use Rattle.std.specs.Prelude.{slice_index}
 use Rattle.std.proofs.lemmas.Bool.{false≢true}
+use Rattle.std.proofs.lemmas.Option.{unwrap_or-slice_get}
 use Rattle.abi_scalar.specs.declared.backend_repr.BackendRepr.TheVariants.{ScalarPair}
 use Rattle.abi_scalar.specs.declared.fields_shape.FieldsShape.{FieldsShape}
 use Rattle.abi_scalar.specs.declared.fields_shape.FieldsShape.TheVariants.{Primitive as NoFields, Union, Array, Arbitrary}
@@ -9,7 +11,7 @@ use Rattle.abi_scalar.specs.declared.scalar.Scalar.{Scalar}
 use Rattle.abi_scalar.specs.declared.variants.TagEncoding.{TagEncoding}
 use Rattle.abi_scalar.specs.declared.variants.VariantLayout.{VariantLayout}
 use Rattle.abi_scalar.specs.declared.variants.Variants.TheVariants.{Multiple}
-use Rattle.abi_scalar.specs.Shape.{IsListed, field_count, field_offset}
+use Rattle.abi_scalar.specs.Shape.{IsListed, field_count, field_offset, listed_offsets}
 use Rattle.abi_scalar.specs.Variant.{variants_of}
 use Rattle.abi_types.specs.declared.reg.Reg.{Reg}
 use Rattle.abi_types.specs.declared.homogeneous.Heterogeneous.{Heterogeneous}
@@ -17,6 +19,7 @@ use Rattle.abi_types.specs.declared.homogeneous.HomogeneousAggregate.{Homogeneou
 use Rattle.abi_types.specs.Homogeneous.{AllRun, Answers, AnswersRun, IsOneOf, IsUnionShape, register_of}
 use Rattle.abi_types.specs.Ty.Typed.{Typed, typed, no_type, at_variant, field_in, layout_in, variant_in}
 use Rattle.abi_scalar.specs.Layout.{Layout}
+use Rattle.abi_types.specs.Ty.Lawful.{IsLawfulType}
 use Rattle.abi_types.specs.Ty.Walks.{is_1zst}
 use Rattle.abi_types.specs.Uniform.{AllRunBy, FieldsRun, FieldsRunBy, IsChain, IsUniform, RunsBy, VariantsRunBy, bulky_fields}
 use Rattle.abi_types.proofs.OneFieldLemmas.{kept, passed, taken}
@@ -130,6 +133,35 @@ count_is t l n e f = f ∙ ap (λ k. field_count k.fields) e
 -- and where a field begins
 pub offset_is : (t : Typed) (l : Layout) (i bytes offset : ℕ) → l ≡ layout_in t → offset ≡ field_offset l.fields i → bytes ≡ offset → bytes ≡ field_offset (layout_in t).fields i
 offset_is t l i bytes offset e f g = g ∙ f ∙ ap (λ k. field_offset k.fields i) e
+
+many : (shape : FieldsShape ℕ) → IsListed shape → length (listed_offsets shape) ≡ field_count shape
+many (Arbitrary offsets order) l = refl
+many NoFields l = absurd l
+many (Union count) l = absurd l
+many (Array stride count) l = absurd l
+
+begins : (shape : FieldsShape ℕ) (i : ℕ) → IsListed shape → slice_index (listed_offsets shape) i ≡ field_offset shape i
+begins (Arbitrary offsets order) i l = sym (unwrap_or-slice_get offsets i 0)
+begins NoFields i l = absurd l
+begins (Union count) i l = absurd l
+begins (Array stride count) i l = absurd l
+
+-- fields that are listed are as many as their offsets
+pub listed_count : (t : Typed) (offsets : List ℕ) → IsListed (layout_in t).fields → offsets ≡ listed_offsets (layout_in t).fields → length offsets ≡ count_of t
+listed_count t offsets l e = ap length e ∙ many (layout_in t).fields l
+
+-- and each begins where its offset says
+pub listed_offset : (t : Typed) (offsets : List ℕ) (i bytes offset : ℕ) → IsListed (layout_in t).fields → offsets ≡ listed_offsets (layout_in t).fields → offset ≡ slice_index offsets i
+    → bytes ≡ offset → bytes ≡ field_offset (layout_in t).fields i
+listed_offset t offsets i bytes offset l e f g = g ∙ f ∙ ap (λ os. slice_index os i) e ∙ begins (layout_in t).fields i l
+
+-- a field ends inside its type
+pub ends_inside : (t u : Typed) (i end size : ℕ) → IsLawfulType t → i < count_of t → u ≡ field_in t i → end ≡ field_offset (layout_in t).fields i → size ≡ (layout_in u).size
+    → end + size ≤ (layout_in t).size
+ends_inside no_type u i end size law short is at bytes = absurd law
+ends_inside (typed layout marks field variant) u i end size law short is at bytes =
+    let own : size ≡ (layout_in (field i)).size = bytes ∙ ap (λ w. (layout_in w).size) is in
+    omega (arith, law.0.inside i short, at, own)
 
 own_is : (t u : Typed) (i : ℕ) (s : Option Reg) → u ≡ field_in t i → IsUniform u s → field_own t i s
 own_is t u i s e is = subst (λ w. IsUniform w s) e is

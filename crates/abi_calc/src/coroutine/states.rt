@@ -69,7 +69,7 @@ fn state_offsets<FieldIdx: Idx, LocalIdx: Idx>(
     ensures { IfOk result (λ offsets.
         offsets ≡ state_offsets promoted.now shared.now own.now (map LocalIdx.number state.now)) }
 {
-    let mut offsets = IndexVec::new(alloc);
+    let mut offsets = IndexVec::with_capacity(alloc, state.len())?;
     let mut next = 0;
     for local in state {
         let offset = if promoted.contains(*local) {
@@ -135,9 +135,11 @@ fn own_places<LocalIdx: Idx>(
     Ok(places)
 }
 
-/// The held places, as these ranks follow one another, and then those that the indices name.
+/// The held places, as these ranks follow one another, and then those that the indices name; so many in all.
+#[inline(never)]
 fn joined_places<FieldIdx: Idx>(
     alloc: Global,
+    count: usize,
     held: &[Option<u32>],
     ranks: &[usize],
     places: &[usize],
@@ -151,7 +153,7 @@ fn joined_places<FieldIdx: Idx>(
     ensures { IfOk result (λ list. list ≡ map FieldIdx.at
         (joined_places held.now ranks.now places.now (map FieldIdx.number own.now))) }
 {
-    let mut list = IndexVec::new(alloc);
+    let mut list = IndexVec::with_capacity(alloc, count)?;
     for rank in ranks {
         if let Some(place) = held[*rank] {
             let _place = list.push(FieldIdx::new(place as usize))?;
@@ -188,7 +190,7 @@ fn state_order<FieldIdx: Idx, LocalIdx: Idx>(
 {
     let held = held_places(alloc, promoted, below, ranks.len(), state)?;
     let places = own_places(alloc, promoted, state)?;
-    joined_places(alloc, &held, ranks, &places, own)
+    joined_places(alloc, state.len(), &held, ranks, &places, own)
 }
 
 /// The promoted locals: which they are, how many of them are below each local, and by that rank their offsets, in

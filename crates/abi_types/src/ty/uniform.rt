@@ -2,7 +2,7 @@
 //! none.
 
 ghost use Rattle.std.specs.Prelude.{◌≡◌, ℕ, Option, IfErr, IfOk, IsOk};
-ghost use Rattle.abi_scalar.specs.Shape.{IsListed};
+ghost use Rattle.abi_scalar.specs.Shape.{IsListed, listed_offsets};
 ghost use Rattle.abi_types.specs.Homogeneous.{AllRun, Answers, AnswersRun, IsUnionShape, register_of};
 ghost use Rattle.abi_types.specs.Ty.Typed.{layout_in};
 ghost use Rattle.abi_types.specs.Uniform.{FieldsRun, IsUniform};
@@ -12,7 +12,7 @@ use crate::reg::Reg;
 use crate::ty::interface::{TyAbiInterface, TyAndLayout};
 use crate::ty::one_field::NoBytes;
 use crate::ty::walk::{At, Walk};
-use abi_base::RegKind;
+use abi_base::{RegKind, Size};
 use abi_index::VariantIdx;
 use abi_scalar::{BackendRepr, FieldsShape, Variants};
 
@@ -117,19 +117,24 @@ fn run_fields<W: Walk>(this: W, start: u64) -> Result<(HomogeneousAggregate, u64
             Ok((found, this.layout().size.bytes()))
         }
         FieldsShape::Arbitrary {
-            offsets: _,
+            offsets,
             in_memory_order: _,
-        } => run_listed(this, start),
+        } => run_listed(this, start, offsets.as_slice().as_raw()),
     }
 }
 
-/// The register of fields that are listed one by one, the first at the start, each where the last one ended, and where
+/// The register of fields that are listed one by one at these offsets, the first at the start, each where the last one ended, and where
 /// they end. What has no bytes and is aligned to one byte is passed over.
 #[inline(always)]
 #[cycle(uniform)]
-fn run_listed<W: Walk>(this: W, start: u64) -> Result<(HomogeneousAggregate, u64), Heterogeneous>
+fn run_listed<W: Walk>(
+    this: W,
+    start: u64,
+    offsets: &[Size],
+) -> Result<(HomogeneousAggregate, u64), Heterogeneous>
     requires valid { W.is_valid this }
     requires listed { IsListed (layout_in (W.typed_of this)).fields }
+    requires offsets { offsets.now ≡ listed_offsets (layout_in (W.typed_of this)).fields }
     ensures { AnswersRun result (FieldsRun (W.typed_of this) start) }
 {
     let layout = this.layout();
@@ -137,12 +142,12 @@ fn run_listed<W: Walk>(this: W, start: u64) -> Result<(HomogeneousAggregate, u64
     let _size = layout.size.bytes();
     let mut found = HomogeneousAggregate::NoData;
     let mut end = start;
-    for i in 0..layout.fields.count() {
+    for i in 0..offsets.len() {
         let field = this.field(i);
         if NoBytes::OfLeastAlign.holds(field.layout()) {
             continue;
         }
-        if layout.fields.offset(i).bytes() != end {
+        if offsets[i].bytes() != end {
             return Err(Heterogeneous);
         }
         found = found.beside(uniform(field)?)?;

@@ -1,7 +1,9 @@
-use Rattle.std.proofs.Common.{rules, ◌≡◌, arith, ap, ◌∙◌}
+use Rattle.std.proofs.Common.{rules, ◌≡◌, ◌+◌, ◌≤◌, arith, ap, length, ◌∙◌}
+use Rattle.std.proofs.lemmas.List.{get_or_default}
 use Rattle.abi_types.specs.Homogeneous.{AllRun, register_of}
+use Rattle.abi_types.specs.Ty.Typed.{layout_in}
 use Rattle.abi_types.specs.Uniform.{FieldsRun}
-use Rattle.abi_types.proofs.UniformWalkLemmas.{bulky_is, count_is, count_of, ends_elsewhere, listed_apart, listed_begun, listed_failed, listed_gap, listed_next, listed_passed, offset_is, pair_parts, run_refused, union_apart, union_begun, union_failed, union_next, union_passed, variant_apart, variant_count, variant_failed, variant_is, variant_next, variants_are, variants_begun, variants_in}
+use Rattle.abi_types.proofs.UniformWalkLemmas.{bulky_is, count_is, count_of, ends_elsewhere, ends_inside, listed_apart, listed_begun, listed_count, listed_failed, listed_gap, listed_next, listed_offset, listed_passed, pair_parts, run_refused, union_apart, union_begun, union_failed, union_next, union_passed, variant_apart, variant_count, variant_failed, variant_is, variant_next, variants_are, variants_begun, variants_in}
 use Rattle.abi_types.proofs.ty.uniform.+uniform.Goals as goal
 
 -- ---- variants
@@ -50,22 +52,22 @@ run_listed-loop-i-init g t c = listed_begun (g.W.Walk.typed_of c.args.this) c.ar
 pub run_listed-loop-i-preserved-then-holds : goal.run_listed-loop-i-preserved-then-holds
 run_listed-loop-i-preserved-then-holds g t c =
     let t = g.W.Walk.typed_of c.args.this in
-    let count : c.count-i-end.result ≡ count_of t = count_is t c.layout-layout.result.now c.count-i-end.result c.layout-layout.ensures c.count-i-end.ensures in
+    let count : length c.args.offsets.now ≡ count_of t = listed_count t c.args.offsets.now c.requires.listed c.requires.offsets in
     listed_passed (FieldsRun t c.args.start) t c.loop-i.i (register_of c.loop-i.found) c.loop-i.end (omega (arith, count, c.loop-i-test.true))
     (bulky_is t (g.W.Walk.typed_of c.field-field.result) c.loop-i.i c.layout.result.now c.holds.result _ c.field-field.ensures.field c.layout.ensures c.holds.ensures c.if-holds.true) c.loop-i.invariant
 
 pub run_listed-returns-then-bytes-end : goal.run_listed-returns-then-bytes-end
 run_listed-returns-then-bytes-end g t c =
     let t = g.W.Walk.typed_of c.args.this in
-    let count : c.count-i-end.result ≡ count_of t = count_is t c.layout-layout.result.now c.count-i-end.result c.layout-layout.ensures c.count-i-end.ensures in
+    let count : length c.args.offsets.now ≡ count_of t = listed_count t c.args.offsets.now c.requires.listed c.requires.offsets in
     listed_gap (FieldsRun t c.args.start) t c.loop-i.i (register_of c.loop-i.found) c.loop-i.end c.bytes.result (omega (arith, count, c.loop-i-test.true))
     (bulky_is t (g.W.Walk.typed_of c.field-field.result) c.loop-i.i c.layout.result.now c.holds.result _ c.field-field.ensures.field c.layout.ensures c.holds.ensures c.if-holds.false)
-    (offset_is t c.layout-layout.result.now c.loop-i.i c.bytes.result c.offset.result c.layout-layout.ensures c.offset.ensures c.bytes.ensures) (omega (arith, c.if-bytes-end.true)) c.loop-i.invariant
+    (listed_offset t c.args.offsets.now c.loop-i.i c.bytes.result c.index-offsets-i.result c.requires.listed c.requires.offsets (c.index-offsets-i.is ∙ get_or_default c.args.offsets.now c.loop-i.i c.index-offsets-i.result 0 c.loop-i-test.true) c.bytes.ensures) (omega (arith, c.if-bytes-end.true)) c.loop-i.invariant
 
 pub run_listed-returns-in_err-uniform : goal.run_listed-returns-in_err-uniform
 run_listed-returns-in_err-uniform g t c =
     let t = g.W.Walk.typed_of c.args.this in
-    let count : c.count-i-end.result ≡ count_of t = count_is t c.layout-layout.result.now c.count-i-end.result c.layout-layout.ensures c.count-i-end.ensures in
+    let count : length c.args.offsets.now ≡ count_of t = listed_count t c.args.offsets.now c.requires.listed c.requires.offsets in
     run_refused c.from_residual.result (FieldsRun t c.args.start) c.from_residual.ensures.0
     (listed_failed (FieldsRun t c.args.start) t (g.W.Walk.typed_of c.field-field.result) c.loop-i.i (register_of c.loop-i.found) c.loop-i.end (omega (arith, count, c.loop-i-test.true))
     (bulky_is t (g.W.Walk.typed_of c.field-field.result) c.loop-i.i c.layout.result.now c.holds.result _ c.field-field.ensures.field c.layout.ensures c.holds.ensures c.if-holds.false)
@@ -74,7 +76,7 @@ run_listed-returns-in_err-uniform g t c =
 pub run_listed-returns-in_err-found : goal.run_listed-returns-in_err-found
 run_listed-returns-in_err-found g t c =
     let t = g.W.Walk.typed_of c.args.this in
-    let count : c.count-i-end.result ≡ count_of t = count_is t c.layout-layout.result.now c.count-i-end.result c.layout-layout.ensures c.count-i-end.ensures in
+    let count : length c.args.offsets.now ≡ count_of t = listed_count t c.args.offsets.now c.requires.listed c.requires.offsets in
     run_refused c.from_residual-in_err-found.result (FieldsRun t c.args.start) c.from_residual-in_err-found.ensures.0
     (listed_apart (FieldsRun t c.args.start) t (g.W.Walk.typed_of c.field-field.result) c.loop-i.i (register_of c.loop-i.found) c.loop-i.end (register_of c.in_ok-uniform.field-0)
     (omega (arith, count, c.loop-i-test.true))
@@ -85,13 +87,24 @@ pub run_listed-loop-i-preserved : goal.run_listed-loop-i-preserved
 run_listed-loop-i-preserved g t c =
     let t = g.W.Walk.typed_of c.args.this in
     let u = g.W.Walk.typed_of c.field-field.result in
-    let count : c.count-i-end.result ≡ count_of t = count_is t c.layout-layout.result.now c.count-i-end.result c.layout-layout.ensures c.count-i-end.ensures in
+    let count : length c.args.offsets.now ≡ count_of t = listed_count t c.args.offsets.now c.requires.listed c.requires.offsets in
     listed_next (FieldsRun t c.args.start) t u c.loop-i.i (register_of c.loop-i.found) c.loop-i.end c.bytes.result c.bytes-in-loop-i.result (register_of c.in_ok-uniform.field-0) (register_of c.in_ok-found.found)
     (omega (arith, count, c.loop-i-test.true))
     (bulky_is t u c.loop-i.i c.layout.result.now c.holds.result _ c.field-field.ensures.field c.layout.ensures c.holds.ensures c.if-holds.false)
     c.field-field.ensures.field
-    (offset_is t c.layout-layout.result.now c.loop-i.i c.bytes.result c.offset.result c.layout-layout.ensures c.offset.ensures c.bytes.ensures) (omega (arith, c.if-bytes-end.false))
+    (listed_offset t c.args.offsets.now c.loop-i.i c.bytes.result c.index-offsets-i.result c.requires.listed c.requires.offsets (c.index-offsets-i.is ∙ get_or_default c.args.offsets.now c.loop-i.i c.index-offsets-i.result 0 c.loop-i-test.true) c.bytes.ensures) (omega (arith, c.if-bytes-end.false))
     (c.bytes-in-loop-i.ensures ∙ ap (λ l. l.size) c.layout-in-loop-i.ensures) c.in_ok-uniform.ensures c.in_ok-found.ensures c.loop-i.invariant
+
+pub run_listed-overflow_add-end : goal.run_listed-overflow_add-end
+run_listed-overflow_add-end g t c =
+    let t = g.W.Walk.typed_of c.args.this in
+    let count : length c.args.offsets.now ≡ count_of t = listed_count t c.args.offsets.now c.requires.listed c.requires.offsets in
+    let begin = listed_offset t c.args.offsets.now c.loop-i.i c.bytes.result c.index-offsets-i.result c.requires.listed c.requires.offsets (c.index-offsets-i.is ∙ get_or_default c.args.offsets.now c.loop-i.i c.index-offsets-i.result 0 c.loop-i-test.true) c.bytes.ensures in
+    let inside = ends_inside t (g.W.Walk.typed_of c.field-field.result) c.loop-i.i c.loop-i.end c.bytes-in-loop-i.result (g.met.W.Walk.lawful_law c.args.this c.requires.valid) (omega (arith, count, c.loop-i-test.true))
+    c.field-field.ensures.field (omega (arith, c.if-bytes-end.false, begin)) (c.bytes-in-loop-i.ensures ∙ ap (λ l. l.size) c.layout-in-loop-i.ensures) in
+    let size : c.bytes-size.result ≡ (layout_in t).size = c.bytes-size.ensures ∙ ap (λ l. l.size) c.layout-layout.ensures in
+    let fits : c.loop-i.end + c.bytes-in-loop-i.result ≤ c.bytes-size.result = omega (arith, inside, size) in
+    search rules
 
 -- ---- fields of a union
 
