@@ -54,6 +54,7 @@ pub(crate) fn float_number(float: Float) -> u64
 }
 
 /// The primitive of three numbers.
+#[inline(always)]
 fn primitive_numbered(kind: u64, which: u64, sign: u64) -> Result<Primitive, ReadError>
     ensures ok { IfOk result (λ p. primitive_numbered kind which sign ≡ Some p) }
     ensures err { IfErr result (Fails (primitive_numbered kind which sign)) }
@@ -78,6 +79,7 @@ fn primitive_numbered(kind: u64, which: u64, sign: u64) -> Result<Primitive, Rea
 }
 
 /// A primitive.
+#[inline(always)]
 fn read_primitive(numbers: &[u64], at: &mut usize) -> Result<Primitive, ReadError>
     ensures ok { IfOk result (λ a. front_primitive (drop at.old numbers.now) ≡
         Some (a, drop at.new numbers.now)) }
@@ -90,6 +92,7 @@ fn read_primitive(numbers: &[u64], at: &mut usize) -> Result<Primitive, ReadErro
 }
 
 /// The range behind a scalar's primitive.
+#[inline(always)]
 fn read_range(value: Primitive, numbers: &[u64], at: &mut usize) -> Result<Scalar, ReadError>
     ensures ok { IfOk result (λ a. front_range value (drop at.old numbers.now) ≡
         Some (a, drop at.new numbers.now)) }
@@ -102,6 +105,7 @@ fn read_range(value: Primitive, numbers: &[u64], at: &mut usize) -> Result<Scala
 }
 
 /// A scalar.
+#[inline(always)]
 pub(crate) fn read_scalar(numbers: &[u64], at: &mut usize) -> Result<Scalar, ReadError>
     ensures ok { IfOk result (λ a. front_scalar (drop at.old numbers.now) ≡
         Some (a, drop at.new numbers.now)) }

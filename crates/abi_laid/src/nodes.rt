@@ -1,15 +1,19 @@
 //! The nodes of a type that was laid out: equal layouts of nodes that were put near one another are kept once.
 
-ghost use Rattle.std.specs.Prelude.{◌≡◌, ◌+◌, ◌-◌, ◌<◌, ◌^◌, ◌∷◌, ◌++◌, [], IfOk, IfSome, OnErr, OnOk, get_or, length};
+ghost use Rattle.std.specs.Prelude.{◌≡◌, ◌+◌, ◌-◌, ◌<◌, ◌^◌, ◌∷◌, ◌++◌, [], IfOk, IfSome, OnErr, OnOk, get_or, length, vec_capacity, vec_len};
+ghost use Rattle.abi_scalar.specs.Scalar.{IsReadable};
+ghost use Rattle.abi_scalar.specs.Simple.{scalar_layout};
 ghost use Rattle.abi_types.specs.Ty.Typed.{no_layout};
 ghost use Rattle.abi_laid.specs.Entries.{KeepsLayouts};
+ghost use Rattle.abi_laid.specs.declared.node.Shape.TheVariants.{Scalar as Number};
 ghost use Rattle.abi_laid.specs.Nodes.{lent_node, placed_at};
 ghost use Rattle.abi_laid.specs.Placed.{layout_of};
 
 use crate::node::{Node, NodeRef, Shape};
 use crate::same_layout::is_same_layout;
+use abi_base::TargetDataLayout;
 use abi_index::{FieldIdx, VariantIdx};
-use abi_scalar::LayoutData;
+use abi_scalar::{LayoutData, Scalar};
 use std::alloc::{AllocError, Global};
 use std::marker::Model;
 
@@ -18,6 +22,9 @@ const RECENT: usize = 8;
 
 /// For how many nodes room is asked for at the first.
 const FIRST_ROOM: usize = 16;
+
+/// For how many layouts room is asked for at the first, where a number is put.
+const FIRST_LAYOUTS: usize = 8;
 
 /// A node as it is kept: its layout by its place among those that are kept, and what it consists of.
 #[derive(Drop)]
@@ -117,6 +124,39 @@ fn place_of(
     Ok(at)
 }
 
+/// Asks for room for one more layout, and at the first for some.
+fn make_room(layouts: &mut Vec<LayoutData<FieldIdx, VariantIdx>>) -> Result<(), AllocError>
+    ensures same { layouts.new.items ≡ layouts.old.items }
+    ensures room { OnOk result (vec_len layouts.new < vec_capacity layouts.new) }
+{
+    let more = if layouts.is_empty() { FIRST_LAYOUTS } else { 1 };
+    layouts.reserve(more)
+}
+
+/// The place of a number's layout among these, behind which it is put, unless one of the newest is equal. It is compared
+/// where it is put, so that it is copied but once.
+fn scalar_place(
+    layouts: &mut Vec<LayoutData<FieldIdx, VariantIdx>>,
+    dl: &TargetDataLayout,
+    value: Scalar,
+) -> Result<usize, AllocError>
+    requires { IsReadable dl.now value }
+    ensures there { IfOk result (λ at. at < length layouts.new.items) }
+    ensures same { IfOk result (λ at. get_or layouts.new.items at no_layout ≡ scalar_layout 0 dl.now value) }
+    ensures more { KeepsLayouts layouts.old.items layouts.new.items }
+{
+    make_room(layouts)?;
+    let last = layouts.len();
+    layouts.push_reserved(LayoutData::scalar(&dl, value));
+    match recent_place(&layouts[..last], &layouts[last]) {
+        Some(at) => {
+            layouts.truncate(last);
+            Ok(at)
+        }
+        None => Ok(last),
+    }
+}
+
 /// Puts an entry behind the others. Where a growth is refused, they are as they were.
 #[inline(always)]
 fn put_entry(entries: &mut Vec<Entry>, entry: Entry) -> Result<(), AllocError>
@@ -167,6 +207,20 @@ impl Nodes {
                 shape,
             },
         )?;
+        Ok(())
+    }
+
+    /// Puts a number behind the others, which has the layout that it has by itself. `AllocError` where memory is refused:
+    /// then they are as they were.
+    pub fn push_scalar(&mut self, dl: &TargetDataLayout, value: Scalar) -> Result<(), AllocError>
+        requires { IsReadable dl.now value }
+        ensures ok { OnOk result (self.new ≡ self.old
+            ++ record { layout = scalar_layout 0 dl.now value; shape = Number value } ∷ []) }
+        ensures err { OnErr result (self.new ≡ self.old) }
+    {
+        let at = scalar_place(&mut self.layouts, dl, value)?;
+        let shape = Shape::Scalar(value);
+        put_entry(&mut self.entries, Entry { layout: at, shape })?;
         Ok(())
     }
 

@@ -64,7 +64,6 @@ fn scalar_fault(dl: &TargetDataLayout, value: Scalar) -> Option<LayError>
 }
 
 /// A node for a scalar without a fault.
-#[inline(always)]
 fn add_lawful(dl: &TargetDataLayout, nodes: &mut Nodes, value: Scalar) -> Result<usize, LayError>
     requires data_layout { IsLawfulDataLayout dl.now }
     requires faultless { scalar_fault dl.now value ≡ None }
@@ -76,7 +75,9 @@ fn add_lawful(dl: &TargetDataLayout, nodes: &mut Nodes, value: Scalar) -> Result
     ensures kept { OnErr result (nodes.new ≡ nodes.old) }
     ensures behind { AreStillThere nodes.old nodes.new }
 {
-    add(nodes, LayoutData::scalar(&dl, value), Shape::Scalar(value))
+    let node = nodes.len();
+    nodes.push_scalar(dl, value)?;
+    Ok(node)
 }
 
 /// A node for a scalar. Its fault is told before memory is asked for.

@@ -1,4 +1,4 @@
-use Rattle.std.proofs.Common.{◌≡◌, ◌<◌, None, Option, Some, false, get_or, length, refl, replicate, sym, ◌∙◌}
+use Rattle.std.proofs.Common.{◌≡◌, ◌<◌, None, Some, false, get_or, length, refl, replicate, sym, ◌∙◌}
 use Rattle.std.proofs.lemmas.Bool.{ltb-true}
 use Rattle.std.proofs.lemmas.List.{get_or_default}
 use Rattle.abi_laid.proofs.Places.MarkedLemmas.{none_marked, padding_left}
