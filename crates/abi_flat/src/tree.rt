@@ -2,6 +2,7 @@
 
 ghost use Rattle.std.specs.Prelude.{◌≡◌, ◌≤◌, ℕ, [], ◌++◌, IfErr, IfOk, Some, drop, map};
 ghost use Rattle.abi_laid.specs.Tree.{Tree, tree_of};
+ghost use Rattle.abi_flat.specs.declared.kind.Kind.TheVariants.{Scalar as NumberKind, Pair as PairKind};
 ghost use Rattle.abi_flat.specs.Pieces.{Fails, front_list};
 ghost use Rattle.abi_flat.specs.FlatTree.{flat_tree, IsReadable};
 ghost use Rattle.abi_flat.specs.FrontTree.{front_array, front_coroutine, front_enum, front_of_kind, front_ordered, front_struct, front_tree, front_union, front_variant, front_vector, variant_kept};
@@ -19,6 +20,29 @@ const MOST_NESTED: u64 = 201;
 
 /// For how many types of a list room is asked for before they are read.
 const FIRST_ROOM: u64 = 8;
+
+/// A number.
+#[inline(never)]
+fn read_number(numbers: &[u64], at: &mut usize) -> Result<TypeTree, ReadError>
+    ensures ok { (left : ℕ) → IfOk result (λ a. front_of_kind (front_tree left) NumberKind (drop at.old numbers.now) ≡
+        Some (tree_of a, drop at.new numbers.now)) }
+    ensures err { (left : ℕ) → IfErr result (Fails (front_of_kind (front_tree left) NumberKind (drop at.old numbers.now))) }
+{
+    let scalar = read_scalar(numbers, at)?;
+    Ok(TypeTree::Scalar(scalar))
+}
+
+/// Two numbers.
+#[inline(never)]
+fn read_two(numbers: &[u64], at: &mut usize) -> Result<TypeTree, ReadError>
+    ensures ok { (left : ℕ) → IfOk result (λ a. front_of_kind (front_tree left) PairKind (drop at.old numbers.now) ≡
+        Some (tree_of a, drop at.new numbers.now)) }
+    ensures err { (left : ℕ) → IfErr result (Fails (front_of_kind (front_tree left) PairKind (drop at.old numbers.now))) }
+{
+    let first = read_scalar(numbers, at)?;
+    let second = read_scalar(numbers, at)?;
+    Ok(TypeTree::Pair(first, second))
+}
 
 /// Elements.
 #[inline(never)]
@@ -77,8 +101,10 @@ fn read_each(
     let count = read_word(numbers, at)?;
     let mut types = Vec::with_capacity(alloc, count.min(FIRST_ROOM) as usize)?;
     for _ in 0..count {
+        // (room first, so that no type is handed back where there is none)
+        types.reserve(1)?;
         let tree = read_node(alloc, left, numbers, at)?;
-        types.push(tree)?;
+        types.push_reserved(tree);
     }
     Ok(types)
 }
@@ -245,15 +271,8 @@ fn read_of_kind(
     ensures err { IfErr result (Fails (front_of_kind (front_tree left) kind (drop at.old numbers.now))) }
 {
     match kind {
-        Kind::Scalar => {
-            let scalar = read_scalar(numbers, at)?;
-            Ok(TypeTree::Scalar(scalar))
-        }
-        Kind::Pair => {
-            let first = read_scalar(numbers, at)?;
-            let second = read_scalar(numbers, at)?;
-            Ok(TypeTree::Pair(first, second))
-        }
+        Kind::Scalar => read_number(numbers, at),
+        Kind::Pair => read_two(numbers, at),
         Kind::Never => Ok(TypeTree::Never),
         Kind::Unit => Ok(TypeTree::Unit),
         Kind::Array => read_array(alloc, left, numbers, at),

@@ -21,7 +21,7 @@ use std::marker::Model;
 const RECENT: usize = 8;
 
 /// For how many nodes room is asked for at the first.
-const FIRST_ROOM: usize = 16;
+const FIRST_ROOM: usize = 12;
 
 /// For how many layouts room is asked for at the first, where a number is put.
 const FIRST_LAYOUTS: usize = 8;

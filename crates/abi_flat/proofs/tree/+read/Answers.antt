@@ -15,7 +15,7 @@ read_each-returns-in_err-tree-clause-err t c =
 
 pub read_each-loop-preserved : goal.read_each-loop-preserved
 read_each-loop-preserved t c =
-    rw (c.in_ok-push.ensures.items, map-append tree_of)
+    rw (c.push_reserved.ensures.items, c.in_ok-reserve.ensures.items, map-append tree_of)
     (so_far-more (front_tree c.args.left) c.in_ok-count.count c.loop.counter _ _ _ (map tree_of c.loop.types.items) (tree_of c.in_ok-tree.tree) c.loop.invariant c.loop-test.true c.in_ok-tree.ensures.ok)
 
 pub read_variants-returns-in_err-variant-clause-err : goal.read_variants-returns-in_err-variant-clause-err
@@ -40,3 +40,15 @@ read_node-returns-clause-ok t c =
     (λ a read. ap (λ front. front (drop c.args.at.now c.args.numbers.now)) (front_tree-step c.args.left c.if-left-eq0.false)
     ∙ ap (λ o. o >>= λ found. front_of_kind (front_tree (c.args.left - 1)) found.0 found.1) c.in_ok-kind.ensures.ok
     ∙ read) c.read_of_kind.ensures.ok
+
+pub read_of_kind-returns-in-Scalar-clause-ok : goal.read_of_kind-returns-in-Scalar-clause-ok
+read_of_kind-returns-in-Scalar-clause-ok t c = rw c.in-Scalar.is (c.read_number.ensures.ok c.args.left)
+
+pub read_of_kind-returns-in-Scalar-clause-err : goal.read_of_kind-returns-in-Scalar-clause-err
+read_of_kind-returns-in-Scalar-clause-err t c = rw c.in-Scalar.is (c.read_number.ensures.err c.args.left)
+
+pub read_of_kind-returns-in-Pair-clause-ok : goal.read_of_kind-returns-in-Pair-clause-ok
+read_of_kind-returns-in-Pair-clause-ok t c = rw c.in-Pair.is (c.read_two.ensures.ok c.args.left)
+
+pub read_of_kind-returns-in-Pair-clause-err : goal.read_of_kind-returns-in-Pair-clause-err
+read_of_kind-returns-in-Pair-clause-err t c = rw c.in-Pair.is (c.read_two.ensures.err c.args.left)

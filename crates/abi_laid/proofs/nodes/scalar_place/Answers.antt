@@ -6,8 +6,7 @@ use Rattle.abi_laid.proofs.nodes.scalar_place.Goals as goal
 pub returns-in-Some-clause-more : goal.returns-in-Some-clause-more
 returns-in-Some-clause-more c =
     let before : List Layout = c.make_room.new.layouts.items in
-    let last : c.len-last.result ≡ length before = omega (arith, c.len-last.ensures) in
-    (
+    let last : c.len-last.result ≡ length before = omega (arith, c.len-last.ensures) in (
       [],
       c.truncate.ensures.items ∙ ap (take c.len-last.result) c.push_reserved.ensures.items ∙ ap (λ n. take n (before ++ c.scalar.result ∷ [])) last
           ∙ take-append_seam before (c.scalar.result ∷ []) ∙ c.in_ok-make_room.ensures.same ∙ sym (append-nil c.args.layouts.now.items),
