@@ -130,10 +130,6 @@ bulky_is t u i l holds b e f h g = ap not (ap (λ w. is_1zst (layout_in w)) (sym
 pub count_is : (t : Typed) (l : Layout) (n : ℕ) → l ≡ layout_in t → n ≡ field_count l.fields → n ≡ count_of t
 count_is t l n e f = f ∙ ap (λ k. field_count k.fields) e
 
--- and where a field begins
-pub offset_is : (t : Typed) (l : Layout) (i bytes offset : ℕ) → l ≡ layout_in t → offset ≡ field_offset l.fields i → bytes ≡ offset → bytes ≡ field_offset (layout_in t).fields i
-offset_is t l i bytes offset e f g = g ∙ f ∙ ap (λ k. field_offset k.fields i) e
-
 many : (shape : FieldsShape ℕ) → IsListed shape → length (listed_offsets shape) ≡ field_count shape
 many (Arbitrary offsets order) l = refl
 many NoFields l = absurd l

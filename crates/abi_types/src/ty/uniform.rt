@@ -123,8 +123,8 @@ fn run_fields<W: Walk>(this: W, start: u64) -> Result<(HomogeneousAggregate, u64
     }
 }
 
-/// The register of fields that are listed one by one at these offsets, the first at the start, each where the last one ended, and where
-/// they end. What has no bytes and is aligned to one byte is passed over.
+/// The register of fields that are listed one by one at these offsets, the first at the start, each where the last one
+/// ended, and where they end. What has no bytes and is aligned to one byte is passed over.
 #[inline(always)]
 #[cycle(uniform)]
 fn run_listed<W: Walk>(
