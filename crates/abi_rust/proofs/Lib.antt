@@ -2,12 +2,16 @@ pub mod Aligned
 pub mod Bits
 pub mod Copies
 pub mod Facts
+pub mod KnownSizes
+pub mod Labels
 pub mod Lasts
 pub mod Lists
+pub mod Measures
 pub mod Numbers
 pub mod OwnLemmas
 pub mod Rooms
 pub mod Same
 pub mod ScopeLemmas
 pub mod StandingLemmas
+pub mod Trees
 pub mod Written

@@ -4,6 +4,7 @@ pub mod Int
 pub mod Kinds
 pub mod Known
 pub mod Meaning
+pub mod Measure
 pub mod Names
 pub mod Operators
 pub mod OwnConstants
@@ -13,10 +14,12 @@ pub mod Resolving
 pub mod Scalars
 pub mod Scope
 pub mod ScopeNames
+pub mod Sizes
 pub mod Sources
 pub mod Standing
 pub mod Tails
 pub mod Told
+pub mod Trees
 pub mod Types
 pub mod Values
 pub mod Words

@@ -1,8 +1,10 @@
 //! What a `repr` asks of the fields of a type.
 
-ghost use Rattle.std.specs.Prelude.{◌≡◌, true};
+ghost use Rattle.std.specs.Prelude.{◌≡◌, Ok, map, true};
+ghost use Rattle.abi_laid.specs.Tree.{tree_of};
 ghost use Rattle.abi_rust.specs.Aligned.{aligning, any_aligned, any_fields, any_written, discriminants_checked, fields_aligned, packed_checked, place_of_repr, type_aligned};
-ghost use Rattle.abi_rust.specs.Meaning.{Answers};
+ghost use Rattle.abi_rust.specs.Meaning.{Answers, after};
+ghost use Rattle.abi_rust.specs.Measure.{IsMeasure, Measure, room_takers, takes_room, transparent_checked};
 
 use crate::fault::{FaultKind, Stop, stop_at};
 use crate::paths::{Found, found_by, item_at, root_of};
@@ -12,24 +14,46 @@ use abi_laid::TypeTree;
 use rust_source::{Enum, Field, Fields, Item, ItemKind, Place, Type, Variant};
 
 /// A fault where a transparent type has more than one field that takes room or is aligned to more than a byte.
+#[tactic(auto, unfolding(crate::specs::Measure::transparent_checked))]
 pub(crate) fn check_transparent(
     cx: &Context<'_, '_>,
     item: &Item,
     fields: &[TypeTree],
-) -> Result<(), Stop> {
+) -> Result<(), Stop>
+    ensures { (m : Measure) → IsMeasure cx.now.dl.now m →
+        Answers (λ _. true) (transparent_checked m item.now (map tree_of fields.now)) result }
+{
     if !item.repr.transparent || fields.len() < 2 {
         return Ok(());
     }
-    let mut count = 0u64;
-    for field in fields {
-        if size_and_align(cx, field)? != (0, 1) {
-            count = count.saturating_add(1);
-        }
-    }
-    if count > 1 {
+    if room_takers(cx, fields)? > 1 {
         return Err(stop_at(place_of(item), FaultKind::TransparentFields));
     }
     Ok(())
+}
+
+/// How many of these take room or are aligned to more than a byte.
+#[tactic(auto, using(crate::proofs::Measures::takers_more, crate::proofs::Measures::takers_done))]
+fn room_takers(cx: &Context<'_, '_>, fields: &[TypeTree]) -> Result<usize, Stop>
+    ensures { (m : Measure) → IsMeasure cx.now.dl.now m →
+        Answers (λ n. n) (room_takers m (map tree_of fields.now)) result }
+{
+    let mut count = 0usize;
+    for field in fields {
+        if takes_room(cx, field)? {
+            count += 1;
+        }
+    }
+    Ok(count)
+}
+
+/// Whether it takes room or is aligned to more than a byte.
+fn takes_room(cx: &Context<'_, '_>, field: &TypeTree) -> Result<bool, Stop>
+    ensures { (m : Measure) → IsMeasure cx.now.dl.now m →
+        Answers (λ is. is) (after (λ s. Ok (takes_room s)) (m (tree_of field.now))) result }
+{
+    let (size, align) = size_and_align(cx, field)?;
+    Ok(size != 0 || align != 1)
 }
 
 /// Where an item's repr stands, or its name where it has none.

@@ -1,8 +1,13 @@
 //! Types as trees with the names of their parts.
 
-ghost use Rattle.std.specs.Prelude.{slice_get};
-ghost use Rattle.abi_rust.specs.Meaning.{Answers};
-ghost use Rattle.abi_rust.specs.Told.{item_type, subject_type};
+ghost use Rattle.std.specs.Prelude.{◌≡◌, ◌⊎◌, ◌∷◌, ◌++◌, [], Err, IfErr, IfOk, None, OnOk, map, slice_get, true};
+ghost use Rattle.std.specs.Option.{option_map};
+ghost use Rattle.abi_laid.specs.Tree.{tree_of};
+ghost use Rattle.abi_rust.specs.Meaning.{Answers, after, is_beside};
+ghost use Rattle.abi_rust.specs.Measure.{IsMeasure, Measure};
+ghost use Rattle.abi_rust.specs.Sizes.{AreSizes, IsFaultOfSize, IsTold, IsUnder};
+ghost use Rattle.abi_rust.specs.Told.{is_itself, item_shape, item_type, label_of, measured_or, place_of_request, shape_of, shape_read, size_meant, subject_type, told_read, told_type, told_under, variant_label, variant_names};
+ghost use Rattle.abi_rust.specs.Trees.{sized_tree};
 ghost use Rattle.abi_rust.specs.Types.{ty_of};
 
 use crate::above::Above;
@@ -10,12 +15,12 @@ use crate::fault::{FaultKind, Stop};
 use crate::kind::outside;
 use crate::paths::item_at;
 use crate::resolve::resolve;
-use crate::tail::{Tail, pointee_tail};
+use crate::tail::pointee_tail;
 use crate::tree::tree;
 use crate::ty::Ty;
 use crate::work::{Context, KnownSize, Request, Setting, Work, most_deep};
 use abi_laid::TypeTree;
-use rust_source::{FieldName, Fields, ItemKind, Place, Symbol, Type};
+use rust_source::{Field, FieldName, ItemKind, Place, Symbol, Type, Variant};
 use rustc_abi::lay_out;
 
 /// How many sizes may have to be known for one type.
@@ -98,31 +103,55 @@ fn type_of_item<'a>(cx: &Context<'a, '_>, work: &mut Work<'a>, number: u32) -> R
 }
 
 /// A type's tree. None where its size isn't known.
+#[tactic(auto, unfolding(crate::specs::Trees::sized_tree))]
 fn sized_tree<'a>(
     cx: &Context<'a, '_>,
     work: &mut Work<'a>,
     ty: &Ty,
-) -> Result<Option<TypeTree>, Stop> {
-    if pointee_tail(cx, work, ty)? != Tail::Sized {
+) -> Result<Option<TypeTree>, Stop>
+    ensures { (m : Measure) → IsMeasure cx.now.dl.now m →
+        Answers (option_map tree_of) (sized_tree cx.now m (ty_of ty.now)) result }
+{
+    if !pointee_tail(cx, work, ty)?.is_sized() {
         return Ok(None);
     }
-    Ok(Some(tree(cx, work, &Above::Nothing, ty, most_deep())?))
+    let whole = tree(cx, work, &Above::Nothing, ty, most_deep())?;
+    Ok(Some(whole))
 }
 
 /// Tells of a subject once the sizes that it asks for are known. None where its own isn't.
+#[tactic(auto, unfolding(crate::specs::Told::told_under))]
 fn attempt<'a>(
     cx: &Context<'a, '_>,
     work: &mut Work<'a>,
     subject: Subject<'a>,
     file: Place,
-) -> Result<Option<Told>, Stop> {
+) -> Result<Option<Told>, Stop>
+    ensures { (m : Measure) → IsMeasure cx.now.dl.now m →
+        Answers (option_map told_read) (told_under cx.now m subject.entry file) result }
+{
     let ty = type_of(cx, work, subject)?;
-    let tree = match sized_tree(cx, work, &ty)? {
-        Some(tree) => tree,
-        None => return Ok(None),
-    };
-    let shape = shape_of(cx, subject, &ty, file)?;
-    Ok(Some(Told { tree, shape }))
+    told_type(cx, work, subject, file, &ty)
+}
+
+/// Tells of a type that is told of. None where its size isn't known.
+fn told_type<'a>(
+    cx: &Context<'a, '_>,
+    work: &mut Work<'a>,
+    subject: Subject<'a>,
+    file: Place,
+    ty: &Ty,
+) -> Result<Option<Told>, Stop>
+    ensures { (m : Measure) → IsMeasure cx.now.dl.now m →
+        Answers (option_map told_read) (told_type cx.now m subject.entry file (ty_of ty.now)) result }
+{
+    match sized_tree(cx, work, ty)? {
+        Some(tree) => {
+            let shape = shape_of(cx, subject, ty, file)?;
+            Ok(Some(Told { tree, shape }))
+        }
+        None => Ok(None),
+    }
 }
 
 /// Tells of a subject. None where its size isn't known.
@@ -130,28 +159,66 @@ pub(crate) fn tell<'a>(
     cx: &Context<'a, '_>,
     subject: Subject<'a>,
     file: Place,
-) -> Result<Option<Told>, Stop> {
+) -> Result<Option<Told>, Stop>
+    ensures exact { (m : Measure) → IsMeasure cx.now.dl.now m →
+        (told_under cx.now m subject.entry file ≡ Err Stop.Size → ⊥) →
+        Answers (option_map told_read) (told_under cx.now m subject.entry file) result }
+    ensures told { (m : Measure) → IsMeasure cx.now.dl.now m → cx.now.known.now ≡ [] →
+        IsTold cx.now m subject.entry file result }
+{
     let mut work = Work::new();
+    match attempt(cx, &mut work, subject, file) {
+        Err(Stop::Size) => tell_sized(cx, &mut work, subject, file),
+        Err(other) => Err(other),
+        Ok(found) => Ok(found),
+    }
+}
+
+/// Tells of a subject for which sizes have to be known first.
+fn tell_sized<'a>(
+    cx: &Context<'a, '_>,
+    work: &mut Work<'a>,
+    subject: Subject<'a>,
+    file: Place,
+) -> Result<Option<Told>, Stop>
+    ensures { (m : Measure) → IsMeasure cx.now.dl.now m → IsTold cx.now m subject.entry file result }
+{
     let mut known = Vec::new(cx.alloc);
     let mut pending = Vec::new(cx.alloc);
+    await_size(work, &mut pending)?;
     for _size in 0..MOST_SIZES {
         match pending.pop() {
-            None => match attempt(&knowing(cx, &known), &mut work, subject, file) {
-                Ok(found) => return Ok(found),
-                Err(Stop::Size) => await_size(&mut work, &mut pending)?,
+            Some(request) => measure(cx, work, &mut known, &mut pending, request)?,
+            None => match attempt_under(cx, work, &known, subject, file) {
+                Err(Stop::Size) => await_size(work, &mut pending)?,
                 Err(other) => return Err(other),
+                Ok(found) => return Ok(found),
             },
-            Some(request) => {
-                let found = size_of(&knowing(cx, &known), &mut work, &request);
-                settle(&mut work, &mut known, &mut pending, request, found)?;
-            }
         }
     }
     Err(Stop::Fault(None, FaultKind::TooLarge))
 }
 
+/// Tells of a subject with these sizes known.
+fn attempt_under<'a>(
+    cx: &Context<'a, '_>,
+    work: &mut Work<'a>,
+    known: &Vec<KnownSize>,
+    subject: Subject<'a>,
+    file: Place,
+) -> Result<Option<Told>, Stop>
+    ensures { (m : Measure) → IsMeasure cx.now.dl.now m →
+        (under : Context) × IsUnder cx.now known.now.items under ×
+        Answers (option_map told_read) (told_under under m subject.entry file) result }
+{
+    let under = knowing(cx, known);
+    attempt(&under, work, subject, file)
+}
+
 /// The same with these sizes known.
-fn knowing<'a, 'k>(cx: &Context<'a, '_>, known: &'k Vec<KnownSize>) -> Context<'a, 'k> {
+fn knowing<'a, 'k>(cx: &Context<'a, '_>, known: &'k Vec<KnownSize>) -> Context<'a, 'k>
+    ensures { IsUnder cx.now known.now.items result }
+{
     Context {
         alloc: cx.alloc,
         items: cx.items,
@@ -163,7 +230,9 @@ fn knowing<'a, 'k>(cx: &Context<'a, '_>, known: &'k Vec<KnownSize>) -> Context<'
 }
 
 /// Puts the size that is wanted before the others that are pending.
-fn await_size<'a>(work: &mut Work<'a>, pending: &mut Vec<Request<'a>>) -> Result<(), Stop> {
+fn await_size<'a>(work: &mut Work<'a>, pending: &mut Vec<Request<'a>>) -> Result<(), Stop>
+    ensures { IfErr result (λ e. (e ≡ Stop.Fault None FaultKind.TooDeep) ⊎ (is_beside e ≡ true)) }
+{
     if pending.len() >= MOST_PENDING {
         return Err(Stop::Fault(None, FaultKind::TooDeep));
     }
@@ -176,31 +245,44 @@ fn await_size<'a>(work: &mut Work<'a>, pending: &mut Vec<Request<'a>>) -> Result
     }
 }
 
-/// Notes the size that is found for a request, or puts the size before it that has to be known first.
-fn settle<'a>(
+/// Notes the size that a request asks for, or puts the size before it that has to be known first.
+fn measure<'a>(
+    cx: &Context<'a, '_>,
     work: &mut Work<'a>,
     known: &mut Vec<KnownSize>,
     pending: &mut Vec<Request<'a>>,
     request: Request<'a>,
-    found: Result<(u64, u64), Stop>,
-) -> Result<(), Stop> {
-    match found {
+) -> Result<(), Stop>
+    ensures ok { OnOk result ((m : Measure) → IsMeasure cx.now.dl.now m →
+        AreSizes cx.now m known.old.items → AreSizes cx.now m known.new.items) }
+    ensures err { IfErr result (λ e. (m : Measure) → IsMeasure cx.now.dl.now m →
+        IsFaultOfSize cx.now m known.old.items e ⊎ (is_beside e ≡ true)) }
+{
+    match size_under(cx, work, &*known, &request) {
         Ok((size, align)) => note(known, request, size, align),
-        Err(Stop::Size) => {
-            pending.push(request)?;
-            await_size(work, pending)
-        }
+        Err(Stop::Size) => await_both(work, pending, request),
         Err(other) => Err(other),
     }
 }
 
+/// Puts a request back, and the size that it wants before it.
+fn await_both<'a>(
+    work: &mut Work<'a>,
+    pending: &mut Vec<Request<'a>>,
+    request: Request<'a>,
+) -> Result<(), Stop>
+    ensures { IfErr result (λ e. (e ≡ Stop.Fault None FaultKind.TooDeep) ⊎ (is_beside e ≡ true)) }
+{
+    pending.push(request)?;
+    await_size(work, pending)
+}
+
 /// Notes the size and the alignment that a request asks for.
-fn note(
-    known: &mut Vec<KnownSize>,
-    request: Request<'_>,
-    size: u64,
-    align: u64,
-) -> Result<(), Stop> {
+fn note(known: &mut Vec<KnownSize>, request: Request<'_>, size: u64, align: u64) -> Result<(), Stop>
+    ensures ok { OnOk result (known.new.items ≡ known.old.items
+        ++ record { at = request.entry.at; given = request.entry.given; size = size; align = align } ∷ []) }
+    ensures err { IfErr result (λ e. is_beside e ≡ true) }
+{
     let Request {
         at,
         ty: _,
@@ -217,26 +299,60 @@ fn note(
     Ok(())
 }
 
+/// The size and the alignment that a request asks for, with these sizes known.
+fn size_under<'a>(
+    cx: &Context<'a, '_>,
+    work: &mut Work<'a>,
+    known: &Vec<KnownSize>,
+    request: &Request<'a>,
+) -> Result<(u64, u64), Stop>
+    ensures { (m : Measure) → IsMeasure cx.now.dl.now m →
+        (under : Context) × IsUnder cx.now known.now.items under ×
+        Answers (λ s. s) (size_meant under m request.now.at (place_of_request request.now) request.now.ty.now) result }
+{
+    let under = knowing(cx, known);
+    size_of(&under, work, request)
+}
+
 /// The size and the alignment that a request asks for, in bytes.
+#[tactic(auto, unfolding(crate::specs::Told::size_meant))]
 fn size_of<'a>(
     cx: &Context<'a, '_>,
     work: &mut Work<'a>,
     request: &Request<'a>,
-) -> Result<(u64, u64), Stop> {
+) -> Result<(u64, u64), Stop>
+    ensures { (m : Measure) → IsMeasure cx.now.dl.now m → Answers (λ s. s)
+        (size_meant cx.now m request.now.at (place_of_request request.now) request.now.ty.now) result }
+{
     let setting = Setting {
         module: request.module,
         item: request.item,
         given: request.given.as_slice(),
     };
     let ty = resolve(cx, work, setting, request.ty, most_deep())?;
-    match sized_tree(cx, work, &ty)? {
+    size_of_type(cx, work, request.at, &ty)
+}
+
+/// The size and the alignment of a type that a call names, in bytes.
+fn size_of_type<'a>(
+    cx: &Context<'a, '_>,
+    work: &mut Work<'a>,
+    at: Place,
+    ty: &Ty,
+) -> Result<(u64, u64), Stop>
+    ensures { (m : Measure) → IsMeasure cx.now.dl.now m → Answers (λ s. s)
+        (after (measured_or cx.now m at) (sized_tree cx.now m (ty_of ty.now))) result }
+{
+    match sized_tree(cx, work, ty)? {
         Some(tree) => size_and_align(cx, &tree),
-        None => Err(Stop::Fault(Some(request.at), FaultKind::Unsized)),
+        None => Err(Stop::Fault(Some(at), FaultKind::Unsized)),
     }
 }
 
 /// The size and the alignment of a tree, in bytes.
-pub(crate) fn size_and_align(cx: &Context<'_, '_>, tree: &TypeTree) -> Result<(u64, u64), Stop> {
+pub(crate) fn size_and_align(cx: &Context<'_, '_>, tree: &TypeTree) -> Result<(u64, u64), Stop>
+    ensures { (m : Measure) → IsMeasure cx.now.dl.now m → Answers (λ s. s) (m (tree_of tree.now)) result }
+{
     match lay_out(cx.alloc, cx.dl, tree) {
         Ok(laid) => {
             let layout = laid.layout();
@@ -247,50 +363,101 @@ pub(crate) fn size_and_align(cx: &Context<'_, '_>, tree: &TypeTree) -> Result<(u
 }
 
 /// The names of a type's parts, where it is told of by itself or is written.
-fn shape_of(
-    cx: &Context<'_, '_>,
-    subject: Subject<'_>,
-    ty: &Ty,
-    file: Place,
-) -> Result<Shape, Stop> {
-    let Ty::Adt(number, _) = ty else {
-        return Ok(Shape::Plain);
-    };
-    if let Subject::Item(told) = subject {
-        if told != *number {
-            return Ok(Shape::Plain);
-        }
-    }
-    let Some(item) = cx.items.items.get(*number as usize) else {
-        return Ok(Shape::Plain);
-    };
-    match &item.kind {
-        ItemKind::Struct(fields) => Ok(Shape::Struct(labels_of(cx, fields, file)?)),
-        ItemKind::Union(fields) => Ok(Shape::Union(labels_of(cx, fields, file)?)),
-        ItemKind::Enum(all) => {
-            let mut variants = Vec::new(cx.alloc);
-            for variant in &all.variants {
-                let fields = labels_of(cx, &variant.fields, file)?;
-                variants.push(VariantLabels {
-                    name: variant.name,
-                    fields,
-                })?;
+fn shape_of(cx: &Context<'_, '_>, subject: Subject<'_>, ty: &Ty, file: Place) -> Result<Shape, Stop>
+    ensures ok { IfOk result (λ shape. shape_read shape ≡ shape_of cx.now subject.entry file (ty_of ty.now)) }
+    ensures err { IfErr result (λ e. is_beside e ≡ true) }
+{
+    match ty {
+        Ty::Adt(number, _) => {
+            if is_itself(subject, *number) {
+                item_shape(cx, *number, file)
+            } else {
+                Ok(Shape::Plain)
             }
-            Ok(Shape::Enum(variants))
         }
         _ => Ok(Shape::Plain),
     }
 }
 
-/// The names of fields, and where their types are written in the file.
-fn labels_of(cx: &Context<'_, '_>, fields: &Fields, file: Place) -> Result<Vec<Label>, Stop> {
+/// Whether the item is told of by itself, and not by an alias.
+fn is_itself(subject: Subject<'_>, number: u32) -> bool
+    ensures { result ≡ is_itself subject.entry number }
+{
+    match subject {
+        Subject::Item(told) => told == number,
+        Subject::Written(_, _) => true,
+    }
+}
+
+/// The names of the parts of an item.
+fn item_shape(cx: &Context<'_, '_>, number: u32, file: Place) -> Result<Shape, Stop>
+    ensures ok { IfOk result (λ shape. shape_read shape
+        ≡ item_shape file (slice_get cx.now.items.now.items.items number)) }
+    ensures err { IfErr result (λ e. is_beside e ≡ true) }
+{
+    let Some(item) = item_at(cx.items, number) else {
+        return Ok(Shape::Plain);
+    };
+    match &item.kind {
+        ItemKind::Struct(fields) => Ok(Shape::Struct(labels_of(cx, fields.all.as_slice(), file)?)),
+        ItemKind::Union(fields) => Ok(Shape::Union(labels_of(cx, fields.all.as_slice(), file)?)),
+        ItemKind::Enum(all) => Ok(Shape::Enum(labels_of_variants(
+            cx,
+            all.variants.as_slice(),
+            file,
+        )?)),
+        _ => Ok(Shape::Plain),
+    }
+}
+
+/// The names of variants and of their fields.
+#[tactic(auto, using(crate::proofs::Labels::variants_more, crate::proofs::Labels::variants_all))]
+fn labels_of_variants(
+    cx: &Context<'_, '_>,
+    all: &[Variant],
+    file: Place,
+) -> Result<Vec<VariantLabels>, Stop>
+    ensures ok { IfOk result (λ labels. map variant_names labels.items ≡ map (variant_label file) all.now) }
+    ensures err { IfErr result (λ e. is_beside e ≡ true) }
+{
     let mut labels = Vec::new(cx.alloc);
-    for field in &fields.all {
-        labels.push(Label {
-            name: field.name,
-            start: Place(field.start.0.saturating_sub(file.0)),
-            end: Place(field.end.0.saturating_sub(file.0)),
-        })?;
+    for variant in all {
+        let fields = labels_of(cx, variant.fields.all.as_slice(), file)?;
+        push_variant(&mut labels, variant.name, fields)?;
     }
     Ok(labels)
+}
+
+/// Puts a variant's names behind the others.
+fn push_variant(all: &mut Vec<VariantLabels>, name: Symbol, fields: Vec<Label>) -> Result<(), Stop>
+    ensures ok { OnOk result (map variant_names all.new.items
+        ≡ map variant_names all.old.items ++ (name, fields.items) ∷ []) }
+    ensures err { IfErr result (λ e. is_beside e ≡ true) }
+{
+    all.push(VariantLabels { name, fields })?;
+    Ok(())
+}
+
+/// The names of fields, and where their types are written in the file.
+#[tactic(auto, using(crate::proofs::Labels::fields_more, crate::proofs::Labels::fields_all))]
+fn labels_of(cx: &Context<'_, '_>, fields: &[Field], file: Place) -> Result<Vec<Label>, Stop>
+    ensures ok { IfOk result (λ labels. labels.items ≡ map (label_of file) fields.now) }
+    ensures err { IfErr result (λ e. is_beside e ≡ true) }
+{
+    let mut labels = Vec::new(cx.alloc);
+    for field in fields {
+        labels.push(label_of(field, file))?;
+    }
+    Ok(labels)
+}
+
+/// A field's name, and where its type is written in the file.
+fn label_of(field: &Field, file: Place) -> Label
+    ensures { result ≡ label_of file field.now }
+{
+    Label {
+        name: field.name,
+        start: Place(field.start.0.saturating_sub(file.0)),
+        end: Place(field.end.0.saturating_sub(file.0)),
+    }
 }

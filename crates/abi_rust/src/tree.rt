@@ -1,15 +1,26 @@
 //! Types as trees.
 
-ghost use Rattle.std.specs.Prelude.{IfOk};
-ghost use Rattle.abi_rust.specs.Values.{FollowsOn};
+ghost use Rattle.std.specs.Prelude.{◌≡◌, ◌∷◌, ◌++◌, [], IfErr, None, OnOk, Some, map, true};
+ghost use Rattle.std.specs.Int.{cast_unsigned, w128};
+ghost use Rattle.std.specs.Option.{option_copied, option_map};
+ghost use Rattle.abi_laid.specs.Tree.{tree_of};
+ghost use Rattle.abi_rust.specs.Int.{number_of};
+ghost use Rattle.abi_rust.specs.Meaning.{Answers, is_beside};
+ghost use Rattle.abi_rust.specs.Measure.{IsMeasure, Measure, each_meant};
+ghost use Rattle.abi_rust.specs.Tails.{outer_of};
+ghost use Rattle.abi_rust.specs.Trees.{checked_trees, discriminant_value, enum_tree, field_tree, field_trees, first_limited, item_by, item_tree, kind_tree, number_in, stop_in, struct_fields, struct_tree, tree_inner, tuple_of, tuple_tree, type_tree, union_tree, variant_number, variant_read, variant_tree, variant_trees};
+ghost use Rattle.abi_rust.specs.Types.{all_given, givens, list_of_types, ty_of, types, where_of};
+ghost use Rattle.abi_rust.specs.Values.{value_of};
 
-use crate::above::{Above, stands_in};
+use crate::above::{Above, stands_in, within};
 use crate::discriminants::discriminant_kind;
 use crate::evaluate::evaluate;
 use crate::fault::{FaultKind, Stop, stop_at};
 use crate::int::{Int, Width};
 use crate::kind::outside;
 use crate::operators::fitting;
+use crate::paths::item_at;
+use crate::places::at_place;
 use crate::repr::{plain, repr_of};
 use crate::repr_fields::{check_discriminants, check_packed, check_transparent};
 use crate::resolve::resolve;
@@ -18,19 +29,39 @@ use crate::tail::{is_always_sized, pointee_tail};
 use crate::ty::{Given, Kind, Ty, Value};
 use crate::work::{Context, Setting, Work, less, most_deep};
 use abi_laid::TypeTree;
-use rust_source::{Enum, Fields, Item, ItemKind, Variant};
+use rust_source::{Enum, Expr, Field, Fields, Item, ItemKind, Place, Variant};
 
 /// The tree of a type. `Stop::Size` where a type's size has to be known first.
 #[cycle(trees)]
+#[tactic(auto, using(crate::proofs::Trees::type_less, crate::proofs::Trees::type_none))]
 pub(crate) fn tree<'a>(
     cx: &Context<'a, '_>,
     work: &mut Work<'a>,
     above: &Above<'_>,
     ty: &Ty,
     room: u32,
-) -> Result<TypeTree, Stop> {
+) -> Result<TypeTree, Stop>
+    ensures { (m : Measure) → IsMeasure cx.now.dl.now m → Answers tree_of
+        ((tree_inner cx.now m room).of_type (outer_of above.now) (ty_of ty.now)) result }
+{
     work.spend()?;
     let room = less(room)?;
+    tree_with(cx, work, above, ty, room)
+}
+
+/// The tree of a type, within less room.
+#[cycle(trees)]
+#[tactic(auto, unfolding(crate::specs::Trees::type_tree))]
+fn tree_with<'a>(
+    cx: &Context<'a, '_>,
+    work: &mut Work<'a>,
+    above: &Above<'_>,
+    ty: &Ty,
+    room: u32,
+) -> Result<TypeTree, Stop>
+    ensures { (m : Measure) → IsMeasure cx.now.dl.now m → Answers tree_of
+        (type_tree cx.now m (tree_inner cx.now m room) (outer_of above.now) (ty_of ty.now)) result }
+{
     match ty {
         Ty::Never => Ok(TypeTree::Never),
         Ty::Function => Ok(function(cx.dl)),
@@ -47,7 +78,7 @@ pub(crate) fn tree<'a>(
             Ok(TypeTree::Array(*count, Box::new(cx.alloc, element)?))
         }
         Ty::Tuple(parts) => tree_of_tuple(cx, work, above, parts, room),
-        Ty::Adt(number, given) => tree_of_item(cx, work, above, *number, given, room),
+        Ty::Adt(number, given) => tree_of_item(cx, work, above, *number, given.as_slice(), room),
     }
 }
 
@@ -57,63 +88,180 @@ fn tree_of_tuple<'a>(
     cx: &Context<'a, '_>,
     work: &mut Work<'a>,
     above: &Above<'_>,
-    parts: &Vec<Ty>,
+    parts: &[Ty],
     room: u32,
-) -> Result<TypeTree, Stop> {
-    if parts.is_empty() {
-        return Ok(TypeTree::Unit);
+) -> Result<TypeTree, Stop>
+    ensures { (m : Measure) → IsMeasure cx.now.dl.now m → Answers tree_of (tuple_tree cx.now m
+        (tree_inner cx.now m room) (outer_of above.now) (list_of_types (types (map ty_of parts.now)))) result }
+{
+    let fields = trees_of_types(cx, work, above, parts, room)?;
+    Ok(tuple_of(fields))
+}
+
+/// The tuple of these.
+fn tuple_of(fields: Vec<TypeTree>) -> TypeTree
+    ensures { tree_of result ≡ tuple_of (map tree_of fields.items) }
+{
+    if fields.is_empty() {
+        return TypeTree::Unit;
     }
-    let mut fields = Vec::new(cx.alloc);
-    for part in parts {
-        let field = tree(cx, work, above, part, room)?;
-        fields.push(field)?;
-    }
-    Ok(TypeTree::Struct {
+    TypeTree::Struct {
         repr: plain(),
         always_sized: false,
         fields,
-    })
+    }
+}
+
+/// Puts a tree behind the others.
+fn push_tree(all: &mut Vec<TypeTree>, one: TypeTree) -> Result<(), Stop>
+    ensures ok { OnOk result (map tree_of all.new.items ≡ map tree_of all.old.items ++ tree_of one ∷ []) }
+    ensures err { IfErr result (λ e. is_beside e ≡ true) }
+{
+    all.push(one)?;
+    Ok(())
+}
+
+/// The trees of types.
+#[cycle(trees)]
+#[tactic(auto, using(crate::proofs::Trees::types_more, crate::proofs::Trees::types_done, crate::proofs::Trees::behind_none))]
+fn trees_of_types<'a>(
+    cx: &Context<'a, '_>,
+    work: &mut Work<'a>,
+    above: &Above<'_>,
+    parts: &[Ty],
+    room: u32,
+) -> Result<Vec<TypeTree>, Stop>
+    ensures { (m : Measure) → IsMeasure cx.now.dl.now m → Answers (λ all. map tree_of all.items)
+        (each_meant ((tree_inner cx.now m room).of_type (outer_of above.now))
+        (list_of_types (types (map ty_of parts.now)))) result }
+{
+    let mut trees = Vec::new(cx.alloc);
+    for part in parts {
+        let one = tree(cx, work, above, part, room)?;
+        push_tree(&mut trees, one)?;
+    }
+    Ok(trees)
 }
 
 /// The tree of an item under what its parameters are given.
 #[cycle(trees)]
+#[tactic(auto, using(crate::proofs::Trees::item_less, crate::proofs::Trees::item_none))]
 fn tree_of_item<'a>(
     cx: &Context<'a, '_>,
     work: &mut Work<'a>,
     above: &Above<'_>,
     number: u32,
-    given: &Vec<Given>,
+    given: &[Given],
     room: u32,
-) -> Result<TypeTree, Stop> {
+) -> Result<TypeTree, Stop>
+    ensures { (m : Measure) → IsMeasure cx.now.dl.now m → Answers tree_of
+        ((tree_inner cx.now m room).of_item (outer_of above.now) number (givens (all_given given.now))) result }
+{
     let room = less(room)?;
-    let Some(item) = cx.items.items.get(number as usize) else {
+    tree_of_item_with(cx, work, above, number, given, room)
+}
+
+/// The tree of an item under what its parameters are given, within less room.
+#[cycle(trees)]
+#[tactic(auto, unfolding(crate::specs::Trees::item_tree))]
+fn tree_of_item_with<'a>(
+    cx: &Context<'a, '_>,
+    work: &mut Work<'a>,
+    above: &Above<'_>,
+    number: u32,
+    given: &[Given],
+    room: u32,
+) -> Result<TypeTree, Stop>
+    ensures { (m : Measure) → IsMeasure cx.now.dl.now m → Answers tree_of (item_tree cx.now m
+        (tree_inner cx.now m room) (outer_of above.now) number (givens (all_given given.now))) result }
+{
+    let Some(item) = item_at(cx.items, number) else {
         return Err(Stop::Fault(None, FaultKind::Unsized));
     };
-    if stands_in(above, number, given.as_slice()) {
+    tree_of_found(cx, work, above, number, given, item, room)
+}
+
+/// The tree of an item that is found. `Recursive` where it stands in itself.
+#[cycle(trees)]
+fn tree_of_found<'a>(
+    cx: &Context<'a, '_>,
+    work: &mut Work<'a>,
+    above: &Above<'_>,
+    number: u32,
+    given: &[Given],
+    item: &'a Item,
+    room: u32,
+) -> Result<TypeTree, Stop>
+    ensures { (m : Measure) → IsMeasure cx.now.dl.now m → Answers tree_of (item_by cx.now m
+        (tree_inner cx.now m room) (outer_of above.now) number (givens (all_given given.now)) (Some item.now)) result }
+{
+    if stands_in(above, number, given) {
         return Err(stop_at(item.at, FaultKind::Recursive(item.name)));
     }
-    let own = Above::Type(number, given.as_slice(), &*above);
+    let own = within(number, &*given, &*above);
     let inside = Setting {
         module: item.module,
         item: Some(number),
-        given: given.as_slice(),
+        given,
     };
+    tree_of_kind(cx, work, &own, inside, number, item, room)
+}
+
+/// The tree of an item whose parts stand in this.
+#[cycle(trees)]
+fn tree_of_kind<'a>(
+    cx: &Context<'a, '_>,
+    work: &mut Work<'a>,
+    above: &Above<'_>,
+    inside: Setting<'_>,
+    number: u32,
+    item: &'a Item,
+    room: u32,
+) -> Result<TypeTree, Stop>
+    ensures { (m : Measure) → IsMeasure cx.now.dl.now m → Answers tree_of (kind_tree cx.now m
+        (tree_inner cx.now m room) (outer_of above.now) (where_of inside.entry) number item.now item.now.kind) result }
+{
     match &item.kind {
-        ItemKind::Struct(fields) => tree_of_struct(cx, work, &own, inside, item, fields, room),
-        ItemKind::Union(fields) => {
-            let repr = repr_of(item)?;
-            check_packed(cx, work, item, fields, most_deep())?;
-            let fields = trees_of(cx, work, &own, inside, fields, room)?;
-            Ok(TypeTree::Union { repr, fields })
+        ItemKind::Struct(fields) => {
+            tree_of_struct(cx, work, above, inside, number, item, fields, room)
         }
-        ItemKind::Enum(all) => tree_of_enum(cx, work, &own, inside, item, all, room),
+        ItemKind::Union(fields) => tree_of_union(cx, work, above, inside, item, fields, room),
+        ItemKind::Enum(all) => { tree_of_enum(cx, work, above, inside, item, all, room) }
         _ => Err(stop_at(item.at, FaultKind::NotAType(item.name))),
     }
 }
 
 /// The tree of a struct.
 #[cycle(trees)]
+#[tactic(auto, unfolding(crate::specs::Trees::struct_tree))]
 fn tree_of_struct<'a>(
+    cx: &Context<'a, '_>,
+    work: &mut Work<'a>,
+    above: &Above<'_>,
+    inside: Setting<'_>,
+    number: u32,
+    item: &'a Item,
+    fields: &'a Fields,
+    room: u32,
+) -> Result<TypeTree, Stop>
+    ensures { (m : Measure) → IsMeasure cx.now.dl.now m → Answers tree_of (struct_tree cx.now m
+        (tree_inner cx.now m room) (outer_of above.now) (where_of inside.entry) number item.now
+        fields.now.all.items) result }
+{
+    let repr = repr_of(item)?;
+    let always_sized = is_always_sized(cx, work, number, item)?;
+    let fields = fields_of_struct(cx, work, above, inside, item, fields, room)?;
+    Ok(TypeTree::Struct {
+        repr,
+        always_sized,
+        fields,
+    })
+}
+
+/// The trees of a struct's fields.
+#[cycle(trees)]
+#[tactic(auto, unfolding(crate::specs::Trees::struct_fields))]
+fn fields_of_struct<'a>(
     cx: &Context<'a, '_>,
     work: &mut Work<'a>,
     above: &Above<'_>,
@@ -121,65 +269,129 @@ fn tree_of_struct<'a>(
     item: &'a Item,
     fields: &'a Fields,
     room: u32,
-) -> Result<TypeTree, Stop> {
-    let repr = repr_of(item)?;
-    let always_sized = match inside.item {
-        Some(number) => is_always_sized(cx, work, number, item)?,
-        None => true,
-    };
+) -> Result<Vec<TypeTree>, Stop>
+    ensures { (m : Measure) → IsMeasure cx.now.dl.now m → Answers (λ all. map tree_of all.items)
+        (struct_fields cx.now m (tree_inner cx.now m room) (outer_of above.now) (where_of inside.entry) item.now
+        fields.now.all.items) result }
+{
     check_packed(cx, work, item, fields, most_deep())?;
-    let mut trees = trees_of(cx, work, above, inside, fields, room)?;
-    check_transparent(cx, item, trees.as_slice())?;
-    if let Some((start, end)) = item.valid_range {
-        limit_first(cx, &mut trees, start, end)?;
-    }
-    Ok(TypeTree::Struct {
-        repr,
-        always_sized,
-        fields: trees,
-    })
+    let mut trees = checked_trees(cx, work, above, inside, item, fields.all.as_slice(), room)?;
+    limit_first(cx, &mut trees, item.valid_range);
+    Ok(trees)
 }
 
-/// Limits the first tree's first scalar to a range.
-fn limit_first(
-    cx: &Context<'_, '_>,
-    trees: &mut Vec<TypeTree>,
-    start: u128,
-    end: u128,
-) -> Result<(), Stop> {
-    let Some(first) = trees.first_mut() else {
-        return Ok(());
+/// Limits the first tree's first scalar to a range, where one is asked for.
+fn limit_first(cx: &Context<'_, '_>, trees: &mut Vec<TypeTree>, range: Option<(u128, u128)>)
+    ensures { map tree_of trees.new.items ≡ first_limited cx.now.dl.now range (map tree_of trees.old.items) }
+{
+    let Some((start, end)) = range else {
+        return;
     };
-    let tree = std::mem::replace(first, TypeTree::Unit);
-    *first = limited(cx.dl, tree, start, end);
-    Ok(())
+    if trees.is_empty() {
+        return;
+    }
+    let tree = std::mem::replace(&mut trees[0], TypeTree::Unit);
+    trees[0] = limited(cx.dl, tree, start, end);
+}
+
+/// The trees of the fields of a type that may be transparent.
+#[cycle(trees)]
+fn checked_trees<'a>(
+    cx: &Context<'a, '_>,
+    work: &mut Work<'a>,
+    above: &Above<'_>,
+    inside: Setting<'_>,
+    item: &'a Item,
+    fields: &'a [Field],
+    room: u32,
+) -> Result<Vec<TypeTree>, Stop>
+    ensures { (m : Measure) → IsMeasure cx.now.dl.now m → Answers (λ all. map tree_of all.items)
+        (checked_trees cx.now m (tree_inner cx.now m room) (outer_of above.now) (where_of inside.entry) item.now
+        fields.now) result }
+{
+    let trees = trees_of(cx, work, above, inside, fields, room)?;
+    check_transparent(cx, item, trees.as_slice())?;
+    Ok(trees)
 }
 
 /// The trees of fields.
 #[cycle(trees)]
+#[tactic(auto, using(crate::proofs::Trees::fields_more, crate::proofs::Trees::fields_done, crate::proofs::Trees::behind_none))]
 fn trees_of<'a>(
     cx: &Context<'a, '_>,
     work: &mut Work<'a>,
     above: &Above<'_>,
     inside: Setting<'_>,
-    fields: &'a Fields,
+    fields: &'a [Field],
     room: u32,
-) -> Result<Vec<TypeTree>, Stop> {
+) -> Result<Vec<TypeTree>, Stop>
+    ensures { (m : Measure) → IsMeasure cx.now.dl.now m → Answers (λ all. map tree_of all.items)
+        (field_trees cx.now m (tree_inner cx.now m room) (outer_of above.now) (where_of inside.entry)
+        fields.now) result }
+{
     let mut trees = Vec::new(cx.alloc);
-    for field in &fields.all {
-        let ty = resolve(cx, work, inside, &field.ty, most_deep())?;
-        let one = match tree(cx, work, above, &ty, room) {
-            Ok(one) => one,
-            Err(Stop::Fault(None, kind)) => return Err(stop_at(field.start, kind)),
-            Err(other) => return Err(other),
-        };
-        trees.push(one)?;
+    for field in fields {
+        let one = tree_of_field(cx, work, above, inside, field, room)?;
+        push_tree(&mut trees, one)?;
     }
     Ok(trees)
 }
 
+/// The tree of a field. A fault that has no place is told where the field's type begins.
+#[cycle(trees)]
+fn tree_of_field<'a>(
+    cx: &Context<'a, '_>,
+    work: &mut Work<'a>,
+    above: &Above<'_>,
+    inside: Setting<'_>,
+    field: &'a Field,
+    room: u32,
+) -> Result<TypeTree, Stop>
+    ensures { (m : Measure) → IsMeasure cx.now.dl.now m → Answers tree_of (field_tree cx.now m
+        (tree_inner cx.now m room) (outer_of above.now) (where_of inside.entry) field.now) result }
+{
+    let ty = resolve(cx, work, inside, &field.ty, most_deep())?;
+    match tree(cx, work, above, &ty, room) {
+        Ok(one) => Ok(one),
+        Err(stop) => Err(stop_in(field.start, stop)),
+    }
+}
+
+/// A fault that has no place, told at this one.
+fn stop_in(at: Place, stop: Stop) -> Stop
+    ensures value { result ≡ stop_in at stop }
+    ensures beside { is_beside result ≡ is_beside stop }
+{
+    match stop {
+        Stop::Fault(None, kind) => stop_at(at, kind),
+        other => other,
+    }
+}
+
+/// The tree of a union.
+#[cycle(trees)]
+#[tactic(auto, unfolding(crate::specs::Trees::union_tree))]
+fn tree_of_union<'a>(
+    cx: &Context<'a, '_>,
+    work: &mut Work<'a>,
+    above: &Above<'_>,
+    inside: Setting<'_>,
+    item: &'a Item,
+    fields: &'a Fields,
+    room: u32,
+) -> Result<TypeTree, Stop>
+    ensures { (m : Measure) → IsMeasure cx.now.dl.now m → Answers tree_of (union_tree cx.now m
+        (tree_inner cx.now m room) (outer_of above.now) (where_of inside.entry) item.now fields.now.all.items) result }
+{
+    let repr = repr_of(item)?;
+    check_packed(cx, work, item, fields, most_deep())?;
+    let fields = trees_of(cx, work, above, inside, fields.all.as_slice(), room)?;
+    Ok(TypeTree::Union { repr, fields })
+}
+
 /// The tree of an enum.
 #[cycle(trees)]
+#[tactic(auto, unfolding(crate::specs::Trees::enum_tree), using(crate::proofs::Trees::tree_of_enum))]
 fn tree_of_enum<'a>(
     cx: &Context<'a, '_>,
     work: &mut Work<'a>,
@@ -188,44 +400,141 @@ fn tree_of_enum<'a>(
     item: &'a Item,
     all: &'a Enum,
     room: u32,
-) -> Result<TypeTree, Stop> {
+) -> Result<TypeTree, Stop>
+    ensures { (m : Measure) → IsMeasure cx.now.dl.now m → Answers tree_of (enum_tree cx.now m
+        (tree_inner cx.now m room) (outer_of above.now) (where_of inside.entry) item.now all.now.variants.items) result }
+{
     let repr = repr_of(item)?;
     check_discriminants(item, all)?;
-    let mut variants = Vec::new(cx.alloc);
-    let mut next = Some(Int::positive(0));
-    for variant in &all.variants {
-        let discriminant = discriminant_of(cx, work, item, variant, next)?;
-        let fields = trees_of(cx, work, above, inside, &variant.fields, room)?;
-        check_transparent(cx, item, fields.as_slice())?;
-        variants.push((discriminant.bits(), fields))?;
-        next = discriminant.plus(Int::positive(1));
-    }
+    let all = all.variants.as_slice();
+    let variants = trees_of_variants(cx, work, above, inside, item, all, room)?;
     Ok(TypeTree::Enum { repr, variants })
 }
 
-/// A variant's discriminant: what is written, or else the number that comes next.
+/// The discriminants of variants, and the trees of their fields.
+#[cycle(trees)]
+#[tactic(auto, using(crate::proofs::Trees::variants_more, crate::proofs::Trees::variants_done, crate::proofs::Trees::behind_none))]
+fn trees_of_variants<'a>(
+    cx: &Context<'a, '_>,
+    work: &mut Work<'a>,
+    above: &Above<'_>,
+    inside: Setting<'_>,
+    item: &'a Item,
+    all: &'a [Variant],
+    room: u32,
+) -> Result<Vec<(u128, Vec<TypeTree>)>, Stop>
+    ensures { (m : Measure) → IsMeasure cx.now.dl.now m → Answers (λ made. map variant_read made.items)
+        (variant_trees cx.now m (tree_inner cx.now m room) (outer_of above.now) (where_of inside.entry) item.now None
+        all.now) result }
+{
+    let mut variants = Vec::new(cx.alloc);
+    let mut last = None;
+    for variant in all {
+        let (number, fields) = tree_of_variant(cx, work, above, inside, item, variant, last, room)?;
+        push_variant(&mut variants, number, fields)?;
+        last = Some(number);
+    }
+    Ok(variants)
+}
+
+/// Puts a variant behind the others.
+fn push_variant(
+    all: &mut Vec<(u128, Vec<TypeTree>)>,
+    number: Int,
+    fields: Vec<TypeTree>,
+) -> Result<(), Stop>
+    ensures ok { OnOk result (map variant_read all.new.items ≡ map variant_read all.old.items
+        ++ (cast_unsigned w128 (number_of number), map tree_of fields.items) ∷ []) }
+    ensures err { IfErr result (λ e. is_beside e ≡ true) }
+{
+    all.push((number.bits(), fields))?;
+    Ok(())
+}
+
+/// A variant's discriminant, behind the last one, and the trees of its fields.
+#[cycle(trees)]
+#[tactic(auto, unfolding(crate::specs::Trees::variant_tree))]
+fn tree_of_variant<'a>(
+    cx: &Context<'a, '_>,
+    work: &mut Work<'a>,
+    above: &Above<'_>,
+    inside: Setting<'_>,
+    item: &'a Item,
+    variant: &'a Variant,
+    last: Option<Int>,
+    room: u32,
+) -> Result<(Int, Vec<TypeTree>), Stop>
+    ensures { (m : Measure) → IsMeasure cx.now.dl.now m → Answers (λ made. (number_of made.0, map tree_of made.1.items))
+        (variant_tree cx.now m (tree_inner cx.now m room) (outer_of above.now) (where_of inside.entry) item.now
+        (option_map number_of last) variant.now) result }
+{
+    let number = discriminant_of(cx, work, item, variant, last)?;
+    let fields = variant.fields.all.as_slice();
+    let trees = checked_trees(cx, work, above, inside, item, fields, room)?;
+    Ok((number, trees))
+}
+
+/// A variant's discriminant: what is written, or else the number behind the last one.
+#[tactic(auto, unfolding(crate::specs::Trees::variant_number))]
 fn discriminant_of<'a>(
     cx: &Context<'a, '_>,
     work: &mut Work<'a>,
     item: &'a Item,
     variant: &'a Variant,
-    next: Option<Int>,
+    last: Option<Int>,
 ) -> Result<Int, Stop>
-    ensures { IfOk result (λ int. FollowsOn variant.now.discriminant next int) }
+    ensures { Answers number_of (variant_number cx.now item.now (option_map number_of last) variant.now) result }
 {
-    let kind = discriminant_kind(item);
-    let value = match &variant.discriminant {
-        Some(expr) => {
-            let wanted = Some(Kind::Integer(kind));
-            evaluate(cx, work, outside(item.module), expr, wanted, most_deep())?
-        }
-        None => match fitting(kind, Width::of(kind, cx.pointer_bits), next) {
-            Ok(value) => value,
-            Err(fault) => return Err(stop_at(variant.at, fault)),
-        },
-    };
+    let value = discriminant_value(
+        cx,
+        work,
+        item,
+        variant.discriminant.as_ref(),
+        last,
+        variant.at,
+    )?;
     match value {
         Value::Integer(_, int) => Ok(int),
         _ => Err(stop_at(variant.at, FaultKind::WrongType)),
     }
+}
+
+/// The value of a discriminant that may be written.
+fn discriminant_value<'a>(
+    cx: &Context<'a, '_>,
+    work: &mut Work<'a>,
+    item: &'a Item,
+    written: Option<&'a Expr>,
+    last: Option<Int>,
+    at: Place,
+) -> Result<Value, Stop>
+    ensures { Answers value_of
+        (discriminant_value cx.now item.now (option_map number_of last) at (option_copied written.entry)) result }
+{
+    match written {
+        Some(expr) => {
+            let wanted = Some(Kind::Integer(discriminant_kind(item)));
+            evaluate(cx, work, outside(item.module), expr, wanted, most_deep())
+        }
+        None => number_behind(cx, item, last, at),
+    }
+}
+
+/// The number behind the last one, as a discriminant of the item.
+#[tactic(auto, using(crate::proofs::Numbers::too_wide))]
+fn number_behind(
+    cx: &Context<'_, '_>,
+    item: &Item,
+    last: Option<Int>,
+    at: Place,
+) -> Result<Value, Stop>
+    ensures { Answers value_of (discriminant_value cx.now item.now (option_map number_of last) at None) result }
+{
+    let kind = discriminant_kind(item);
+    let width = Width::of(kind, cx.pointer_bits);
+    let next = match last {
+        Some(int) => int.plus(Int::positive(1)),
+        None => Some(Int::positive(0)),
+    };
+    at_place(at, fitting(kind, width, next))
 }
