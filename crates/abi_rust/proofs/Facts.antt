@@ -1,6 +1,9 @@
--- Worked facts: what a few expressions and types mean wherever they stand.
-use Rattle.std.proofs.Common.{◌≡◌, Box, Global, Some, None, Ok, refl}
+-- Worked facts: what a few expressions, types and discriminants mean wherever they stand.
+use Rattle.std.proofs.Common.{◌≡◌, [], ◌∷◌, Box, Global, Some, None, Ok, false, refl}
 use Rattle.std.specs.Prelude.{pos, negsuc}
+use Rattle.abi_laid.specs.Tree.{never as never_tree, struct, trees, unit}
+use Rattle.rust_source.specs.declared.item.Item.{Item}
+use Rattle.rust_source.specs.declared.item.Variant.{Variant}
 use Rattle.rust_source.specs.declared.place.Place.{Place}
 use Rattle.rust_source.specs.declared.syntax.Binary.TheVariants.{Add, Shl}
 use Rattle.rust_source.specs.declared.syntax.Expr.{Integer, Binary'}
@@ -11,7 +14,10 @@ use Rattle.abi_rust.specs.declared.work.Context.{Context}
 use Rattle.abi_rust.specs.Evaluating.{binary_value, evaluator, value_with}
 use Rattle.abi_rust.specs.Meaning.{fault_at}
 use Rattle.abi_rust.specs.Operators.{cast_of}
-use Rattle.abi_rust.specs.Types.{Where}
+use Rattle.abi_rust.specs.Measure.{Measure}
+use Rattle.abi_rust.specs.Reprs.{plain}
+use Rattle.abi_rust.specs.Trees.{tree_inner, type_tree, variant_number}
+use Rattle.abi_rust.specs.Types.{Where, never, no_types, tuple, types}
 use Rattle.abi_rust.specs.Values.{number}
 
 module _ (cx : Context) (w : Where) (at : Place) (p q : Box (Unit {0}) Global) where
@@ -38,3 +44,15 @@ module _ (cx : Context) (w : Where) (at : Place) (p q : Box (Unit {0}) Global) w
 -- `-1i32 as u8`
 low_bits : cast_of 64 (KindInteger U8) (number I32 (negsuc 0)) ≡ Ok (number U8 (pos 255))
 low_bits = refl
+
+module _ (cx : Context) (m : Measure) where
+  -- `((), !)` is a struct of two fields, that may be reordered
+  pair : (tree_inner cx m 3).of_type [] (tuple (types (tuple no_types ∷ never ∷ []))) ≡ Ok (struct plain false None (trees (unit ∷ never_tree ∷ [])))
+  unfolding tree_inner type_tree
+  pair = refl
+
+-- behind the discriminant 255 no other stands that is a `u8`
+past_the_last : (cx : Context) (it : Item) (v : Variant) → it.repr.integer ≡ Some U8 → v.discriminant ≡ None
+    → variant_number cx it (Some (pos 255)) v ≡ fault_at v.at (Overflow U8)
+unfolding variant_number
+past_the_last cx it v integer bare = rw (bare, integer) refl

@@ -6,6 +6,7 @@ pub mod KnownSizes
 pub mod Labels
 pub mod Lasts
 pub mod Lists
+pub mod Meant
 pub mod Measures
 pub mod Numbers
 pub mod OwnLemmas

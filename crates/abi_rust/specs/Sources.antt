@@ -1,8 +1,26 @@
 -- What the sources that were read hold.
-use Rattle.std.specs.Prelude.{ℕ, ◌-◌, nat_eq, nat_le, Bool, true, false, ◌&&◌, if◌then◌else◌, List, length, slice_get, Option, Some, None}
+use Rattle.std.specs.Prelude.{◌≡◌, ◌⊎◌, ℕ, ◌-◌, nat_eq, nat_le, Bool, true, false, ◌&&◌, if◌then◌else◌, List, [], length, slice_get, Option, Some, None, Result, Ok, Err}
+use Rattle.std.specs.Option.{option_map}
+use Rattle.abi_base.specs.declared.data_layout.TargetDataLayout.{TargetDataLayout}
+use Rattle.abi_rust.specs.declared.fault.Fault.{Fault as FaultTold}
+use Rattle.abi_rust.specs.declared.fault.FaultKind.TheVariants.{Source, TooDeep}
 use Rattle.abi_rust.specs.declared.fault.FaultPlace.{FaultPlace}
 use Rattle.abi_rust.specs.declared.fault.FaultPlace.TheVariants.{File, Argument, Nowhere}
+use Rattle.abi_rust.specs.declared.fault.Stop.{Stop}
+use Rattle.abi_rust.specs.declared.fault.Stop.TheVariants.{Fault, Size}
 use Rattle.abi_rust.specs.declared.sources.Sources.{Sources}
+use Rattle.abi_rust.specs.declared.told.Subject.{Subject}
+use Rattle.abi_rust.specs.declared.told.Subject.TheVariants.{Item as ItemSubject, Written as WrittenSubject}
+use Rattle.abi_rust.specs.declared.told.Told.{Told}
+use Rattle.abi_rust.specs.declared.work.Context.{Context}
+use Rattle.abi_rust.specs.Meaning.{Answers}
+use Rattle.abi_rust.specs.Measure.{Measure}
+use Rattle.abi_rust.specs.Sizes.{IsTold}
+use Rattle.abi_rust.specs.Told.{told_read, told_under}
+use Rattle.rust_source.specs.Names.{texts}
+use Rattle.rust_source.specs.Sources.{MeansType}
+use Rattle.rust_source.specs.declared.fault.SourceFault.{SourceFault}
+use Rattle.rust_source.specs.declared.syntax.«Type».{«Type» as Written}
 use Rattle.rust_source.specs.declared.item.Item.{Item}
 use Rattle.rust_source.specs.declared.item.ItemKind.{ItemKind}
 use Rattle.rust_source.specs.declared.item.ItemKind.TheVariants.{Const as ConstItem}
@@ -39,3 +57,52 @@ place_told s (Some at) = place_in s at.0
 abbrev pub place_of_item : Sources → Option Item → FaultPlace
 place_of_item s None = Nowhere
 place_of_item s (Some it) = place_in s it.at.0
+
+-- a fault as it is told
+abbrev pub fault_told : Sources → Stop → FaultTold
+fault_told s (Fault at kind) = record { at = place_told s at; kind = kind }
+fault_told s Size = record { at = place_told s None; kind = TooDeep }
+
+-- how many bits `usize` has: 64 where a pointer's index has none of the widths that are known
+abbrev pub pointer_bits : TargetDataLayout → ℕ
+pointer_bits dl =
+    let bytes = dl.default_address_space_pointer_spec.pointer_offset in
+    if nat_eq bytes 2 then 16 else (if nat_eq bytes 4 then 32 else 64)
+
+-- work over these sources, with no size known
+pub record IsWorkOver (s : Sources) (dl : TargetDataLayout) (cx : Context) : Type 0 where
+  pub items : cx.items.now ≡ s.items
+  pub scope : s.scope ≡ Some cx.scope.now
+  pub layout : cx.dl.now ≡ dl
+  pub bits : cx.pointer_bits ≡ pointer_bits dl
+  pub knows : cx.known.now ≡ []
+
+-- what is meant, where no size has to be known first, and else under sizes that are right; want of memory and of parts aside
+pub record IsMeant (cx : Context) (m : Measure) (subject : Subject) (file : Place) (r : Result (Option Told) Stop) : Type 0 where
+  pub exact : (told_under cx m subject file ≡ Err Size → ⊥) → Answers (option_map told_read) (told_under cx m subject file) r
+  pub told : IsTold cx m subject file r
+
+-- the same of an answer whose fault is told with its place
+abbrev pub IsMeantBy : Sources → Context → Measure → Subject → Result (Option Told) FaultTold → Type 0
+IsMeantBy s cx m subject (Ok found) = IsMeant cx m subject s.file (Ok found)
+IsMeantBy s cx m subject (Err fault) = (stop : Stop) × (fault ≡ fault_told s stop) × IsMeant cx m subject s.file (Err stop)
+
+-- what is told of a subject: nothing before a source was read, and then what is meant
+abbrev pub Tells : Sources → TargetDataLayout → Measure → Subject → Result (Option Told) FaultTold → Type 0
+Tells s dl m subject result =
+    ((s.scope ≡ None) × (result ≡ Ok None)) ⊎ ((cx : Context) × IsWorkOver s dl cx × IsMeantBy s cx m subject result)
+
+-- the subject is the type that is written in a module
+abbrev pub IsWrittenIn : (inside : ℕ) → Written → Subject → Type 0
+IsWrittenIn n t (WrittenSubject m written) = (m ≡ n) × (written.now ≡ t)
+IsWrittenIn n t (ItemSubject item) = ⊥
+
+-- what is told of a type that was read, or the fault of reading it
+abbrev pub TellsRead : Sources → TargetDataLayout → Measure → Result (Option Told) FaultTold → Result Written SourceFault → Type 0
+TellsRead s dl m result (Ok t) = (subject : Subject) × IsWrittenIn s.root t subject × Tells s dl m subject result
+TellsRead s dl m result (Err e) = result ≡ Err (fault_told s (Fault (Some e.at) (Source e.kind)))
+
+-- what is told of the type that a text writes in the file's root
+abbrev pub TellsWritten : (old new : Sources) → TargetDataLayout → Measure → (text : List ℕ) → Result (Option Told) FaultTold → Type 0
+TellsWritten old new dl m text result =
+    (read : Result Written SourceFault) × MeansType text old.argument.0 (texts old.names) (texts new.names) read × TellsRead new dl m result read

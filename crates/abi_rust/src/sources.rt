@@ -1,7 +1,8 @@
 //! A file of Rust source, and what its types are.
 
-ghost use Rattle.std.specs.Prelude.{◌≡◌, ◌-◌, IfOk, [], length, slice_get};
-ghost use Rattle.abi_rust.specs.Sources.{is_told, items_of, place_of_item, place_told};
+ghost use Rattle.std.specs.Prelude.{◌≡◌, ◌-◌, ◌<◌, ◌^◌, IfOk, Some, [], length, slice_get};
+ghost use Rattle.abi_rust.specs.Measure.{IsMeasure, Measure};
+ghost use Rattle.abi_rust.specs.Sources.{IsWorkOver, Tells, TellsWritten, fault_told, is_told, items_of, place_of_item, place_told, pointer_bits};
 
 use crate::fault::{Fault, FaultKind, FaultPlace, Stop};
 use crate::scope::Scope;
@@ -92,14 +93,18 @@ impl Sources {
     }
 
     /// A fault as it is told.
-    fn fault(&self, stop: Stop) -> Fault {
-        let (at, kind) = match stop {
-            Stop::Fault(at, kind) => (at, kind),
-            Stop::Size => (None, FaultKind::TooDeep),
-        };
-        Fault {
-            at: self.place(at),
-            kind,
+    fn fault(&self, stop: Stop) -> Fault
+        ensures { result ≡ fault_told self.now stop }
+    {
+        match stop {
+            Stop::Fault(at, kind) => Fault {
+                at: self.place(at),
+                kind,
+            },
+            Stop::Size => Fault {
+                at: self.place(None),
+                kind: FaultKind::TooDeep,
+            },
         }
     }
 
@@ -207,29 +212,39 @@ impl Sources {
         &self.items
     }
 
-    /// The type that an item is. None where its size isn't known by itself.
+    /// The type that an item is, with the names of its parts. None where its size isn't known by itself, and before a
+    /// source was read. The fault is the first, with its place.
     pub fn type_of(
         &self,
         alloc: Global,
         dl: &TargetDataLayout,
         item: usize,
-    ) -> Result<Option<Told>, Fault> {
+    ) -> Result<Option<Told>, Fault>
+        ensures { (m : Measure) → IsMeasure dl.now m → item < 2 ^ 32 →
+            Tells self.now dl.now m (Subject.Item item) result }
+    {
         let Ok(number) = u32::try_from(item) else {
             return Ok(None);
         };
         self.told(alloc, dl, Subject::Item(number))
     }
 
-    /// The type that a text writes, with the names of the file's root. None where its size isn't known.
+    /// The type that a text writes, with the names of the file's root. None where its size isn't known, and before a
+    /// source was read. The fault is the first, with its place.
     pub fn type_written(
         &mut self,
         alloc: Global,
         dl: &TargetDataLayout,
         text: &str,
-    ) -> Result<Option<Told>, Fault> {
+    ) -> Result<Option<Told>, Fault>
+        ensures { (m : Measure) → IsMeasure dl.now m → TellsWritten self.old self.new dl.now m text.now result }
+    {
         let ty = match read_type(alloc, &mut self.names, text, self.argument) {
             Ok(ty) => ty,
-            Err(fault) => return Err(self.fault(Stop::from(fault))),
+            Err(fault) => return Err(self.fault(Stop::Fault(
+                Some(fault.at),
+                FaultKind::Source(fault.kind),
+            ))),
         };
         self.told(alloc, dl, Subject::Written(self.root, &ty))
     }
@@ -240,21 +255,35 @@ impl Sources {
         alloc: Global,
         dl: &'a TargetDataLayout,
         subject: Subject<'a>,
-    ) -> Result<Option<Told>, Fault> {
+    ) -> Result<Option<Told>, Fault>
+        ensures { (m : Measure) → IsMeasure dl.now m → Tells self.now dl.now m subject.entry result }
+    {
         let Some(scope) = &self.scope else {
             return Ok(None);
         };
-        let cx = Context {
+        let cx = self.work_over(alloc, dl, scope);
+        match tell(&cx, subject, self.file) {
+            Ok(found) => Ok(found),
+            Err(stop) => Err(self.fault(stop)),
+        }
+    }
+
+    /// Work over these sources, with no size known.
+    fn work_over<'a>(
+        &'a self,
+        alloc: Global,
+        dl: &'a TargetDataLayout,
+        scope: &'a Scope,
+    ) -> Context<'a, 'a>
+        ensures { self.now.scope ≡ Some scope.now → IsWorkOver self.now dl.now result }
+    {
+        Context {
             alloc,
             items: &self.items,
             scope,
             dl,
             pointer_bits: pointer_bits(dl),
             known: &[],
-        };
-        match tell(&cx, subject, self.file) {
-            Ok(found) => Ok(found),
-            Err(stop) => Err(self.fault(stop)),
         }
     }
 }
@@ -269,7 +298,9 @@ fn behind(start: Place, text: &str) -> Place {
 }
 
 /// How many bits `usize` has: 64 where a pointer's index has none of the widths that are known.
-fn pointer_bits(dl: &TargetDataLayout) -> u32 {
+fn pointer_bits(dl: &TargetDataLayout) -> u32
+    ensures { result ≡ pointer_bits dl.now }
+{
     match dl.pointer_offset().bytes() {
         2 => 16,
         4 => 32,

@@ -1,0 +1,26 @@
+-- What is told over sources is meant.
+use Rattle.std.proofs.Common.{◌≡◌, [], Err, Option}
+use Rattle.std.specs.Option.{option_map}
+use Rattle.std.specs.Prelude.{Result}
+use Rattle.abi_base.specs.declared.data_layout.TargetDataLayout.{TargetDataLayout}
+use Rattle.abi_rust.specs.Meaning.{Answers}
+use Rattle.abi_rust.specs.Measure.{IsMeasure, Measure}
+use Rattle.abi_rust.specs.Sizes.{IsTold}
+use Rattle.abi_rust.specs.Sources.{IsMeant, IsWorkOver}
+use Rattle.abi_rust.specs.Told.{told_read, told_under}
+use Rattle.abi_rust.specs.declared.fault.Stop.{Stop}
+use Rattle.abi_rust.specs.declared.fault.Stop.TheVariants.{Size}
+use Rattle.abi_rust.specs.declared.sources.Sources.{Sources}
+use Rattle.abi_rust.specs.declared.told.Subject.{Subject}
+use Rattle.abi_rust.specs.declared.told.Told.{Told}
+use Rattle.abi_rust.specs.declared.work.Context.{Context}
+
+-- the answer to work over sources
+pub meant_by : (s : Sources) (dl : TargetDataLayout) (m : Measure) (cx : Context) (subject : Subject) (r : Result (Option Told) Stop)
+    → IsMeasure dl m → IsWorkOver s dl cx
+    → ((n : Measure) → IsMeasure cx.dl.now n → (told_under cx n subject s.file ≡ Err Size → ⊥) → Answers (option_map told_read) (told_under cx n subject s.file) r)
+    → ((n : Measure) → IsMeasure cx.dl.now n → cx.known.now ≡ [] → IsTold cx n subject s.file r)
+    → IsMeant cx m subject s.file r
+meant_by s dl m cx subject r is over exact told =
+    let under : IsMeasure cx.dl.now m = rw over.layout is in
+    record { exact = exact m under; told = told m under over.knows }
