@@ -1,10 +1,10 @@
 -- Trees within less room, and lists of them, one more.
-use Rattle.std.proofs.Common.{◌≡◌, ℕ, zero, suc, ◌+◌, ◌<◌, ◌≤◌, List, [], ◌∷◌, ◌++◌, Vec, Option, None, Some, Ok, Err, length, map, drop, get_or, drop-cons, add-one, refl, ap, sym, ◌∙◌, arith}
+use Rattle.std.proofs.Common.{◌≡◌, ℕ, zero, suc, ◌+◌, ◌<◌, ◌≤◌, List, [], ◌∷◌, ◌++◌, Vec, Option, Some, Ok, Err, length, map, drop, get_or, drop-cons, add-one, refl, ap, sym, ◌∙◌, arith}
 use Rattle.std.proofs.lemmas.List.{drop_all}
 use Rattle.std.specs.Int.{cast_unsigned, w128}
 use Rattle.std.specs.Prelude.{Result, false, ℤ}
 use Rattle.std.specs.declared.alloc.Global.{Global}
-use Rattle.abi_laid.specs.Tree.{Tree, Variants, enum, layer_tree, more_variants, tree_of, trees, variants}
+use Rattle.abi_laid.specs.Tree.{Tree, enum, layer_tree, more_variants, tree_of, trees, variants}
 use Rattle.abi_laid.specs.declared.tree.TypeTree.{TypeTree, Enum, fold-roll-TypeTree}
 use Rattle.abi_laid.specs.declared.tree.TypeTree.TheOpen as layer
 use Rattle.abi_laid.specs.declared.tree.TypeTree.TheShapes.{former-TypeTree-Enum-1-at-3}

@@ -1,9 +1,9 @@
 -- One item more.
-use Rattle.std.proofs.Common.{◌≡◌, ◌∙◌, ◌<◌, None, Some, ap, length, rules, sym, take}
+use Rattle.std.proofs.Common.{◌∙◌, ◌<◌, None, Some, ap, length, rules, sym, take}
 use Rattle.std.specs.Prelude.{nat_eq, if◌then◌else◌}
 use Rattle.std.specs.Option.{option_or}
 use Rattle.rust_source.specs.declared.item.Item.{Item}
-use Rattle.abi_rust.specs.OwnConstants.{is_own, is_own_at, last_told, own_type}
+use Rattle.abi_rust.specs.OwnConstants.{is_own_at, last_told, own_type}
 use Rattle.abi_rust.specs.Standing.{first_so, numbered}
 use Rattle.abi_rust.proofs.OwnLemmas.{told_more}
 use Rattle.abi_rust.proofs.StandingLemmas.{first_more}

@@ -1,5 +1,5 @@
 -- One item more.
-use Rattle.std.proofs.Common.{◌≡◌, ◌∙◌, ◌<◌, None, Some, ap, get_or, length, rules, sym, take, subst}
+use Rattle.std.proofs.Common.{◌≡◌, ◌∙◌, ◌<◌, None, Some, ap, length, rules, sym, take, subst}
 use Rattle.std.specs.Prelude.{if◌then◌else◌}
 use Rattle.indexmap.specs.IndexMap.{get}
 use Rattle.rust_source.specs.declared.item.Item.{Item}

@@ -1,5 +1,5 @@
 -- One module more.
-use Rattle.std.proofs.Common.{◌≡◌, ◌∙◌, ◌<◌, length, sym, None, rules}
+use Rattle.std.proofs.Common.{◌∙◌, ◌<◌, length, sym, rules}
 use Rattle.abi_rust.specs.Standing.{is_module_at}
 use Rattle.abi_rust.proofs.StandingLemmas.{last_more}
 use Rattle.abi_rust.proofs.standing.add_modules.Goals as goal

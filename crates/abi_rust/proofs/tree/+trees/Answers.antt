@@ -1,6 +1,5 @@
 -- An item is looked at under what its parameters are given.
 use Rattle.std.proofs.Common.{◌∙◌, sym}
-use Rattle.abi_laid.specs.Tree.{tree_of}
 use Rattle.abi_rust.specs.Tails.{outer_of}
 use Rattle.abi_rust.specs.Trees.{tree_inner}
 use Rattle.abi_rust.specs.Types.{all_given}

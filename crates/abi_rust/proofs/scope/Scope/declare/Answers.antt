@@ -1,5 +1,5 @@
 -- What is kept is what the items say.
-use Rattle.std.proofs.Common.{◌≡◌, ◌∙◌, ◌⊎◌, ℕ, [], None, Some, ap, inl, inr, subst, sym}
+use Rattle.std.proofs.Common.{◌≡◌, ◌∙◌, [], ap, inl, inr, sym}
 use Rattle.indexmap.specs.IndexMap.{get}
 use Rattle.rust_source.specs.declared.place.Symbol.{Symbol}
 use Rattle.abi_rust.specs.Scope.{module_in, same_key}
