@@ -7,7 +7,7 @@ use Rattle.rust_source.specs.declared.item.Item.{Item}
 use Rattle.rust_source.specs.declared.syntax.«Type».{«Type» as Written}
 use Rattle.abi_rust.specs.declared.work.Context.{Context}
 use Rattle.abi_rust.specs.Aligned.{Aligning, aligning, any_aligned, fields_aligned, type_aligned}
-use Rattle.abi_rust.specs.Meaning.{after, too_deep}
+use Rattle.abi_rust.specs.Meaning.{then_meant, too_deep}
 
 module _ (cx : Context) where
   pub fields_less : (room left m : ℕ) (fs : List Field) → left + 1 ≡ room → (aligning cx room).of_fields m fs ≡ any_aligned cx (aligning cx left) m fs
@@ -42,7 +42,7 @@ module _ (cx : Context) where
 
   module _ (A : Aligning) where
     pub aligned_more : (m i : ℕ) (all : List Field) (f : Field) → i < length all → f ≡ get_or all i f
-        → any_aligned cx A m (drop i all) ≡ after (λ is. if is then Ok true else any_aligned cx A m (drop (i + 1) all)) (A.of_type m f.ty)
+        → any_aligned cx A m (drop i all) ≡ then_meant (λ is. if is then Ok true else any_aligned cx A m (drop (i + 1) all)) (A.of_type m f.ty)
     aligned_more m i all f more is = rw (drop-cons all i f, ← is, add-one i) refl
 
     pub aligned_done : (m i : ℕ) (all : List Field) → length all ≤ i → any_aligned cx A m (drop i all) ≡ Ok false

@@ -15,7 +15,7 @@ use Rattle.abi_rust.specs.Evaluating.{binary_value, evaluator, value_with}
 use Rattle.abi_rust.specs.Meaning.{fault_at}
 use Rattle.abi_rust.specs.Operators.{cast_of}
 use Rattle.abi_rust.specs.Measure.{Measure}
-use Rattle.abi_rust.specs.Reprs.{plain}
+use Rattle.abi_rust.specs.Reprs.{no_repr}
 use Rattle.abi_rust.specs.Trees.{tree_inner, type_tree, variant_number}
 use Rattle.abi_rust.specs.Types.{Where, never, no_types, tuple, types}
 use Rattle.abi_rust.specs.Values.{number}
@@ -47,7 +47,7 @@ low_bits = refl
 
 module _ (cx : Context) (m : Measure) where
   -- `((), !)` is a struct of two fields, that may be reordered
-  pair : (tree_inner cx m 3).of_type [] (tuple (types (tuple no_types ∷ never ∷ []))) ≡ Ok (struct plain false None (trees (unit ∷ never_tree ∷ [])))
+  pair : (tree_inner cx m 3).of_type [] (tuple (types (tuple no_types ∷ never ∷ []))) ≡ Ok (struct no_repr false None (trees (unit ∷ never_tree ∷ [])))
   unfolding tree_inner type_tree
   pair = refl
 

@@ -4,7 +4,7 @@ use Rattle.std.specs.Prelude.{OnOk, Result, None}
 use Rattle.std.specs.Option.{option_map}
 use Rattle.std.specs.Result.{IsErrAnd}
 use Rattle.rust_source.specs.declared.place.Place.{Place}
-use Rattle.abi_rust.specs.Meaning.{Answers, is_beside}
+use Rattle.abi_rust.specs.Meaning.{Means, is_beside}
 use Rattle.abi_rust.specs.Measure.{Measure}
 use Rattle.abi_rust.specs.Sizes.{AreSizes, IsFaultOfSize, IsTold, IsUnder, more}
 use Rattle.abi_rust.specs.Told.{place_of_request, size_meant, told_read, told_under}
@@ -24,11 +24,11 @@ on_ok (Err e) f p = p
 module _ (cx : Context) (m : Measure) where
   -- the size that a request asks for, under these sizes
   abbrev pub Sized : List KnownSize → Request → Result (ℕ × ℕ) Stop → Type 0
-  Sized known r found = (under : Context) × IsUnder cx known under × Answers (λ s. s) (size_meant under m r.at (place_of_request r) r.ty.now) found
+  Sized known r found = (under : Context) × IsUnder cx known under × Means (λ s. s) (size_meant under m r.at (place_of_request r) r.ty.now) found
 
   -- what is told under these sizes
   abbrev pub Attempted : List KnownSize → Subject → Place → Result (Option Told) Stop → Type 0
-  Attempted known s file found = (under : Context) × IsUnder cx known under × Answers (option_map told_read) (told_under under m s file) found
+  Attempted known s file found = (under : Context) × IsUnder cx known under × Means (option_map told_read) (told_under under m s file) found
 
   pub one_more : (known new : List KnownSize) (r : Request) (size align : ℕ) (found : Result (ℕ × ℕ) Stop)
       → Sized known r found → found ≡ Ok (size, align) → new ≡ known ++ record { at = r.at; given = r.given; size = size; align = align } ∷ []
@@ -64,5 +64,5 @@ module _ (cx : Context) (m : Measure) where
   told_on s file e (Err stop) passed told = rw passed told
 
   -- no size is known
-  pub alone : (s : Subject) (file : Place) (found : Result (Option Told) Stop) → cx.known.now ≡ [] → Answers (option_map told_read) (told_under cx m s file) found → Attempted [] s file found
+  pub alone : (s : Subject) (file : Place) (found : Result (Option Told) Stop) → cx.known.now ≡ [] → Means (option_map told_read) (told_under cx m s file) found → Attempted [] s file found
   alone s file found empty answers = (cx, record { items = refl; scope = refl; dl = refl; pointer_bits = refl; knows = empty }, answers)

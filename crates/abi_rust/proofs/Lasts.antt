@@ -10,7 +10,7 @@ use Rattle.rust_source.specs.declared.item.Item.{Item}
 use Rattle.abi_rust.specs.declared.fault.Stop.{Stop}
 use Rattle.abi_rust.specs.declared.tail.Tail.{Tail}
 use Rattle.abi_rust.specs.declared.work.Context.{Context}
-use Rattle.abi_rust.specs.Meaning.{Answers}
+use Rattle.abi_rust.specs.Meaning.{Means}
 use Rattle.abi_rust.specs.Resolving.{inside_item, resolved}
 use Rattle.abi_rust.specs.Tails.{Outer, TailInner, assumed, field_tail, last_of, last_type, stands_in}
 use Rattle.abi_rust.specs.Types.{GivenRead, TyRead, givens, list_given, ty_of, types}
@@ -47,6 +47,6 @@ assumed_all = map_all assumed
 -- the tail of a field whose type is resolved
 pub field_tail_on : (cx : Context) (T : TailInner) (outer inside : Outer) (n : ℕ) (it : Item) (f : Field) (gs : List GivenRead) (t : TyRead) (r : Result Tail Stop)
     → stands_in outer n (givens gs) ≡ false → resolved cx (inside_item n it gs) f.ty ≡ Ok t
-    → inside ≡ (n, givens gs) ∷ outer → Answers (λ tail. tail) (T.tail_of inside t) r
-    → Answers (λ tail. tail) (field_tail cx T outer n (givens gs) it (Some f)) r
+    → inside ≡ (n, givens gs) ∷ outer → Means (λ tail. tail) (T.tail_of inside t) r
+    → Means (λ tail. tail) (field_tail cx T outer n (givens gs) it (Some f)) r
 field_tail_on cx T outer inside n it f gs t r apart is here answers = rw (apart, list_given_is gs, is) (rw here at answers)

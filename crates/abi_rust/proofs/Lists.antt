@@ -8,7 +8,7 @@ use Rattle.rust_source.specs.declared.syntax.Argument.{Argument}
 use Rattle.rust_source.specs.declared.syntax.Segment.{Segment}
 use Rattle.rust_source.specs.declared.syntax.«Type».{«Type» as Written}
 use Rattle.abi_rust.specs.declared.work.Context.{Context}
-use Rattle.abi_rust.specs.Meaning.{after}
+use Rattle.abi_rust.specs.Meaning.{then_meant}
 use Rattle.abi_rust.specs.Resolving.{Inner, first_argument, give_from, one_given, other_arguments, tuple_from}
 use Rattle.abi_rust.specs.Types.{GivenRead, TyRead, Where, tuple, types}
 
@@ -27,14 +27,14 @@ module _ (cx : Context) (R : Inner) where
 
 module _ (cx : Context) (R : Inner) (w : Where) where
   pub tuple_more : (all : List Written) (i : ℕ) (t : Written) (made : List TyRead) → i < length all → t ≡ get_or all i t
-      → tuple_from cx R w made (drop i all) ≡ after (λ r. tuple_from cx R w (made ++ r ∷ []) (drop (i + 1) all)) (R.type_of w t)
+      → tuple_from cx R w made (drop i all) ≡ then_meant (λ r. tuple_from cx R w (made ++ r ∷ []) (drop (i + 1) all)) (R.type_of w t)
   tuple_more all i t made more is = rw (drop-cons all i t, ← is, add-one i) refl
 
   pub tuple_done : (all : List Written) (i : ℕ) (made : List TyRead) → length all ≤ i → tuple_from cx R w made (drop i all) ≡ Ok (tuple (types made))
   tuple_done all i made done = ap (λ rest. tuple_from cx R w made rest) (drop_all i all done)
 
   pub give_more : (n : ℕ) (it : Item) (s : Segment) (ps : List Parameter) (all : List Argument) (i : ℕ) (p : Parameter) (a : Option Argument) (given : List GivenRead) → i < length ps → p ≡ get_or ps i p → a ≡ slice_get all i
-      → give_from cx R w n it s given (drop i ps) (drop i all) ≡ after (λ g. give_from cx R w n it s (given ++ g ∷ []) (drop (i + 1) ps) (drop (i + 1) all)) (one_given cx R w n it s given p.kind a)
+      → give_from cx R w n it s given (drop i ps) (drop i all) ≡ then_meant (λ g. give_from cx R w n it s (given ++ g ∷ []) (drop (i + 1) ps) (drop (i + 1) all)) (one_given cx R w n it s given p.kind a)
   give_more n it s ps all i p a given more is at =
       rw (drop-cons ps i p, ← is, add-one i, first_at cx R all i, others_at cx R all i, at) refl
 

@@ -3,7 +3,7 @@ use Rattle.std.proofs.Common.{◌≡◌, [], Err, Option}
 use Rattle.std.specs.Option.{option_map}
 use Rattle.std.specs.Prelude.{Result}
 use Rattle.abi_base.specs.declared.data_layout.TargetDataLayout.{TargetDataLayout}
-use Rattle.abi_rust.specs.Meaning.{Answers}
+use Rattle.abi_rust.specs.Meaning.{Means}
 use Rattle.abi_rust.specs.Measure.{IsMeasure, Measure}
 use Rattle.abi_rust.specs.Sizes.{IsTold}
 use Rattle.abi_rust.specs.Sources.{IsMeant, IsWorkOver}
@@ -18,7 +18,7 @@ use Rattle.abi_rust.specs.declared.work.Context.{Context}
 -- the answer to work over sources
 pub meant_by : (s : Sources) (dl : TargetDataLayout) (m : Measure) (cx : Context) (subject : Subject) (r : Result (Option Told) Stop)
     → IsMeasure dl m → IsWorkOver s dl cx
-    → ((n : Measure) → IsMeasure cx.dl.now n → (told_under cx n subject s.file ≡ Err Size → ⊥) → Answers (option_map told_read) (told_under cx n subject s.file) r)
+    → ((n : Measure) → IsMeasure cx.dl.now n → (told_under cx n subject s.file ≡ Err Size → ⊥) → Means (option_map told_read) (told_under cx n subject s.file) r)
     → ((n : Measure) → IsMeasure cx.dl.now n → cx.known.now ≡ [] → IsTold cx n subject s.file r)
     → IsMeant cx m subject s.file r
 meant_by s dl m cx subject r is over exact told =

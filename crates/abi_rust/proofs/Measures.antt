@@ -7,17 +7,17 @@ use Rattle.abi_laid.specs.Tree.{Tree, tree_of}
 use Rattle.abi_laid.specs.declared.tree.TypeTree.{TypeTree}
 use Rattle.rustc_abi.specs.Fault.{IsRefusedFor}
 use Rattle.rustc_abi.specs.declared.error.LayError.{LayError}
-use Rattle.abi_rust.specs.Meaning.{Meaning, after, is_beside}
+use Rattle.abi_rust.specs.Meaning.{Meaning, then_meant, is_beside}
 use Rattle.abi_rust.specs.Measure.{IsMeasure, Measure, each_meant, takes_room}
 use Rattle.abi_rust.specs.declared.fault.FaultKind.TheVariants.{Layout}
 use Rattle.abi_rust.specs.declared.fault.Stop.TheVariants.{Fault}
 
 -- so many, and those of the rest that take room
 abbrev pub counted_on : ℕ → Meaning (List (ℕ × ℕ)) → Meaning ℕ
-counted_on n rest = after (λ sizes. Ok (fold (λ k s. k + cond (takes_room s) 1 0) n sizes)) rest
+counted_on n rest = then_meant (λ sizes. Ok (fold (λ k s. k + cond (takes_room s) 1 0) n sizes)) rest
 
 counted_one : (n : ℕ) (one : Meaning (ℕ × ℕ)) (rest : Meaning (List (ℕ × ℕ)))
-    → counted_on n (after (λ b. after (λ bs. Ok (b ∷ bs)) rest) one) ≡ after (λ is. counted_on (n + cond is 1 0) rest) (after (λ s. Ok (takes_room s)) one)
+    → counted_on n (then_meant (λ b. then_meant (λ bs. Ok (b ∷ bs)) rest) one) ≡ then_meant (λ is. counted_on (n + cond is 1 0) rest) (then_meant (λ s. Ok (takes_room s)) one)
 counted_one n (Ok s) (Ok bs) = refl
 counted_one n (Ok s) (Err e) = refl
 counted_one n (Err e) rest = refl
@@ -25,7 +25,7 @@ counted_one n (Err e) rest = refl
 module _ (m : Measure) where
   pub takers_more : (all : List TypeTree) (i n : ℕ) (t : TypeTree) → i < length all → t ≡ get_or all i t
       → counted_on n (each_meant m (map tree_of (drop i all)))
-      ≡ after (λ is. counted_on (n + cond is 1 0) (each_meant m (map tree_of (drop (i + 1) all)))) (after (λ s. Ok (takes_room s)) (m (tree_of t)))
+      ≡ then_meant (λ is. counted_on (n + cond is 1 0) (each_meant m (map tree_of (drop (i + 1) all)))) (then_meant (λ s. Ok (takes_room s)) (m (tree_of t)))
   takers_more all i n t more is =
       rw (drop-cons all i t, ← is, add-one i) (counted_one n (m (tree_of t)) (each_meant m (map tree_of (drop (suc i) all))))
 

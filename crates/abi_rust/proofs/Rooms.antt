@@ -18,7 +18,7 @@ use Rattle.rust_source.specs.declared.syntax.«Type».{«Type» as Written}
 use Rattle.abi_rust.specs.Resolving.{inner, item_with, resolver, type_with}
 use Rattle.abi_rust.specs.Tails.{Outer, tail_inner, tail_of_item_with, tail_with}
 use Rattle.abi_rust.specs.Types.{GivensRead, TyRead, Where}
-use Rattle.abi_rust.specs.Names.{behind, behind_all, first, parent, path_named, root_above, root_within, space_before, target, target_with}
+use Rattle.abi_rust.specs.Names.{named_behind, behind_all, first, parent, path_named, root_above, root_within, space_before, target, target_with}
 
 pub turns : (n i : ℕ) → i < n → n - i ≡ suc (n - (i + 1))
 turns n i more = omega arith
@@ -45,15 +45,15 @@ module _ (items : Items) (scope : Scope) where
 
   module _ (brought : ℕ → Space → Option Found) where
     pub names_step : (left fewer : ℕ) (space : Space) (before : Option Found) (name : Symbol) (names : List Symbol) → fewer + 1 ≡ left
-        → behind_all items scope brought left space before (name ∷ names) ≡ behind_all items scope brought fewer space (behind items scope brought before name (space_before fewer space)) names
+        → behind_all items scope brought left space before (name ∷ names) ≡ behind_all items scope brought fewer space (named_behind items scope brought before name (space_before fewer space)) names
     names_step zero fewer space before name names is = absurd (omega arith)
     names_step (suc left) fewer space before name names is =
         let e : left ≡ fewer = omega arith in
-        ap (λ n. behind_all items scope brought n space (behind items scope brought before name (space_before n space)) names) e
+        ap (λ n. behind_all items scope brought n space (named_behind items scope brought before name (space_before n space)) names) e
 
     -- the names of a list, of which one more is looked at
     pub names_on : {X : Type 0} (view : X → Symbol) (all : List X) (d : X) (i left fewer : ℕ) (space : Space) (before : Option Found) → i < length all → fewer + 1 ≡ left
-        → behind_all items scope brought left space before (map view (drop i all)) ≡ behind_all items scope brought fewer space (behind items scope brought before (view (get_or all i d)) (space_before fewer space)) (map view (drop (i + 1) all))
+        → behind_all items scope brought left space before (map view (drop i all)) ≡ behind_all items scope brought fewer space (named_behind items scope brought before (view (get_or all i d)) (space_before fewer space)) (map view (drop (i + 1) all))
     names_on view all d i left fewer space before more is = rw (drop-cons all i d, add-one i) (names_step left fewer space before (view (get_or all i d)) (map view (drop (suc i) all)) is)
 
     pub names_past : (left : ℕ) (space : Space) (before : Option Found) (names : List Symbol) → left ≡ 0 → behind_all items scope brought left space before names ≡ before

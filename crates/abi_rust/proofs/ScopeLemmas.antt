@@ -10,9 +10,9 @@ use Rattle.abi_rust.specs.declared.fault.Stop.{Stop}
 use Rattle.abi_rust.specs.declared.scope.Scope.{Scope}
 use Rattle.abi_rust.specs.declared.words.Word.TheVariants.{Prelude}
 use Rattle.abi_rust.specs.Kinds.{type_named}
-use Rattle.abi_rust.specs.Names.{behind, first, found_of, most_uses, own, target, target_with, within}
+use Rattle.abi_rust.specs.Names.{named_behind, first, found_of, most_uses, own, target, target_with, within}
 use Rattle.abi_rust.specs.OwnConstants.{is_own, last_told, own_at, own_type, own_type_by, type_owning}
-use Rattle.abi_rust.specs.Scope.{constant_in, module_in, reached_from, same_key, type_in, use_in}
+use Rattle.abi_rust.specs.Scope.{constant_standing, module_in, reached_from, same_key, type_standing, use_in}
 use Rattle.abi_rust.specs.ScopeNames.{HasSameNames, KeepsNames, KeepsOwn}
 use Rattle.abi_rust.specs.Standing.{ModuleName, first_so}
 use Rattle.abi_rust.specs.Words.{symbol_of}
@@ -42,13 +42,13 @@ with_own scope other = record scope { owners = other.owners; own_constants = oth
 
 -- that tells nothing of what uses bring in
 same_target : (items : Items) (scope other : Scope) (room : ℕ) → target items (with_own scope other) room ≡ target items scope room
-unfolding target target_with first behind within own use_in module_in type_in constant_in reached_from
+unfolding target target_with first named_behind within own use_in module_in type_standing constant_standing reached_from
 same_target items scope other zero = refl
 same_target items scope other (suc room) = ap (target_with items scope) (same_target items scope other room)
 
 -- nor of what paths name
 same_type : (items : Items) (scope other : Scope) (m : ℕ) (p : Path) (count : ℕ) → type_named items (with_own scope other) m p count ≡ type_named items scope m p count
-unfolding type_named found_of first behind within own use_in module_in type_in constant_in reached_from target target_with
+unfolding type_named found_of first named_behind within own use_in module_in type_standing constant_standing reached_from target target_with
 same_type items scope other m p count = rw (same_target items scope other most_uses) refl
 
 same_types : (items : Items) (scope other : Scope) → type_named items (with_own scope other) ≡ type_named items scope

@@ -12,7 +12,7 @@ use Rattle.abi_rust.specs.declared.paths.Found.{Found}
 use Rattle.abi_rust.specs.declared.paths.Found.TheVariants.{Item as ItemFound}
 use Rattle.abi_rust.specs.declared.work.Context.{Context}
 use Rattle.abi_rust.specs.Kinds.{found_by, item_at}
-use Rattle.abi_rust.specs.Meaning.{Meaning, after, fault_at, too_deep}
+use Rattle.abi_rust.specs.Meaning.{Meaning, then_meant, fault_at, too_deep}
 use Rattle.abi_rust.specs.Names.{root}
 
 -- whether fields that are written in a module, a type that is, or an item has `align`, or a field of it
@@ -50,7 +50,7 @@ module _ (cx : Context) where
     -- one of these fields has `align` in its type, or in a field of that
     abbrev pub any_aligned : (inside : ℕ) → List Field → Meaning Bool
     any_aligned m [] = Ok false
-    any_aligned m (f ∷ fs) = after (λ is. if is then Ok true else any_aligned m fs) (A.of_type m f.ty)
+    any_aligned m (f ∷ fs) = then_meant (λ is. if is then Ok true else any_aligned m fs) (A.of_type m f.ty)
 
     abbrev pub kind_aligned : Item → ItemKind → Meaning Bool
     kind_aligned it (AliasItem t) = A.of_type it.«module» t
@@ -85,5 +85,5 @@ module _ (cx : Context) where
   unfoldable pub packed_checked : (room : ℕ) → Item → List Field → Meaning Bool
   packed_checked room it fs =
       if is_some it.repr.packed
-      then after (λ is. if is then fault_at (place_of_repr it) AlignedInPacked else Ok true) ((aligning room).of_fields it.«module» fs)
+      then then_meant (λ is. if is then fault_at (place_of_repr it) AlignedInPacked else Ok true) ((aligning room).of_fields it.«module» fs)
       else Ok true

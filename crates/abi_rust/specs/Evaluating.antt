@@ -29,16 +29,16 @@ use Rattle.abi_rust.specs.declared.ty.Kind.{Kind}
 use Rattle.abi_rust.specs.declared.ty.Kind.TheVariants.{Bool as BoolKind, Char as CharKind, Integer as KindInteger}
 use Rattle.abi_rust.specs.declared.work.Context.{Context}
 use Rattle.abi_rust.specs.declared.words.Word.TheVariants as word
-use Rattle.abi_rust.specs.Kinds.{constant_named, constant_place, given_named, is_shift, item_at, kind_at, kind_of, kind_written, operand_kind, outside, single_name}
+use Rattle.abi_rust.specs.Kinds.{constant_named, constant_place, given_named, is_shift, item_at, kind_of_names, kind_of_expr, kind_written, operand_kind, outside, single_name}
 use Rattle.abi_rust.specs.Known.{known_at}
-use Rattle.abi_rust.specs.Meaning.{Meaning, after, fault_at, too_deep}
+use Rattle.abi_rust.specs.Meaning.{Meaning, then_meant, fault_at, too_deep}
 use Rattle.abi_rust.specs.Names.{found, found_of}
-use Rattle.abi_rust.specs.Operators.{Made, binary_of, bits_in, cast_of, fitted, is_settled, is_signed, same_kind, unary_of}
-use Rattle.abi_rust.specs.Places.{last_name, place_of, place_of_path}
+use Rattle.abi_rust.specs.Operators.{Made, binary_of, bits_of_integer, cast_of, fitted, is_settled, is_signed, is_same_kind, unary_of}
+use Rattle.abi_rust.specs.Places.{last_name, place_of_expr, place_of_path}
 use Rattle.abi_rust.specs.Scope.{module_in}
 use Rattle.abi_rust.specs.Types.{GivenRead, Where, givens, of_value}
 use Rattle.abi_rust.specs.Values.{ValueRead, code, kind_read, number, truth}
-use Rattle.abi_rust.specs.Words.{is_word, same_name, symbol_of}
+use Rattle.abi_rust.specs.Words.{is_word, is_same_name, symbol_of}
 
 -- a value, or a fault at the place
 abbrev pub made_at : Place → Made → Meaning ValueRead
@@ -48,7 +48,7 @@ made_at at (Err kind) = fault_at at kind
 -- the value, where it is of the type that is wanted
 abbrev pub typed : Place → (wanted : Option Kind) → ValueRead → Meaning ValueRead
 typed at None v = Ok v
-typed at (Some kind) v = if same_kind (kind_read v) kind then Ok v else fault_at at WrongType
+typed at (Some kind) v = if is_same_kind (kind_read v) kind then Ok v else fault_at at WrongType
 
 -- the type of a literal: of its suffix, or the one that is wanted, or else `i32`
 abbrev pub literal_kind : (suffix : Option IntegerKind) → (wanted : Option Kind) → Option IntegerKind
@@ -62,7 +62,7 @@ abbrev pub literal_by : (pointer_bits : ℕ) → ℤ → Place → Option Intege
 literal_by n z at None = fault_at at WrongType
 literal_by n z at (Some kind) =
     if int_lt z (pos 0) && not (is_signed kind) then fault_at at WrongType
-    else made_at at (fitted kind (is_signed kind) (bits_in n kind) z)
+    else made_at at (fitted kind (is_signed kind) (bits_of_integer n kind) z)
 
 -- a literal's value
 abbrev pub literal : (pointer_bits : ℕ) → ℤ → (suffix : Option IntegerKind) → (wanted : Option Kind) → Place → Meaning ValueRead
@@ -101,9 +101,9 @@ written_before index [] = (0, None)
 written_before index (v ∷ vs) = written_from index vs 0 v.discriminant
 
 -- the number of the first of these variants that has the name, counted from one on
-abbrev pub variant_from : (counted : ℕ) → Symbol → List Variant → Option ℕ
+abbrev pub variant_from : (counted_on : ℕ) → Symbol → List Variant → Option ℕ
 variant_from n name [] = None
-variant_from n name (v ∷ vs) = if same_name v.name name then Some n else variant_from (suc n) name vs
+variant_from n name (v ∷ vs) = if is_same_name v.name name then Some n else variant_from (suc n) name vs
 
 -- the type that an argument is
 abbrev pub argument_type : Argument → Option Written
@@ -121,7 +121,7 @@ only_type p = option_and_then (λ s. only_argument (out-Segment s).arguments.ite
 -- the limit of this name of an integer type
 abbrev pub limit_named : Context → IntegerKind → Symbol → Option ValueRead
 limit_named cx kind name =
-    let k = bits_in cx.pointer_bits kind in
+    let k = bits_of_integer cx.pointer_bits kind in
     let s = is_signed kind in
     let words = cx.scope.now.words in
     if is_word words name word.Max then Some (number kind (pos (cond s (2 ^ (k - 1) - 1) (2 ^ k - 1))))
@@ -134,12 +134,12 @@ Evaluator = Where → Expr → (wanted : Option Kind) → Meaning ValueRead
 
 module _ (cx : Context) where
   -- what is wrong with a path whose last name is no constant's
-  abbrev pub unknown_by : Symbol → Option Found → FaultKind
-  unknown_by name (Some (Module m)) = UnknownConstant name
-  unknown_by name _ = Unevaluated Associated
+  abbrev pub unknown_constant : Symbol → Option Found → FaultKind
+  unknown_constant name (Some (Module m)) = UnknownConstant name
+  unknown_constant name _ = Unevaluated Associated
 
   unfoldable pub unknown_of : (inside : ℕ) → Path → (count : ℕ) → Symbol → FaultKind
-  unknown_of m p count name = unknown_by name (found_of cx.items.now cx.scope.now m p count Types)
+  unknown_of m p count name = unknown_constant name (found_of cx.items.now cx.scope.now m p count Types)
 
   abbrev pub limit_of : Symbol → Option Kind → Option ValueRead
   limit_of name (Some (KindInteger kind)) = limit_named cx kind name
@@ -154,7 +154,7 @@ module _ (cx : Context) where
   limit_by w p count (Some s) =
       let name = (out-Segment s).name in
       if nat_eq count 0 then fault_at (out-Segment s).at (UnknownConstant name)
-      else limit_or (out-Segment s).at (unknown_of w.inside p count name) (limit_of name (kind_at cx.items.now cx.scope.now w p count))
+      else limit_or (out-Segment s).at (unknown_of w.inside p count name) (limit_of name (kind_of_names cx.items.now cx.scope.now w p count))
 
   -- `T::MAX`, `T::MIN` or `T::BITS` of an integer type
   unfoldable pub limit : Where → Path → Meaning ValueRead
@@ -196,25 +196,25 @@ module _ (cx : Context) where
   unfoldable pub call : Where → Path → Place → Meaning ValueRead
   call w p at = call_by w at (asks_size w.inside p) (only_type p)
 
-  abbrev pub variant_in : Symbol → Item → ItemKind → Option (Item × ℕ)
-  variant_in name it (EnumItem all) = option_map (λ n. (it, n)) (variant_from 0 name all.variants.items)
-  variant_in name it _ = None
+  abbrev pub variant_of_kind : Symbol → Item → ItemKind → Option (Item × ℕ)
+  variant_of_kind name it (EnumItem all) = option_map (λ n. (it, n)) (variant_from 0 name all.variants.items)
+  variant_of_kind name it _ = None
 
-  abbrev pub variant_by : Symbol → Option Item → Option (Item × ℕ)
-  variant_by name None = None
-  variant_by name (Some it) = variant_in name it it.kind
+  abbrev pub variant_of_item : Symbol → Option Item → Option (Item × ℕ)
+  variant_of_item name None = None
+  variant_of_item name (Some it) = variant_of_kind name it it.kind
 
   abbrev pub variant_found : Symbol → Option Found → Option (Item × ℕ)
-  variant_found name (Some (ItemFound n)) = variant_by name (item_at cx.items.now cx.scope.now n)
+  variant_found name (Some (ItemFound n)) = variant_of_item name (item_at cx.items.now cx.scope.now n)
   variant_found name _ = None
 
-  abbrev pub variant_of : (inside : ℕ) → Path → Option Segment → Option (Item × ℕ)
-  variant_of m p None = None
-  variant_of m p (Some s) = variant_found (out-Segment s).name (found_of cx.items.now cx.scope.now m p (length (out-Path p).segments.items - 1) Types)
+  abbrev pub variant_at_path : (inside : ℕ) → Path → Option Segment → Option (Item × ℕ)
+  variant_at_path m p None = None
+  variant_at_path m p (Some s) = variant_found (out-Segment s).name (found_of cx.items.now cx.scope.now m p (length (out-Path p).segments.items - 1) Types)
 
   -- the enum and the number of the variant that a path names
   unfoldable pub variant_named : (inside : ℕ) → Path → Option (Item × ℕ)
-  variant_named m p = variant_of m p (last_name p)
+  variant_named m p = variant_at_path m p (last_name p)
 
   abbrev pub value_in : Option GivenRead → Option ValueRead
   value_in (Some (of_value v)) = Some v
@@ -231,55 +231,55 @@ module _ (cx : Context) where
 
   -- the right operand has the left one's type, but for a shift
   abbrev pub right_kind : Where → Binary → ValueRead → Expr → Option Kind
-  right_kind w b v r = if is_shift b then kind_of cx.items.now cx.scope.now w r else Some (kind_read v)
+  right_kind w b v r = if is_shift b then kind_of_expr cx.items.now cx.scope.now w r else Some (kind_read v)
 
   -- the number that stands so far behind it
-  abbrev pub counted : Item → (behind : ℕ) → ValueRead → Meaning ValueRead
-  counted it behind (number kind z) =
+  abbrev pub counted_on : Item → (behind : ℕ) → ValueRead → Meaning ValueRead
+  counted_on it behind (number kind z) =
       let k = discriminant_kind it in
-      made_at it.at (fitted k (is_signed k) (bits_in cx.pointer_bits k) (z +ℤ pos behind))
-  counted it behind _ = fault_at it.at WrongType
+      made_at it.at (fitted k (is_signed k) (bits_of_integer cx.pointer_bits k) (z +ℤ pos behind))
+  counted_on it behind _ = fault_at it.at WrongType
 
   module _ (E : Evaluator) where
     -- the value of an operator before its operand
     abbrev pub unary_value : Where → Unary → Expr → (wanted : Option Kind) → Meaning ValueRead
     unary_value w Minus (IntegerExpr n suffix at) wanted = literal cx.pointer_bits (neg_ℤ (pos n)) suffix wanted at
-    unary_value w u e wanted = after (λ v. made_at (place_of e) (unary_of cx.pointer_bits u v)) (E w e wanted)
+    unary_value w u e wanted = then_meant (λ v. made_at (place_of_expr e) (unary_of cx.pointer_bits u v)) (E w e wanted)
 
     abbrev pub second_value : Where → Binary → (left right : Expr) → ValueRead → Meaning ValueRead
     second_value w b l r v =
         if is_settled b v then Ok v
-        else after (λ u. made_at (place_of l) (binary_of cx.pointer_bits b v u)) (E w r (right_kind w b v r))
+        else then_meant (λ u. made_at (place_of_expr l) (binary_of cx.pointer_bits b v u)) (E w r (right_kind w b v r))
 
     -- the value of an operator between its operands
     unfoldable pub binary_value : Where → Binary → (left right : Expr) → (wanted : Option Kind) → Meaning ValueRead
     binary_value w b l r wanted =
-        after (second_value w b l r) (E w l (operand_kind cx.items.now cx.scope.now w b l r wanted))
+        then_meant (second_value w b l r) (E w l (operand_kind cx.items.now cx.scope.now w b l r wanted))
 
     -- a discriminant that is written, or the first
     abbrev pub begun : Item → Option Expr → Meaning ValueRead
     begun it None = Ok (number (discriminant_kind it) (pos 0))
     begun it (Some e) = E (outside it.«module») e (Some (KindInteger (discriminant_kind it)))
 
-    abbrev pub discriminant_in : Item → (index : ℕ) → ItemKind → Meaning ValueRead
-    discriminant_in it index (EnumItem all) =
+    abbrev pub discriminant_of_kind : Item → (index : ℕ) → ItemKind → Meaning ValueRead
+    discriminant_of_kind it index (EnumItem all) =
         let w = written_before index all.variants.items in
-        after (counted it w.0) (begun it w.1)
-    discriminant_in it index _ = fault_at it.at WrongType
+        then_meant (counted_on it w.0) (begun it w.1)
+    discriminant_of_kind it index _ = fault_at it.at WrongType
 
     -- a variant's discriminant: the one that is written last before it, and one more for each variant behind that
     unfoldable pub discriminant : Item → (index : ℕ) → Meaning ValueRead
-    discriminant it index = discriminant_in it index it.kind
+    discriminant it index = discriminant_of_kind it index it.kind
 
     -- the value that is cast: a variant's discriminant, or that of the operand
     abbrev pub operand_value : Where → Expr → Kind → Option (Item × ℕ) → Meaning ValueRead
     operand_value w e kind (Some v) = discriminant v.0 v.1
-    operand_value w e kind None = E w e (option_or (kind_of cx.items.now cx.scope.now w e) (inner_kind kind e))
+    operand_value w e kind None = E w e (option_or (kind_of_expr cx.items.now cx.scope.now w e) (inner_kind kind e))
 
     abbrev pub cast_by : Where → Expr → Place → Option Kind → Meaning ValueRead
     cast_by w e at None = fault_at at (Unevaluated Expression)
     cast_by w e at (Some kind) =
-        after (λ v. made_at at (cast_of cx.pointer_bits kind v)) (operand_value w e kind (cast_variant w.inside e))
+        then_meant (λ v. made_at at (cast_of cx.pointer_bits kind v)) (operand_value w e kind (cast_variant w.inside e))
 
     -- the value of a cast
     unfoldable pub cast_value : Where → Expr → Written → Place → Meaning ValueRead
@@ -289,29 +289,29 @@ module _ (cx : Context) where
     constant_on n it at (Some kind) (Some e) = E (constant_place cx.scope.now n it) e (Some kind)
     constant_on n it at _ _ = fault_at at (Unevaluated Expression)
 
-    abbrev pub constant_in : ℕ → Item → Place → ItemKind → Meaning ValueRead
-    constant_in n it at (ConstItem c) = constant_on n it at (kind_written cx.items.now cx.scope.now (constant_place cx.scope.now n it) c.ty) c.value
-    constant_in n it at _ = fault_at at (Unevaluated Expression)
+    abbrev pub constant_of_kind : ℕ → Item → Place → ItemKind → Meaning ValueRead
+    constant_of_kind n it at (ConstItem c) = constant_on n it at (kind_written cx.items.now cx.scope.now (constant_place cx.scope.now n it) c.ty) c.value
+    constant_of_kind n it at _ = fault_at at (Unevaluated Expression)
 
-    abbrev pub constant_by : ℕ → Place → Option Item → Meaning ValueRead
-    constant_by n at None = fault_at at (Unevaluated Expression)
-    constant_by n at (Some it) = constant_in n it at it.kind
+    abbrev pub constant_of_item : ℕ → Place → Option Item → Meaning ValueRead
+    constant_of_item n at None = fault_at at (Unevaluated Expression)
+    constant_of_item n at (Some it) = constant_of_kind n it at it.kind
 
     -- the value of the constant of this number
     unfoldable pub constant_value : ℕ → Place → Meaning ValueRead
-    constant_value n at = constant_by n at (item_at cx.items.now cx.scope.now n)
+    constant_value n at = constant_of_item n at (item_at cx.items.now cx.scope.now n)
 
     abbrev pub named_value : Where → Path → Option ℕ → Meaning ValueRead
     named_value w p (Some n) = constant_value n (place_of_path p)
     named_value w p None = limit w p
 
-    abbrev pub path_by : Where → Path → Option ValueRead → Meaning ValueRead
-    path_by w p (Some v) = Ok v
-    path_by w p None = named_value w p (constant_named cx.items.now cx.scope.now w p)
+    abbrev pub path_value_by : Where → Path → Option ValueRead → Meaning ValueRead
+    path_value_by w p (Some v) = Ok v
+    path_value_by w p None = named_value w p (constant_named cx.items.now cx.scope.now w p)
 
     -- the value of the constant that a path names: what a parameter is given, a constant's, or a limit
     unfoldable pub path_value : Where → Path → Meaning ValueRead
-    path_value w p = path_by w p (value_given w p)
+    path_value w p = path_value_by w p (value_given w p)
 
     -- a call without arguments
     abbrev pub is_bare : Expr → Bool
@@ -332,12 +332,12 @@ module _ (cx : Context) where
     value_by w wanted (Unary' u p e at) = unary_value w u e wanted
     value_by w wanted (Binary' b p l q r at) = binary_value w b l r wanted
     value_by w wanted (Cast' p e q t at) = cast_value w e t at
-    value_by w wanted (If' p c q l o r at) = after (branch_value w l r wanted) (E w c (Some BoolKind))
+    value_by w wanted (If' p c q l o r at) = then_meant (branch_value w l r wanted) (E w c (Some BoolKind))
     value_by w wanted (UnevaluatedExpr what at) = fault_at at (Unevaluated what)
 
     -- the value of an expression
     unfoldable pub value_with : Evaluator
-    value_with w e wanted = after (typed (place_of e) wanted) (value_by w wanted e)
+    value_with w e wanted = then_meant (typed (place_of_expr e) wanted) (value_by w wanted e)
 
   -- how expressions are evaluated, where constants may need one another so deep
   unfoldable pub evaluator : (room : ℕ) → Evaluator

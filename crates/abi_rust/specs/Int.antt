@@ -9,8 +9,8 @@ signed false n = pos n
 signed true n = neg_ℤ (pos n)
 
 -- the number that an integer is
-abbrev pub number_of : Int → ℤ
-number_of i = signed i.is_negative i.magnitude
+abbrev pub number_of_int : Int → ℤ
+number_of_int i = signed i.is_negative i.magnitude
 
 -- a type of so many bits, signed or not, has the number
 abbrev pub IsAmong : (is_signed : Bool) (bits : ℕ) → ℤ → Type 0

@@ -31,7 +31,7 @@ use Rattle.abi_rust.specs.Names.{found, found_of}
 use Rattle.abi_rust.specs.Places.{last_name}
 use Rattle.abi_rust.specs.Scope.{own_constant, owner_of}
 use Rattle.abi_rust.specs.Types.{GivenRead, Where, of_type, primitive}
-use Rattle.abi_rust.specs.Words.{is_word, same_name}
+use Rattle.abi_rust.specs.Words.{is_word, is_same_name}
 
 -- how many aliases may lead from one to another
 unfoldable pub most_aliases : ℕ
@@ -52,7 +52,7 @@ single_name p = single_of (out-Path p).is_global (out-Path p).segments.items
 -- the number of the first of these parameters that has this name, counted from one on
 abbrev pub number_from : (counted : ℕ) → Symbol → List Parameter → Option ℕ
 number_from n name [] = None
-number_from n name (p ∷ ps) = if same_name p.name name then Some n else number_from (suc n) name ps
+number_from n name (p ∷ ps) = if is_same_name p.name name then Some n else number_from (suc n) name ps
 
 -- the name that so many names are, where they are one
 abbrev pub name_alone : (count : ℕ) → List Segment → Option Symbol
@@ -113,16 +113,16 @@ module _ (items : Items) (scope : Scope) where
   found_by m _ = None
 
   -- the type that an item is, by the alias that it may be
-  abbrev pub type_on : (go_on : Option Found → Option ℕ) → ℕ → (inside : ℕ) → ItemKind → Option ℕ
-  type_on go_on n m (AliasItem t) = go_on (found_by m t)
-  type_on go_on n m _ = Some n
+  abbrev pub type_behind_alias : (go_on : Option Found → Option ℕ) → ℕ → (inside : ℕ) → ItemKind → Option ℕ
+  type_behind_alias go_on n m (AliasItem t) = go_on (found_by m t)
+  type_behind_alias go_on n m _ = Some n
 
-  abbrev pub type_by : (go_on : Option Found → Option ℕ) → ℕ → Option Item → Option ℕ
-  type_by go_on n None = None
-  type_by go_on n (Some it) = type_on go_on n it.«module» it.kind
+  abbrev pub type_of_item_by : (go_on : Option Found → Option ℕ) → ℕ → Option Item → Option ℕ
+  type_of_item_by go_on n None = None
+  type_of_item_by go_on n (Some it) = type_behind_alias go_on n it.«module» it.kind
 
   abbrev pub type_step : (go_on : Option Found → Option ℕ) → Option Found → Option ℕ
-  type_step go_on (Some (ItemFound n)) = type_by go_on n (item_at n)
+  type_step go_on (Some (ItemFound n)) = type_of_item_by go_on n (item_at n)
   type_step go_on _ = None
 
   -- the struct, enum or union that is found, by so many aliases at most
@@ -176,18 +176,18 @@ module _ (items : Items) (scope : Scope) where
       else kind_found (found_of items scope w.inside p count Types)
 
   -- the type of constants that the first names of a path are, so many of them
-  unfoldable pub kind_at : Where → Path → (count : ℕ) → Option Kind
-  kind_at w p count = kind_at_by w p count (name_alone count (out-Path p).segments.items)
+  unfoldable pub kind_of_names : Where → Path → (count : ℕ) → Option Kind
+  kind_of_names w p count = kind_at_by w p count (name_alone count (out-Path p).segments.items)
 
   -- the type of constants that a type is
   abbrev pub kind_written : Where → Written → Option Kind
-  kind_written w (PathType p) = kind_at w p (length (out-Path p).segments.items)
+  kind_written w (PathType p) = kind_of_names w p (length (out-Path p).segments.items)
   kind_written w _ = None
 
   abbrev pub owner_by : Where → Path → (count : ℕ) → Option Symbol → Option ℕ
   owner_by w p count None = type_named w.inside p count
   owner_by w p count (Some name) =
-      if same_name name SELF_TYPE then w.item
+      if is_same_name name SELF_TYPE then w.item
       else (if is_some (parameter_named w.item name) then None else type_named w.inside p count)
 
   -- the type that the first names of a path name, so many of them, where it may have constants of its own
@@ -195,23 +195,23 @@ module _ (items : Items) (scope : Scope) where
   owner_named w p count = owner_by w p count (name_alone count (out-Path p).segments.items)
 
   -- the constant of this name that is such a type's own
-  abbrev pub own_by : Option ℕ → Option Segment → Option ℕ
-  own_by (Some t) (Some s) = own_constant scope t (out-Segment s).name
-  own_by _ _ = None
+  abbrev pub own_constant_by : Option ℕ → Option Segment → Option ℕ
+  own_constant_by (Some t) (Some s) = own_constant scope t (out-Segment s).name
+  own_constant_by _ _ = None
 
   -- the constant of a type that a path names
   unfoldable pub own_named : Where → Path → Option ℕ
   own_named w p =
       let count = length (out-Path p).segments.items - 1 in
-      own_by (owner_named w p count) (last_name p)
+      own_constant_by (owner_named w p count) (last_name p)
 
-  abbrev pub constant_by : Where → Path → Option Found → Option ℕ
-  constant_by w p (Some (ItemFound n)) = Some n
-  constant_by w p _ = own_named w p
+  abbrev pub constant_found : Where → Path → Option Found → Option ℕ
+  constant_found w p (Some (ItemFound n)) = Some n
+  constant_found w p _ = own_named w p
 
   -- the constant that a path names: a module's, or a type's own
   unfoldable pub constant_named : Where → Path → Option ℕ
-  constant_named w p = constant_by w p (found items scope w.inside p Values)
+  constant_named w p = constant_found w p (found items scope w.inside p Values)
 
   abbrev pub constant_type_on : ℕ → Item → ItemKind → Option Kind
   constant_type_on n it (ConstItem c) = kind_written (constant_place scope n it) c.ty
@@ -246,7 +246,7 @@ module _ (items : Items) (scope : Scope) where
   limit_type w p None = None
   limit_type w p (Some s) =
       if is_word scope.words (out-Segment s).name word.Bits then Some (KindInteger U32)
-      else kind_at w p (length (out-Path p).segments.items - 1)
+      else kind_of_names w p (length (out-Path p).segments.items - 1)
 
   abbrev pub path_kind_by : Where → Path → Option ℕ → Option Kind
   path_kind_by w p (Some n) = constant_type n
@@ -261,19 +261,19 @@ module _ (items : Items) (scope : Scope) where
   path_kind w p = path_kind_in w p (option_and_then (parameter_named w.item) (single_name p))
 
   -- the type of an expression, where its parts tell it
-  abbrev pub kind_of : Where → Expr → Option Kind
-  kind_of w (IntegerExpr n suffix at) = suffix_kind suffix
-  kind_of w (CharExpr code at) = Some CharKind
-  kind_of w (BoolExpr b at) = Some BoolKind
-  kind_of w (PathExpr p) = path_kind w p
-  kind_of w (Call' p shape all at) = Some (KindInteger Usize)
-  kind_of w (Unary' u p e at) = kind_of w e
-  kind_of w (Binary' b p l q r at) = if is_test b then Some BoolKind else operands_kind b (kind_of w l) (kind_of w r)
-  kind_of w (Cast' p e q t at) = kind_written w t
-  kind_of w (If' p c q l o r at) = option_or (kind_of w l) (kind_of w r)
-  kind_of w (Unevaluated u at) = None
+  abbrev pub kind_of_expr : Where → Expr → Option Kind
+  kind_of_expr w (IntegerExpr n suffix at) = suffix_kind suffix
+  kind_of_expr w (CharExpr code at) = Some CharKind
+  kind_of_expr w (BoolExpr b at) = Some BoolKind
+  kind_of_expr w (PathExpr p) = path_kind w p
+  kind_of_expr w (Call' p shape all at) = Some (KindInteger Usize)
+  kind_of_expr w (Unary' u p e at) = kind_of_expr w e
+  kind_of_expr w (Binary' b p l q r at) = if is_test b then Some BoolKind else operands_kind b (kind_of_expr w l) (kind_of_expr w r)
+  kind_of_expr w (Cast' p e q t at) = kind_written w t
+  kind_of_expr w (If' p c q l o r at) = option_or (kind_of_expr w l) (kind_of_expr w r)
+  kind_of_expr w (Unevaluated u at) = None
 
   -- the type that an operator's first operand has to have: the one that is wanted, but of a test the operands'
   abbrev pub operand_kind : Where → Binary → (left right : Expr) → (wanted : Option Kind) → Option Kind
   operand_kind w b l r wanted =
-      option_or (if is_test b then None else wanted) (operands_kind b (kind_of w l) (kind_of w r))
+      option_or (if is_test b then None else wanted) (operands_kind b (kind_of_expr w l) (kind_of_expr w r))

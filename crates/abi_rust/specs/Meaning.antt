@@ -12,9 +12,9 @@ abbrev pub Meaning : Type 0 → Type 0
 Meaning A = Result A Stop
 
 -- what follows where there is no fault
-abbrev pub after : {A B : Type 0} → (A → Meaning B) → Meaning A → Meaning B
-after next (Ok a) = next a
-after next (Err e) = Err e
+abbrev pub then_meant : {A B : Type 0} → (A → Meaning B) → Meaning A → Meaning B
+then_meant next (Ok a) = next a
+then_meant next (Err e) = Err e
 
 -- a fault at a place
 abbrev pub fault_at : {A : Type 0} → Place → FaultKind → Meaning A
@@ -38,6 +38,6 @@ is_beside (Fault at kind) = is_want kind
 is_beside Size = false
 
 -- the answer, want of memory and of parts aside: the value that is meant, or the fault
-abbrev pub Answers : {A B : Type 0} → (A → B) → Meaning B → Result A Stop → Type 0
-Answers view meant (Ok a) = meant ≡ Ok (view a)
-Answers view meant (Err e) = (meant ≡ Err e) ⊎ (is_beside e ≡ true)
+abbrev pub Means : {A B : Type 0} → (A → B) → Meaning B → Result A Stop → Type 0
+Means view meant (Ok a) = meant ≡ Ok (view a)
+Means view meant (Err e) = (meant ≡ Err e) ⊎ (is_beside e ≡ true)

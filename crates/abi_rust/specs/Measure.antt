@@ -9,14 +9,14 @@ use Rattle.rustc_abi.specs.Laying.{IsLaying}
 use Rattle.rustc_abi.specs.declared.error.LayError.{LayError}
 use Rattle.rustc_abi.specs.declared.error.LayError.TheVariants.{UnlawfulDataLayout}
 use Rattle.abi_rust.specs.Aligned.{place_of_repr}
-use Rattle.abi_rust.specs.Meaning.{Meaning, after, fault_at}
+use Rattle.abi_rust.specs.Meaning.{Meaning, then_meant, fault_at}
 use Rattle.abi_rust.specs.declared.fault.FaultKind.TheVariants.{Layout, TransparentFields}
 use Rattle.abi_rust.specs.declared.fault.Stop.TheVariants.{Fault}
 
 -- what each of a list means, or the first fault
 abbrev pub each_meant : {A B : Type 0} → (A → Meaning B) → List A → Meaning (List B)
 each_meant f [] = Ok []
-each_meant f (a ∷ rest) = after (λ b. after (λ bs. Ok (b ∷ bs)) (each_meant f rest)) (f a)
+each_meant f (a ∷ rest) = then_meant (λ b. then_meant (λ bs. Ok (b ∷ bs)) (each_meant f rest)) (f a)
 
 -- the size and the alignment of a type, in bytes
 abbrev pub Measure : Type 0
@@ -39,11 +39,11 @@ takes_room s = not (nat_eq s.0 0) || not (nat_eq s.1 1)
 module _ (m : Measure) where
   -- how many of these types take room
   abbrev pub room_takers : List Tree → Meaning ℕ
-  room_takers ts = after (λ sizes. Ok (count_by takes_room sizes)) (each_meant m ts)
+  room_takers ts = then_meant (λ sizes. Ok (count_by takes_room sizes)) (each_meant m ts)
 
   -- at most one field of a transparent type takes room
   unfoldable pub transparent_checked : Item → List Tree → Meaning Bool
   transparent_checked it ts =
       if it.repr.transparent && nat_lt 1 (length ts)
-      then after (λ n. if nat_lt 1 n then fault_at (place_of_repr it) TransparentFields else Ok true) (room_takers ts)
+      then then_meant (λ n. if nat_lt 1 n then fault_at (place_of_repr it) TransparentFields else Ok true) (room_takers ts)
       else Ok true

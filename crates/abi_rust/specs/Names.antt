@@ -12,8 +12,8 @@ use Rattle.abi_rust.specs.declared.paths.Found.TheVariants.{Module, Item as Item
 use Rattle.abi_rust.specs.declared.paths.Space.{Space}
 use Rattle.abi_rust.specs.declared.paths.Space.TheVariants.{Types, Values}
 use Rattle.abi_rust.specs.declared.scope.Scope.{Scope}
-use Rattle.abi_rust.specs.Scope.{constant_in, module_in, reached_from, type_in, use_in}
-use Rattle.abi_rust.specs.Words.{is_std, primitive_named, same_name}
+use Rattle.abi_rust.specs.Scope.{constant_standing, module_in, reached_from, type_standing, use_in}
+use Rattle.abi_rust.specs.Words.{is_std, primitive_named, is_same_name}
 
 -- how many uses may lead from one to another
 unfoldable pub most_uses : ℕ
@@ -42,14 +42,14 @@ unfoldable pub root : Items → (inside : ℕ) → ℕ
 root items m = root_within most_modules items m
 
 -- which names are looked for at a name of a path behind which so many stand: modules before the last
-abbrev pub space_before : (behind : ℕ) → Space → Space
+abbrev pub space_before : (named_behind : ℕ) → Space → Space
 space_before zero space = space
-space_before (suc behind) space = Types
+space_before (suc named_behind) space = Types
 
 -- what stands in a module under a name
 abbrev pub declared : Scope → (inside : ℕ) → Symbol → Space → Option Found
-declared s m name Values = option_map ItemFound (constant_in s m name)
-declared s m name Types = option_or (option_map ItemFound (type_in s m name)) (option_map Module (module_in s m name))
+declared s m name Values = option_map ItemFound (constant_standing s m name)
+declared s m name Types = option_or (option_map ItemFound (type_standing s m name)) (option_map Module (module_in s m name))
 
 -- the use counts for nothing
 abbrev pub is_skipped : (skipped : Option ℕ) → (use_number : ℕ) → Bool
@@ -62,8 +62,8 @@ module_found (Some (Module m)) = Some m
 module_found _ = None
 
 -- the names of a path
-abbrev pub names_of : Path → List Symbol
-names_of p = map (λ s. (out-Segment s).name) (out-Path p).segments.items
+abbrev pub names_in_path : Path → List Symbol
+names_in_path p = map (λ s. (out-Segment s).name) (out-Path p).segments.items
 
 module _ (items : Items) (scope : Scope) where
   module _ (brought : (use_number : ℕ) → Space → Option Found) where
@@ -99,27 +99,27 @@ module _ (items : Items) (scope : Scope) where
     -- what the first name of a path names in a module
     unfoldable pub first : (inside : ℕ) → Symbol → (is_global : Bool) → Space → (skipped : Option ℕ) → Option Found
     first m name is_global space skipped =
-        if same_name name CRATE then Some (Module (root items m))
-        else (if same_name name SELF then Some (Module m)
-        else (if same_name name SUPER then option_map Module (parent items m)
+        if is_same_name name CRATE then Some (Module (root items m))
+        else (if is_same_name name SELF then Some (Module m)
+        else (if is_same_name name SUPER then option_map Module (parent items m)
         else first_named m name is_global space skipped))
 
     abbrev pub behind_module : Symbol → Space → Option ℕ → Option Found
     behind_module name space None = None
     behind_module name space (Some m) =
-        if same_name name SUPER then option_map Module (parent items m)
-        else (if same_name name SELF then Some (Module m)
+        if is_same_name name SUPER then option_map Module (parent items m)
+        else (if is_same_name name SELF then Some (Module m)
         else within m name space None)
 
     -- what a name names behind others, which have to name a module
-    unfoldable pub behind : Option Found → Symbol → Space → Option Found
-    behind before name space = behind_module name space (module_found before)
+    unfoldable pub named_behind : Option Found → Symbol → Space → Option Found
+    named_behind before name space = behind_module name space (module_found before)
 
     -- what names name behind others, so many of them
     abbrev pub behind_all : (count : ℕ) → Space → Option Found → List Symbol → Option Found
     behind_all zero space before names = before
     behind_all (suc count) space before [] = before
-    behind_all (suc count) space before (name ∷ names) = behind_all count space (behind before name (space_before count space)) names
+    behind_all (suc count) space before (name ∷ names) = behind_all count space (named_behind before name (space_before count space)) names
 
     -- what the first names of a path name, so many of them
     abbrev pub path_named : (count : ℕ) → (inside : ℕ) → (is_global : Bool) → Space → (skipped : Option ℕ) → List Symbol → Option Found
@@ -151,8 +151,8 @@ module _ (items : Items) (scope : Scope) where
   -- what the first names of a path name in a module, so many of them
   unfoldable pub found_of : (inside : ℕ) → Path → (count : ℕ) → Space → Option Found
   found_of m p count space =
-      beside_module count space (names_of p)
-      (path_named (target most_uses) count m (out-Path p).is_global space None (names_of p))
+      beside_module count space (names_in_path p)
+      (path_named (target most_uses) count m (out-Path p).is_global space None (names_in_path p))
 
   -- what a path names in a module
   abbrev pub found : (inside : ℕ) → Path → Space → Option Found

@@ -19,19 +19,19 @@ abbrev pub Made : Type 0
 Made = Result ValueRead FaultKind
 
 -- how many bits an integer type has, under pointers of so many, of which 1 to 128 count
-abbrev pub bits_in : (pointer_bits : ℕ) → IntegerKind → ℕ
-bits_in n I8 = 8
-bits_in n I16 = 16
-bits_in n I32 = 32
-bits_in n I64 = 64
-bits_in n I128 = 128
-bits_in n Isize = min (max n 1) 128
-bits_in n U8 = 8
-bits_in n U16 = 16
-bits_in n U32 = 32
-bits_in n U64 = 64
-bits_in n U128 = 128
-bits_in n Usize = min (max n 1) 128
+abbrev pub bits_of_integer : (pointer_bits : ℕ) → IntegerKind → ℕ
+bits_of_integer n I8 = 8
+bits_of_integer n I16 = 16
+bits_of_integer n I32 = 32
+bits_of_integer n I64 = 64
+bits_of_integer n I128 = 128
+bits_of_integer n Isize = min (max n 1) 128
+bits_of_integer n U8 = 8
+bits_of_integer n U16 = 16
+bits_of_integer n U32 = 32
+bits_of_integer n U64 = 64
+bits_of_integer n U128 = 128
+bits_of_integer n Usize = min (max n 1) 128
 
 -- it has negative numbers
 abbrev pub is_signed : IntegerKind → Bool
@@ -63,26 +63,26 @@ abbrev pub same_integer : IntegerKind → IntegerKind → Bool
 same_integer a b = nat_eq (number_of_kind a) (number_of_kind b)
 
 -- two types of constants are one
-abbrev pub same_kind : Kind → Kind → Bool
-same_kind BoolKind BoolKind = true
-same_kind CharKind CharKind = true
-same_kind (KindInteger a) (KindInteger b) = same_integer a b
-same_kind _ _ = false
+abbrev pub is_same_kind : Kind → Kind → Bool
+is_same_kind BoolKind BoolKind = true
+is_same_kind CharKind CharKind = true
+is_same_kind (KindInteger a) (KindInteger b) = same_integer a b
+is_same_kind _ _ = false
 
 -- a type of so many bits has the number
-abbrev pub has_number : (signed : Bool) (bits : ℕ) → ℤ → Bool
-has_number false k z = int_le (pos 0) z && int_lt z (pos (2 ^ k))
-has_number true k z = int_le (neg_ℤ (pos (2 ^ (k - 1)))) z && int_lt z (pos (2 ^ (k - 1)))
+abbrev pub holds_number : (signed : Bool) (bits : ℕ) → ℤ → Bool
+holds_number false k z = int_le (pos 0) z && int_lt z (pos (2 ^ k))
+holds_number true k z = int_le (neg_ℤ (pos (2 ^ (k - 1)))) z && int_lt z (pos (2 ^ (k - 1)))
 
 -- the number, where it fits the type
 abbrev pub fitted : IntegerKind → (signed : Bool) (bits : ℕ) → ℤ → Made
-fitted kind s k z = if has_number s k z then Ok (number kind z) else Err (Overflow kind)
+fitted kind s k z = if holds_number s k z then Ok (number kind z) else Err (Overflow kind)
 
 -- what an operator before its operand makes of it, under pointers of so many bits
 abbrev pub unary_of : (pointer_bits : ℕ) → Unary → ValueRead → Made
 unary_of n Not (truth b) = Ok (truth (not b))
-unary_of n Not (number kind z) = Ok (number kind (wrapped (is_signed kind) (bits_in n kind) (bit_not w128 (cast_unsigned w128 z))))
-unary_of n Minus (number kind z) = if is_signed kind then fitted kind true (bits_in n kind) (neg_ℤ z) else Err WrongType
+unary_of n Not (number kind z) = Ok (number kind (wrapped (is_signed kind) (bits_of_integer n kind) (bit_not w128 (cast_unsigned w128 z))))
+unary_of n Minus (number kind z) = if is_signed kind then fitted kind true (bits_of_integer n kind) (neg_ℤ z) else Err WrongType
 unary_of n _ _ = Err WrongType
 
 -- the first operand decides
@@ -169,7 +169,7 @@ of_two o s k kind other a b = if same_integer kind other then of_numbers o kind 
 abbrev pub binary_of : (pointer_bits : ℕ) → Binary → (left right : ValueRead) → Made
 binary_of n o (truth a) (truth b) = of_truths o a b
 binary_of n o (code a) (code b) = order_of o (pos a) (pos b)
-binary_of n o (number kind a) (number other b) = of_two o (is_signed kind) (bits_in n kind) kind other a b
+binary_of n o (number kind a) (number other b) = of_two o (is_signed kind) (bits_of_integer n kind) kind other a b
 binary_of n o _ _ = Err WrongType
 
 -- a value's bits
@@ -191,7 +191,7 @@ as_truth _ = Err WrongType
 
 -- what a cast makes of a value
 abbrev pub cast_of : (pointer_bits : ℕ) → Kind → ValueRead → Made
-cast_of n (KindInteger kind) v = Ok (number kind (wrapped (is_signed kind) (bits_in n kind) (bits_of_value v)))
+cast_of n (KindInteger kind) v = Ok (number kind (wrapped (is_signed kind) (bits_of_integer n kind) (bits_of_value v)))
 cast_of n CharKind v = as_code v
 cast_of n BoolKind v = as_truth v
 

@@ -32,13 +32,13 @@ module _ (items : Items) (named : (inside : ℕ) → Path → (count : ℕ) → 
       (named m p (length (out-Path p).segments.items))
 
   -- the type whose own a constant is
-  abbrev pub own_by : (inside : ℕ) → ItemKind → Option ℕ
-  own_by m (ConstItem c) = option_and_then (λ o. option_and_then (type_alone m) (slice_get items.owners.items o)) c.owner
-  own_by m _ = None
+  abbrev pub owner_of_kind : (inside : ℕ) → ItemKind → Option ℕ
+  owner_of_kind m (ConstItem c) = option_and_then (λ o. option_and_then (type_alone m) (slice_get items.owners.items o)) c.owner
+  owner_of_kind m _ = None
 
   -- the type without parameters whose own an item is, where paths name these types
   unfoldable pub own_type_by : Item → Option ℕ
-  own_type_by it = own_by it.«module» it.kind
+  own_type_by it = owner_of_kind it.«module» it.kind
 
 module _ (items : Items) (scope : Scope) where
   -- the type without parameters whose own an item is

@@ -19,14 +19,14 @@ unfoldable pub place_of_path : Path → Place
 place_of_path p = place_of_segment (last_name p)
 
 -- where an expression stands
-abbrev pub place_of : Expr → Place
-place_of (Integer n kind at) = at
-place_of (Char code at) = at
-place_of (Bool b at) = at
-place_of (PathExpr p) = place_of_path p
-place_of (Call' p shape all at) = at
-place_of (Unary' u p e at) = at
-place_of (Binary' b p l q r at) = at
-place_of (Cast' p e q t at) = at
-place_of (If' p c q l o r at) = at
-place_of (Unevaluated u at) = at
+abbrev pub place_of_expr : Expr → Place
+place_of_expr (Integer n kind at) = at
+place_of_expr (Char code at) = at
+place_of_expr (Bool b at) = at
+place_of_expr (PathExpr p) = place_of_path p
+place_of_expr (Call' p shape all at) = at
+place_of_expr (Unary' u p e at) = at
+place_of_expr (Binary' b p l q r at) = at
+place_of_expr (Cast' p e q t at) = at
+place_of_expr (If' p c q l o r at) = at
+place_of_expr (Unevaluated u at) = at

@@ -10,7 +10,7 @@ use Rattle.rust_source.specs.declared.item.ItemKind.{ItemKind}
 use Rattle.rust_source.specs.declared.item.ItemKind.TheVariants.{Enum as EnumItem}
 use Rattle.rust_source.specs.declared.item.Repr.{Repr}
 use Rattle.rust_source.specs.declared.place.Place.{Place}
-use Rattle.abi_rust.specs.Meaning.{Meaning, after, fault_at}
+use Rattle.abi_rust.specs.Meaning.{Meaning, then_meant, fault_at}
 use Rattle.abi_rust.specs.Scalars.{type_of_kind}
 use Rattle.rust_source.specs.declared.fault.SourceFaultKind.TheVariants.{OutOfMemory as SourceOutOfMemory}
 use Rattle.rustc_abi.specs.declared.error.LayError.TheVariants.{OutOfMemory as LayOutOfMemory}
@@ -22,32 +22,32 @@ abbrev pub asks_beside : Repr → Bool
 asks_beside r = r.c || r.rust || is_some r.integer || is_some r.packed || is_some r.align
 
 -- what is wrong with it on an enum of so many variants
-abbrev pub enum_fault : Repr → (variants : ℕ) → Option FaultKind
-enum_fault r variants =
+abbrev pub repr_fault_of_enum : Repr → (variants : ℕ) → Option FaultKind
+repr_fault_of_enum r variants =
     cond (is_some r.packed) (Some PackedEnum)
     (cond (nat_eq variants 0) (Some ReprWithoutVariants)
     (cond (r.transparent && not (nat_eq variants 1)) (Some TransparentFields) None))
 
 -- what is wrong with it on a struct or a union
-abbrev pub fields_fault : Repr → Option FaultKind
-fields_fault r =
+abbrev pub repr_fault_of_fields : Repr → Option FaultKind
+repr_fault_of_fields r =
     cond (is_some r.integer) (Some IntegerRepr)
     (cond (is_some r.packed && is_some r.align) (Some PackedAndAligned)
     (cond r.is_packed_apart (Some PackedApart) None))
 
 -- a growth of memory was refused
-abbrev pub is_memory : FaultKind → Bool
-is_memory OutOfMemory = true
-is_memory (Source SourceOutOfMemory) = true
-is_memory (Source _) = false
-is_memory (Layout LayOutOfMemory) = true
-is_memory (Layout _) = false
-is_memory _ = false
+abbrev pub is_want_of_memory : FaultKind → Bool
+is_want_of_memory OutOfMemory = true
+is_want_of_memory (Source SourceOutOfMemory) = true
+is_want_of_memory (Source _) = false
+is_want_of_memory (Layout LayOutOfMemory) = true
+is_want_of_memory (Layout _) = false
+is_want_of_memory _ = false
 
 -- what is wrong with it on a kind of item
 abbrev pub kind_fault : Repr → ItemKind → Option FaultKind
-kind_fault r (EnumItem all) = enum_fault r (length all.variants.items)
-kind_fault r _ = fields_fault r
+kind_fault r (EnumItem all) = repr_fault_of_enum r (length all.variants.items)
+kind_fault r _ = repr_fault_of_fields r
 
 -- what the compiler finds wrong with it
 abbrev pub repr_fault : Repr → ItemKind → Option FaultKind
@@ -57,22 +57,22 @@ repr_fault r kind =
     (cond (r.rust && (r.c || is_some r.integer)) (Some RustBeside) (kind_fault r kind)))
 
 -- an alignment of so many bytes
-abbrev pub align_or : Place → Result ℕ AlignFromBytesError → Meaning (Option ℕ)
-align_or at (Ok a) = Ok (Some a)
-align_or at (Err e) = fault_at at BadAlignment
+abbrev pub alignment_or_fault : Place → Result ℕ AlignFromBytesError → Meaning (Option ℕ)
+alignment_or_fault at (Ok a) = Ok (Some a)
+alignment_or_fault at (Err e) = fault_at at BadAlignment
 
 -- the alignment of so many bytes, where some are asked for; a fault where they are none or no power of two below the limit
-abbrev pub alignment_in : Place → Option ℕ → Meaning (Option ℕ)
-alignment_in at None = Ok None
-alignment_in at (Some bytes) = if nat_eq bytes 0 then fault_at at BadAlignment else align_or at (align_of_bytes bytes)
+abbrev pub alignment_asked : Place → Option ℕ → Meaning (Option ℕ)
+alignment_asked at None = Ok None
+alignment_asked at (Some bytes) = if nat_eq bytes 0 then fault_at at BadAlignment else alignment_or_fault at (align_of_bytes bytes)
 
 -- the words of it that are set or not
 abbrev pub flags_of : Repr → ReprFlags
 flags_of r = record { 0 = bit_or (if r.c then 1 else 0) (if r.transparent then 4 else 0) }
 
 -- what asks for nothing
-abbrev pub plain : ReprOptions
-plain = record { int = None; align = None; pack = None; flags = record { 0 = 0 }; scalable = None; field_shuffle_seed = 0 }
+abbrev pub no_repr : ReprOptions
+no_repr = record { int = None; align = None; pack = None; flags = record { 0 = 0 }; scalable = None; field_shuffle_seed = 0 }
 
 -- what a `repr` asks for, with these alignments
 abbrev pub options : Repr → (align pack : Option ℕ) → ReprOptions
@@ -82,11 +82,11 @@ options r align pack =
 -- what a `repr` asks for, or the fault of its words, or that of its alignments, `packed` behind `align`
 abbrev pub repr_by : Place → Repr → Option FaultKind → Meaning ReprOptions
 repr_by at r (Some fault) = fault_at at fault
-repr_by at r None = after (λ align. after (λ pack. Ok (options r align pack)) (alignment_in at r.packed)) (alignment_in at r.align)
+repr_by at r None = then_meant (λ align. then_meant (λ pack. Ok (options r align pack)) (alignment_asked at r.packed)) (alignment_asked at r.align)
 
 -- what the `repr` of an item asks for, where it has one, at that place
 abbrev pub repr_in : Item → Option Place → Meaning ReprOptions
-repr_in it None = Ok plain
+repr_in it None = Ok no_repr
 repr_in it (Some at) = repr_by at it.repr (repr_fault it.repr it.kind)
 
 -- what an item's repr asks for

@@ -32,14 +32,14 @@ use Rattle.abi_rust.specs.declared.words.Word.{Word}
 use Rattle.abi_rust.specs.declared.words.Word.TheVariants as word
 use Rattle.abi_rust.specs.Evaluating.{evaluator, path_value}
 use Rattle.abi_rust.specs.Kinds.{given_named, item_at, kind_written, outside, parameter_named, single_name}
-use Rattle.abi_rust.specs.Meaning.{Meaning, after, fault_at, too_deep}
+use Rattle.abi_rust.specs.Meaning.{Meaning, then_meant, fault_at, too_deep}
 use Rattle.abi_rust.specs.Names.{found}
-use Rattle.abi_rust.specs.Operators.{same_kind}
-use Rattle.abi_rust.specs.Places.{last_name, place_of, place_of_path}
-use Rattle.abi_rust.specs.Scope.{module_in, type_in}
+use Rattle.abi_rust.specs.Operators.{is_same_kind}
+use Rattle.abi_rust.specs.Places.{last_name, place_of_expr, place_of_path}
+use Rattle.abi_rust.specs.Scope.{module_in, type_standing}
 use Rattle.abi_rust.specs.Types.{GivenRead, TyRead, Where, adt, array, dyn, function, givens, never, no_types, of_type, of_value, pointer, primitive, reference, slice, tuple, types}
 use Rattle.abi_rust.specs.Values.{ValueRead, kind_read, number}
-use Rattle.abi_rust.specs.Words.{same_name, symbol_of}
+use Rattle.abi_rust.specs.Words.{is_same_name, symbol_of}
 
 -- how deep types and constants may need one another
 unfoldable pub most_deep : ℕ
@@ -58,7 +58,7 @@ is_item (Some m) n = nat_eq m n
 -- the value is of the type that is wanted
 abbrev pub is_wanted : Option Kind → ValueRead → Bool
 is_wanted None v = false
-is_wanted (Some kind) v = same_kind kind (kind_read v)
+is_wanted (Some kind) v = is_same_kind kind (kind_read v)
 
 -- the inside of an item, under what its parameters are given
 abbrev pub inside_item : ℕ → Item → List GivenRead → Where
@@ -72,7 +72,7 @@ first_name (s ∷ ss) = Some (out-Segment s).name
 -- the name is `Self`
 abbrev pub is_self_name : Option Symbol → Bool
 is_self_name None = false
-is_self_name (Some name) = same_name name SELF_TYPE
+is_self_name (Some name) = is_same_name name SELF_TYPE
 
 -- a path is `Self` alone
 abbrev pub is_self : Path → Bool
@@ -84,17 +84,17 @@ module _ (cx : Context) where
   evaluated w e wanted = evaluator cx most_deep w e wanted
 
   abbrev pub length_by : Expr → ValueRead → Meaning ℕ
-  length_by e (number kind z) = if nat_lt (unsigned_abs z) (2 ^ 64) then Ok (unsigned_abs z) else fault_at (place_of e) (Overflow Usize)
-  length_by e _ = fault_at (place_of e) (Overflow Usize)
+  length_by e (number kind z) = if nat_lt (unsigned_abs z) (2 ^ 64) then Ok (unsigned_abs z) else fault_at (place_of_expr e) (Overflow Usize)
+  length_by e _ = fault_at (place_of_expr e) (Overflow Usize)
 
   -- an array's length
   unfoldable pub length_of : Where → Expr → Meaning ℕ
-  length_of w e = after (length_by e) (evaluated w e (Some (KindInteger Usize)))
+  length_of w e = then_meant (length_by e) (evaluated w e (Some (KindInteger Usize)))
 
   -- the type of this name in a module of the standard library
   unfoldable pub item_in : (inside name : Word) → Option ℕ
   item_in m name =
-      option_and_then (λ found. type_in cx.scope.now found (symbol_of cx.scope.now.words name))
+      option_and_then (λ found. type_standing cx.scope.now found (symbol_of cx.scope.now.words name))
       (module_in cx.scope.now cx.scope.now.std_root (symbol_of cx.scope.now.words m))
 
   -- the owned form of a struct of the standard library that has one
@@ -149,83 +149,83 @@ module _ (cx : Context) where
   is_behind_type w p None = false
   is_behind_type w p (Some name) =
       nat_lt 1 (length (out-Path p).segments.items)
-      && (is_some (parameter_named cx.items.now cx.scope.now w.item name) || same_name name SELF_TYPE)
+      && (is_some (parameter_named cx.items.now cx.scope.now w.item name) || is_same_name name SELF_TYPE)
 
-  abbrev pub unknown_by : Symbol → Option Found → FaultKind
-  unknown_by name (Some found) = NotAType name
-  unknown_by name None = UnknownType name
+  abbrev pub unknown_type : Symbol → Option Found → FaultKind
+  unknown_type name (Some found) = NotAType name
+  unknown_type name None = UnknownType name
 
   -- what is wrong with a path that names no type
   unfoldable pub unknown : Where → Path → Symbol → FaultKind
   unknown w p name =
       if is_behind_type w p (first_name (out-Path p).segments.items) then Unevaluated Associated
-      else unknown_by name (found cx.items.now cx.scope.now w.inside p Values)
+      else unknown_type name (found cx.items.now cx.scope.now w.inside p Values)
 
   module _ (R : Inner) where
     -- the types of a tuple, behind these
     abbrev pub tuple_from : Where → List TyRead → List Written → Meaning TyRead
     tuple_from w made [] = Ok (tuple (types made))
-    tuple_from w made (t ∷ ts) = after (λ r. tuple_from w (made ++ r ∷ []) ts) (R.type_of w t)
+    tuple_from w made (t ∷ ts) = then_meant (λ r. tuple_from w (made ++ r ∷ []) ts) (R.type_of w t)
 
-    abbrev pub named_by : Where → Path → Segment → Option Found → Meaning TyRead
-    named_by w p s (Some (PrimitiveFound found)) = Ok (primitive found)
-    named_by w p s (Some (ItemFound n)) = R.item_of w n s
-    named_by w p s (Some (Module m)) = fault_at (place_of_path p) (NotAType (out-Segment s).name)
-    named_by w p s None = fault_at (place_of_path p) (unknown w p (out-Segment s).name)
+    abbrev pub type_named_by : Where → Path → Segment → Option Found → Meaning TyRead
+    type_named_by w p s (Some (PrimitiveFound found)) = Ok (primitive found)
+    type_named_by w p s (Some (ItemFound n)) = R.item_of w n s
+    type_named_by w p s (Some (Module m)) = fault_at (place_of_path p) (NotAType (out-Segment s).name)
+    type_named_by w p s None = fault_at (place_of_path p) (unknown w p (out-Segment s).name)
 
     abbrev pub named_in : Where → Path → Option Segment → Meaning TyRead
     named_in w p None = fault_at (place_of_path p) (Unevaluated Inferred)
-    named_in w p (Some s) = named_by w p s (found cx.items.now cx.scope.now w.inside p Types)
+    named_in w p (Some s) = type_named_by w p s (found cx.items.now cx.scope.now w.inside p Types)
 
     -- the type that names name
     unfoldable pub named_type : Where → Path → Meaning TyRead
     named_type w p = named_in w p (last_name p)
 
-    abbrev pub path_by : Where → Path → Option TyRead → Meaning TyRead
-    path_by w p (Some t) = Ok t
-    path_by w p None = if is_self p then self_by w p w.item else named_type w p
+    abbrev pub path_type_by : Where → Path → Option TyRead → Meaning TyRead
+    path_type_by w p (Some t) = Ok t
+    path_type_by w p None = if is_self p then self_by w p w.item else named_type w p
 
     -- the type that a path names: what a parameter is given, `Self`, or what its names name
     unfoldable pub path_type : Where → Path → Meaning TyRead
-    path_type w p = path_by w p (type_given w p)
+    path_type w p = path_type_by w p (type_given w p)
 
     -- the array of so many of a type
     abbrev pub array_of : Where → Written → ℕ → Meaning TyRead
-    array_of w t n = after (λ e. Ok (array e n)) (R.type_of w t)
+    array_of w t n = then_meant (λ e. Ok (array e n)) (R.type_of w t)
 
-    abbrev pub type_on : Where → Type-F Argument Expr Written Path Segment → Meaning TyRead
-    type_on w layer.Never = Ok never
-    type_on w layer.Function = Ok function
-    type_on w layer.Dyn = Ok dyn
-    type_on w (layer.Tuple all) = tuple_from w [] all.items
-    type_on w (layer.Array t e) = after (array_of w t.value) (length_of w e.value)
-    type_on w (layer.Slice t) = after (λ e. Ok (slice e)) (R.type_of w t.value)
-    type_on w (layer.Reference t) = after (λ e. Ok (reference e)) (R.type_of w t.value)
-    type_on w (layer.Pointer t) = after (λ e. Ok (pointer e)) (R.type_of w t.value)
-    type_on w (layer.Type::Path p) = path_type w p
-    type_on w (layer.Type::Unevaluated what at) = fault_at at (Unevaluated what)
+    abbrev pub type_of_layer : Where → Type-F Argument Expr Written Path Segment → Meaning TyRead
+    type_of_layer w layer.Never = Ok never
+    type_of_layer w layer.Function = Ok function
+    type_of_layer w layer.Dyn = Ok dyn
+    type_of_layer w (layer.Tuple all) = tuple_from w [] all.items
+    type_of_layer w (layer.Array t e) = then_meant (array_of w t.value) (length_of w e.value)
+    type_of_layer w (layer.Slice t) = then_meant (λ e. Ok (slice e)) (R.type_of w t.value)
+    type_of_layer w (layer.Reference t) = then_meant (λ e. Ok (reference e)) (R.type_of w t.value)
+    type_of_layer w (layer.Pointer t) = then_meant (λ e. Ok (pointer e)) (R.type_of w t.value)
+    type_of_layer w (layer.Type::Path p) = path_type w p
+    type_of_layer w (layer.Type::Unevaluated what at) = fault_at at (Unevaluated what)
 
     -- the type that is written where it stands
     unfoldable pub type_with : Where → Written → Meaning TyRead
-    type_with w t = type_on w (out-Type t)
+    type_with w t = type_of_layer w (out-Type t)
 
     -- the constant that a path names, of the type that is wanted
     abbrev pub constant_given : Place → (wanted : Option Kind) → ValueRead → Meaning GivenRead
     constant_given at wanted v = if is_wanted wanted v then Ok (of_value v) else fault_at at WrongType
 
     abbrev pub type_as_constant : Where → Place → (wanted : Option Kind) → Written → Meaning GivenRead
-    type_as_constant w at wanted (PathType p) = after (constant_given at wanted) (path_value cx (evaluator cx most_deep) w p)
+    type_as_constant w at wanted (PathType p) = then_meant (constant_given at wanted) (path_value cx (evaluator cx most_deep) w p)
     type_as_constant w at wanted _ = fault_at at WrongKindOfArgument
 
     -- what an argument gives a constant's parameter, evaluated where the argument stands
     abbrev pub given_constant : Where → Place → (wanted : Option Kind) → Argument-F Argument Expr Written Path Segment → Meaning GivenRead
     given_constant w at wanted (layer.«Type» t) = type_as_constant w at wanted t
-    given_constant w at wanted (layer.Const e) = after (λ v. Ok (of_value v)) (evaluated w e wanted)
+    given_constant w at wanted (layer.Const e) = then_meant (λ v. Ok (of_value v)) (evaluated w e wanted)
     given_constant w at wanted (layer.Binding place) = fault_at place Binding
 
     -- what an argument gives a type's parameter
     abbrev pub given_type : Where → Place → Argument-F Argument Expr Written Path Segment → Meaning GivenRead
-    given_type w at (layer.«Type» t) = after (λ r. Ok (of_type r)) (R.type_of w t)
+    given_type w at (layer.«Type» t) = then_meant (λ r. Ok (of_type r)) (R.type_of w t)
     given_type w at (layer.Const e) = fault_at at WrongKindOfArgument
     given_type w at (layer.Binding place) = fault_at place Binding
 
@@ -237,9 +237,9 @@ module _ (cx : Context) where
 
     -- what a parameter is given where no argument stands: its default, in the item itself
     abbrev pub default_given : Where → Segment → ParameterKind → Meaning GivenRead
-    default_given w s (TypeParameter (Some t)) = after (λ r. Ok (of_type r)) (R.type_of w t)
+    default_given w s (TypeParameter (Some t)) = then_meant (λ r. Ok (of_type r)) (R.type_of w t)
     default_given w s (ConstParameter t (Some e)) =
-        after (λ v. Ok (of_value v)) (evaluated w e (kind_written cx.items.now cx.scope.now (outside w.inside) t))
+        then_meant (λ v. Ok (of_value v)) (evaluated w e (kind_written cx.items.now cx.scope.now (outside w.inside) t))
     default_given w s _ = fault_at (out-Segment s).at (WrongArguments (out-Segment s).name)
 
     -- what one more parameter is given: by an argument, or else by default
@@ -259,7 +259,7 @@ module _ (cx : Context) where
     abbrev pub give_from : Where → ℕ → Item → Segment → List GivenRead → List Parameter → List Argument → Meaning (List GivenRead)
     give_from w n it s given [] arguments = Ok given
     give_from w n it s given (p ∷ ps) arguments =
-        after (λ g. give_from w n it s (given ++ g ∷ []) ps (other_arguments arguments))
+        then_meant (λ g. give_from w n it s (given ++ g ∷ []) ps (other_arguments arguments))
         (one_given w n it s given p.kind (first_argument arguments))
 
     -- what an item's parameters are given: arguments, and then defaults
@@ -276,7 +276,7 @@ module _ (cx : Context) where
 
     abbrev pub item_by : Where → ℕ → Segment → Option Item → Meaning TyRead
     item_by w n s None = fault_at (out-Segment s).at (UnknownType (out-Segment s).name)
-    item_by w n s (Some it) = after (item_under n it it.kind) (give w n it s)
+    item_by w n s (Some it) = then_meant (item_under n it it.kind) (give w n it s)
 
     -- the type that an item is under what the last name of a path gives it
     unfoldable pub item_with : Where → ℕ → Segment → Meaning TyRead

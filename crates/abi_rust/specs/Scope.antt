@@ -13,12 +13,12 @@ unfoldable pub module_in : Scope → (inside : ℕ) → Symbol → Option ℕ
 module_in s m name = get same_key s.modules (m, name.0)
 
 -- the type of this name that stands in a module
-unfoldable pub type_in : Scope → (inside : ℕ) → Symbol → Option ℕ
-type_in s m name = get same_key s.types (m, name.0)
+unfoldable pub type_standing : Scope → (inside : ℕ) → Symbol → Option ℕ
+type_standing s m name = get same_key s.types (m, name.0)
 
 -- the constant of this name that stands in a module
-unfoldable pub constant_in : Scope → (inside : ℕ) → Symbol → Option ℕ
-constant_in s m name = get same_key s.values (m, name.0)
+unfoldable pub constant_standing : Scope → (inside : ℕ) → Symbol → Option ℕ
+constant_standing s m name = get same_key s.values (m, name.0)
 
 -- the constant of this name that is the type's own, which has this number
 unfoldable pub own_constant : Scope → (type : ℕ) → Symbol → Option ℕ
@@ -33,10 +33,10 @@ unfoldable pub use_in : Scope → (inside : ℕ) → Symbol → Option ℕ
 use_in s m name = get same_key s.uses (m, name.0)
 
 -- the modules of the list, none where there is no list
-abbrev pub list_of : {S : Type 0} → Option (Vec ℕ S) → List ℕ
-list_of None = []
-list_of (Some ms) = ms.items
+abbrev pub modules_listed : {S : Type 0} → Option (Vec ℕ S) → List ℕ
+modules_listed None = []
+modules_listed (Some ms) = ms.items
 
 -- the modules that a module's globs lead to
 unfoldable pub reached_from : Scope → (inside : ℕ) → List ℕ
-reached_from s m = list_of (slice_get s.reached.items m)
+reached_from s m = modules_listed (slice_get s.reached.items m)

@@ -13,7 +13,7 @@ use Rattle.abi_rust.specs.declared.told.Subject.{Subject}
 use Rattle.abi_rust.specs.declared.told.Subject.TheVariants.{Item as ItemSubject, Written as WrittenSubject}
 use Rattle.abi_rust.specs.declared.told.Told.{Told}
 use Rattle.abi_rust.specs.declared.work.Context.{Context}
-use Rattle.abi_rust.specs.Meaning.{Answers}
+use Rattle.abi_rust.specs.Meaning.{Means}
 use Rattle.abi_rust.specs.Measure.{Measure}
 use Rattle.abi_rust.specs.Sizes.{IsTold}
 use Rattle.abi_rust.specs.Told.{told_read, told_under}
@@ -27,8 +27,8 @@ use Rattle.rust_source.specs.declared.item.ItemKind.TheVariants.{Const as ConstI
 use Rattle.rust_source.specs.declared.place.Place.{Place}
 
 -- the items: the standard library's, and then the file's
-abbrev pub items_of : Sources → List Item
-items_of s = s.items.items.items
+abbrev pub items_read : Sources → List Item
+items_read s = s.items.items.items
 
 -- not a constant
 abbrev pub is_type : ItemKind → Bool
@@ -41,22 +41,22 @@ is_type_alone None = false
 is_type_alone (Some it) = is_type it.kind && nat_eq (length it.parameters.items) 0
 
 -- an item that is told of by itself: one of the file, which stands behind the standard library's, that is a type by itself
-abbrev pub is_told : Sources → (item : ℕ) → Bool
-is_told s item = nat_le s.first item && is_type_alone (slice_get (items_of s) item)
+abbrev pub is_told_of : Sources → (item : ℕ) → Bool
+is_told_of s item = nat_le s.first item && is_type_alone (slice_get (items_read s) item)
 
 -- where a place of the sources is: those behind the file's beginning are the file's, and those behind the argument's are the argument's
-abbrev pub place_in : Sources → (at : ℕ) → FaultPlace
-place_in s at = if nat_le s.argument.0 at then Argument (at - s.argument.0) else (if nat_le s.file.0 at then File (at - s.file.0) else Nowhere)
+abbrev pub place_in_sources : Sources → (at : ℕ) → FaultPlace
+place_in_sources s at = if nat_le s.argument.0 at then Argument (at - s.argument.0) else (if nat_le s.file.0 at then File (at - s.file.0) else Nowhere)
 
 -- of a place that there may be
 abbrev pub place_told : Sources → Option Place → FaultPlace
 place_told s None = Nowhere
-place_told s (Some at) = place_in s at.0
+place_told s (Some at) = place_in_sources s at.0
 
 -- where the name of an item stands
 abbrev pub place_of_item : Sources → Option Item → FaultPlace
 place_of_item s None = Nowhere
-place_of_item s (Some it) = place_in s it.at.0
+place_of_item s (Some it) = place_in_sources s it.at.0
 
 -- a fault as it is told
 abbrev pub fault_told : Sources → Stop → FaultTold
@@ -79,7 +79,7 @@ pub record IsWorkOver (s : Sources) (dl : TargetDataLayout) (cx : Context) : Typ
 
 -- what is meant, where no size has to be known first, and else under sizes that are right; want of memory and of parts aside
 pub record IsMeant (cx : Context) (m : Measure) (subject : Subject) (file : Place) (r : Result (Option Told) Stop) : Type 0 where
-  pub exact : (told_under cx m subject file ≡ Err Size → ⊥) → Answers (option_map told_read) (told_under cx m subject file) r
+  pub exact : (told_under cx m subject file ≡ Err Size → ⊥) → Means (option_map told_read) (told_under cx m subject file) r
   pub told : IsTold cx m subject file r
 
 -- the same of an answer whose fault is told with its place

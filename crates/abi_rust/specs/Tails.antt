@@ -19,7 +19,7 @@ use Rattle.abi_rust.specs.declared.ty.Primitive.TheVariants.{Str}
 use Rattle.abi_rust.specs.declared.work.Context.{Context}
 use Rattle.abi_rust.specs.Kinds.{item_at}
 use Rattle.abi_rust.specs.Known.{same_givens}
-use Rattle.abi_rust.specs.Meaning.{Meaning, after, fault_at, too_deep}
+use Rattle.abi_rust.specs.Meaning.{Meaning, then_meant, fault_at, too_deep}
 use Rattle.abi_rust.specs.Resolving.{inside_item, most_deep, resolved}
 use Rattle.abi_rust.specs.Types.{GivenRead, GivensRead, TyRead, TysRead, adt, all_given, dyn, givens, list_given, more_types, never, no_types, of_type, of_value, primitive, slice, tuple}
 use Rattle.abi_rust.specs.Values.{number}
@@ -55,10 +55,10 @@ last_of (f ∷ []) = Some f
 last_of (f ∷ fs) = last_of fs
 
 -- the last field of a struct or a union
-abbrev pub last_field : ItemKind → Option Field
-last_field (StructItem fields) = last_of fields.all.items
-last_field (UnionItem fields) = last_of fields.all.items
-last_field _ = None
+abbrev pub tail_field : ItemKind → Option Field
+tail_field (StructItem fields) = last_of fields.all.items
+tail_field (UnionItem fields) = last_of fields.all.items
+tail_field _ = None
 
 -- how a pointer's tail is found, of a type and of an item
 pub record TailInner : Type 0 where
@@ -81,9 +81,9 @@ may_any [] = false
 may_any (p ∷ ps) = p.may_be_unsized || may_any ps
 
 -- the size is known
-abbrev pub is_sized : Tail → Bool
-is_sized Sized = true
-is_sized _ = false
+abbrev pub has_known_size : Tail → Bool
+has_known_size Sized = true
+has_known_size _ = false
 
 module _ (cx : Context) where
   module _ (T : TailInner) where
@@ -104,11 +104,11 @@ module _ (cx : Context) where
     field_tail outer n gs it None = Ok Sized
     field_tail outer n gs it (Some f) =
         if stands_in outer n gs then fault_at it.at (Recursive it.name)
-        else after (λ t. T.tail_of ((n, gs) ∷ outer) t) (resolved cx (inside_item n it (list_given gs)) f.ty)
+        else then_meant (λ t. T.tail_of ((n, gs) ∷ outer) t) (resolved cx (inside_item n it (list_given gs)) f.ty)
 
     abbrev pub item_tail : Outer → ℕ → GivensRead → Option Item → Meaning Tail
     item_tail outer n gs None = Ok Sized
-    item_tail outer n gs (Some it) = field_tail outer n gs it (last_field it.kind)
+    item_tail outer n gs (Some it) = field_tail outer n gs it (tail_field it.kind)
 
     -- what a pointer to the type tells that an item is; a fault where that stands in itself
     unfoldable pub tail_of_item_with : Outer → ℕ → GivensRead → Meaning Tail
@@ -127,5 +127,5 @@ module _ (cx : Context) where
   unfoldable pub always_sized : ℕ → Item → Meaning Bool
   always_sized n it =
       if may_any it.parameters.items
-      then after (λ tail. Ok (is_sized tail)) ((tail_inner most_deep).tail_of_item [] n (givens (map assumed it.parameters.items)))
+      then then_meant (λ tail. Ok (has_known_size tail)) ((tail_inner most_deep).tail_of_item [] n (givens (map assumed it.parameters.items)))
       else Ok true

@@ -21,7 +21,7 @@ use Rattle.abi_rust.specs.declared.told.VariantLabels.{VariantLabels}
 use Rattle.abi_rust.specs.declared.work.Context.{Context}
 use Rattle.abi_rust.specs.declared.work.Request.{Request}
 use Rattle.abi_rust.specs.Kinds.{item_at, outside}
-use Rattle.abi_rust.specs.Meaning.{Meaning, after, fault_at}
+use Rattle.abi_rust.specs.Meaning.{Meaning, then_meant, fault_at}
 use Rattle.abi_rust.specs.Measure.{Measure}
 use Rattle.abi_rust.specs.Resolving.{resolved}
 use Rattle.abi_rust.specs.Trees.{sized_tree}
@@ -53,15 +53,15 @@ pub data ShapeRead : Type 0 where
   enum_names : List (Symbol × List Label) → ShapeRead
 
 -- the program's names of a variant as the definitions see them
-abbrev pub variant_names : VariantLabels → Symbol × List Label
-variant_names v = (v.name, v.fields.items)
+abbrev pub variant_called : VariantLabels → Symbol × List Label
+variant_called v = (v.name, v.fields.items)
 
 -- the program's names of parts as the definitions see them
 abbrev pub shape_read : Shape → ShapeRead
 shape_read shape.Plain = no_names
 shape_read (shape.Struct all) = struct_names all.items
 shape_read (shape.Union all) = union_names all.items
-shape_read (shape.Enum all) = enum_names (map variant_names all.items)
+shape_read (shape.Enum all) = enum_names (map variant_called all.items)
 
 -- so many bytes behind the file's beginning, and 0 before it
 abbrev pub within_file : (file : Place) → Place → Place
@@ -109,11 +109,11 @@ told_read t = (tree_of t.tree, shape_read t.shape)
 module _ (cx : Context) (m : Measure) where
   -- the tree of a type that is told of, and the names of its parts; none where its size isn't known
   abbrev pub told_type : Subject → (file : Place) → TyRead → Meaning (Option (Tree × ShapeRead))
-  told_type s file t = after (λ found. Ok (option_map (λ whole. (whole, shape_of cx s file t)) found)) (sized_tree cx m t)
+  told_type s file t = then_meant (λ found. Ok (option_map (λ whole. (whole, shape_of cx s file t)) found)) (sized_tree cx m t)
 
   -- the same of what is told of, under the sizes that are known
   unfoldable pub told_under : Subject → (file : Place) → Meaning (Option (Tree × ShapeRead))
-  told_under s file = after (told_type s file) (subject_type cx s)
+  told_under s file = then_meant (told_type s file) (subject_type cx s)
 
   abbrev pub measured_or : Place → Option Tree → Meaning (ℕ × ℕ)
   measured_or at (Some whole) = m whole
@@ -121,4 +121,4 @@ module _ (cx : Context) (m : Measure) where
 
   -- the size and the alignment of a type that a call at a place names
   unfoldable pub size_meant : Place → Where → Type_written → Meaning (ℕ × ℕ)
-  size_meant at w t = after (λ ty. after (measured_or at) (sized_tree cx m ty)) (resolved cx w t)
+  size_meant at w t = then_meant (λ ty. then_meant (measured_or at) (sized_tree cx m ty)) (resolved cx w t)

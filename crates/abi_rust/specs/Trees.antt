@@ -15,13 +15,13 @@ use Rattle.rust_source.specs.declared.syntax.Expr.{Expr}
 use Rattle.abi_rust.specs.Aligned.{discriminants_checked, packed_checked}
 use Rattle.abi_rust.specs.Evaluating.{discriminant_kind, made_at}
 use Rattle.abi_rust.specs.Kinds.{item_at, outside}
-use Rattle.abi_rust.specs.Meaning.{Meaning, after, fault_at, too_deep}
+use Rattle.abi_rust.specs.Meaning.{Meaning, then_meant, fault_at, too_deep}
 use Rattle.abi_rust.specs.Measure.{Measure, each_meant, transparent_checked}
-use Rattle.abi_rust.specs.Operators.{bits_in, fitted, is_signed}
-use Rattle.abi_rust.specs.Reprs.{plain, repr_of}
+use Rattle.abi_rust.specs.Operators.{bits_of_integer, fitted, is_signed}
+use Rattle.abi_rust.specs.Reprs.{no_repr, repr_of}
 use Rattle.abi_rust.specs.Resolving.{evaluated, inside_item, most_deep, resolved}
 use Rattle.abi_rust.specs.Scalars.{function_tree, limited_tree, named_tree, pointer_tree}
-use Rattle.abi_rust.specs.Tails.{Outer, always_sized, is_sized, pointee_tail, stands_in}
+use Rattle.abi_rust.specs.Tails.{Outer, always_sized, has_known_size, pointee_tail, stands_in}
 use Rattle.abi_rust.specs.Types.{GivensRead, TyRead, Where, adt, array, dyn, function, list_given, list_of_types, never, pointer, primitive, reference, slice, tuple}
 use Rattle.abi_rust.specs.Values.{ValueRead, number}
 use Rattle.abi_rust.specs.declared.fault.FaultKind.TheVariants.{NotAType, Recursive, Unsized, WrongType}
@@ -62,16 +62,16 @@ first_limited dl _ ts = ts
 -- the tuple of these: a struct, or the type of one value where there are none
 abbrev pub tuple_of : List Tree → Tree
 tuple_of [] = unit
-tuple_of (t ∷ ts) = struct plain false None (trees (t ∷ ts))
+tuple_of (t ∷ ts) = struct no_repr false None (trees (t ∷ ts))
 
 -- a variant of the program's tree: its discriminant, and the trees of its fields
-abbrev pub variant_read : ℕ × Vec TypeTree Global → ℕ × List Tree
-variant_read v = (v.0, map tree_of v.1.items)
+abbrev pub variant_as_tree : ℕ × Vec TypeTree Global → ℕ × List Tree
+variant_as_tree v = (v.0, map tree_of v.1.items)
 
 -- the variants of a list: each one's discriminant, and the trees of its fields
-abbrev pub variants_in : List (ℕ × List Tree) → Variants
-variants_in [] = no_variants
-variants_in (v ∷ vs) = more_variants v.0 (trees v.1) (variants_in vs)
+abbrev pub variants_listed : List (ℕ × List Tree) → Variants
+variants_listed [] = no_variants
+variants_listed (v ∷ vs) = more_variants v.0 (trees v.1) (variants_listed vs)
 
 -- the number behind the last, or 0 where there is none
 abbrev pub number_behind : (last : Option ℤ) → ℤ
@@ -79,26 +79,26 @@ number_behind None = pos 0
 number_behind (Some z) = z +ℤ pos 1
 
 -- the number that a value is
-abbrev pub number_in : Place → ValueRead → Meaning ℤ
-number_in at (number kind z) = Ok z
-number_in at _ = fault_at at WrongType
+abbrev pub number_meant : Place → ValueRead → Meaning ℤ
+number_meant at (number kind z) = Ok z
+number_meant at _ = fault_at at WrongType
 
 module _ (cx : Context) where
   abbrev pub discriminant_value : Item → (last : Option ℤ) → Place → Option Expr → Meaning ValueRead
   discriminant_value it last at (Some e) = evaluated cx (outside it.«module») e (Some (KindInteger (discriminant_kind it)))
   discriminant_value it last at None =
       let kind = discriminant_kind it in
-      made_at at (fitted kind (is_signed kind) (bits_in cx.pointer_bits kind) (number_behind last))
+      made_at at (fitted kind (is_signed kind) (bits_of_integer cx.pointer_bits kind) (number_behind last))
 
   -- a variant's discriminant: what is written, or else the number behind the last one, which has to fit
   unfoldable pub variant_number : Item → (last : Option ℤ) → Variant → Meaning ℤ
-  variant_number it last v = after (number_in v.at) (discriminant_value it last v.at v.discriminant)
+  variant_number it last v = then_meant (number_meant v.at) (discriminant_value it last v.at v.discriminant)
 
   module _ (m : Measure) where
     module _ (T : TreeInner) where
       -- the tree of a field
       abbrev pub field_tree : Outer → Where → Field → Meaning Tree
-      field_tree outer w f = after (λ t. told_at f.start (T.of_type outer t)) (resolved cx w f.ty)
+      field_tree outer w f = then_meant (λ t. told_at f.start (T.of_type outer t)) (resolved cx w f.ty)
 
       -- the trees of fields
       abbrev pub field_trees : Outer → Where → List Field → Meaning (List Tree)
@@ -106,46 +106,46 @@ module _ (cx : Context) where
 
       -- the trees of the fields of a type that may be transparent
       abbrev pub checked_trees : Outer → Where → Item → List Field → Meaning (List Tree)
-      checked_trees outer w it fs = after (λ ts. after (λ _. Ok ts) (transparent_checked m it ts)) (field_trees outer w fs)
+      checked_trees outer w it fs = then_meant (λ ts. then_meant (λ _. Ok ts) (transparent_checked m it ts)) (field_trees outer w fs)
 
       -- the tree of a tuple
       abbrev pub tuple_tree : Outer → List TyRead → Meaning Tree
-      tuple_tree outer ts = after (λ all. Ok (tuple_of all)) (each_meant (T.of_type outer) ts)
+      tuple_tree outer ts = then_meant (λ all. Ok (tuple_of all)) (each_meant (T.of_type outer) ts)
 
       -- the trees of a struct's fields
       unfoldable pub struct_fields : Outer → Where → Item → List Field → Meaning (List Tree)
       struct_fields outer w it fs =
-          after (λ _. after (λ ts. Ok (first_limited cx.dl.now it.valid_range ts)) (checked_trees outer w it fs))
+          then_meant (λ _. then_meant (λ ts. Ok (first_limited cx.dl.now it.valid_range ts)) (checked_trees outer w it fs))
           (packed_checked cx most_deep it fs)
 
       -- the tree of a struct
       unfoldable pub struct_tree : Outer → Where → ℕ → Item → List Field → Meaning Tree
       struct_tree outer w n it fs =
-          after (λ repr. after (λ always. after (λ ts. Ok (struct repr always None (trees ts))) (struct_fields outer w it fs))
+          then_meant (λ repr. then_meant (λ always. then_meant (λ ts. Ok (struct repr always None (trees ts))) (struct_fields outer w it fs))
           (always_sized cx n it)) (repr_of it)
 
       -- the tree of a union
       unfoldable pub union_tree : Outer → Where → Item → List Field → Meaning Tree
       union_tree outer w it fs =
-          after (λ repr. after (λ _. after (λ ts. Ok (union repr (trees ts))) (field_trees outer w fs))
+          then_meant (λ repr. then_meant (λ _. then_meant (λ ts. Ok (union repr (trees ts))) (field_trees outer w fs))
           (packed_checked cx most_deep it fs)) (repr_of it)
 
       -- a variant: its discriminant, and the trees of its fields
       unfoldable pub variant_tree : Outer → Where → Item → (last : Option ℤ) → Variant → Meaning (ℤ × List Tree)
       variant_tree outer w it last v =
-          after (λ z. after (λ ts. Ok (z, ts)) (checked_trees outer w it v.fields.all.items)) (variant_number it last v)
+          then_meant (λ z. then_meant (λ ts. Ok (z, ts)) (checked_trees outer w it v.fields.all.items)) (variant_number it last v)
 
       -- these variants, behind the last discriminant
       abbrev pub variant_trees : Outer → Where → Item → (last : Option ℤ) → List Variant → Meaning (List (ℕ × List Tree))
       variant_trees outer w it last [] = Ok []
       variant_trees outer w it last (v ∷ vs) =
-          after (λ one. after (λ rest. Ok ((cast_unsigned w128 one.0, one.1) ∷ rest)) (variant_trees outer w it (Some one.0) vs))
+          then_meant (λ one. then_meant (λ rest. Ok ((cast_unsigned w128 one.0, one.1) ∷ rest)) (variant_trees outer w it (Some one.0) vs))
           (variant_tree outer w it last v)
 
       -- the tree of an enum
       unfoldable pub enum_tree : Outer → Where → Item → List Variant → Meaning Tree
       enum_tree outer w it vs =
-          after (λ repr. after (λ _. after (λ all. Ok (enum repr (variants_in all))) (variant_trees outer w it None vs))
+          then_meant (λ repr. then_meant (λ _. then_meant (λ all. Ok (enum repr (variants_listed all))) (variant_trees outer w it None vs))
           (discriminants_checked it vs)) (repr_of it)
 
       -- the tree of an item of this kind
@@ -155,19 +155,19 @@ module _ (cx : Context) where
       kind_tree outer w n it (EnumItem all) = enum_tree outer w it all.variants.items
       kind_tree outer w n it _ = fault_at it.at (NotAType it.name)
 
-      abbrev pub item_by : Outer → ℕ → GivensRead → Option Item → Meaning Tree
-      item_by outer n gs None = no_size
-      item_by outer n gs (Some it) =
+      abbrev pub tree_by_item : Outer → ℕ → GivensRead → Option Item → Meaning Tree
+      tree_by_item outer n gs None = no_size
+      tree_by_item outer n gs (Some it) =
           if stands_in outer n gs then fault_at it.at (Recursive it.name)
           else kind_tree ((n, gs) ∷ outer) (inside_item n it (list_given gs)) n it it.kind
 
       -- the tree of an item under what its parameters are given; a fault where it stands in itself
       unfoldable pub item_tree : Outer → ℕ → GivensRead → Meaning Tree
-      item_tree outer n gs = item_by outer n gs (item_at cx.items.now cx.scope.now n)
+      item_tree outer n gs = tree_by_item outer n gs (item_at cx.items.now cx.scope.now n)
 
       -- the tree of a pointer to a type, which is null only where it may be
       abbrev pub pointer_to : TyRead → (may_be_null : Bool) → Meaning Tree
-      pointer_to t may = after (λ tail. Ok (tree_of (pointer_tree cx.dl.now tail may))) (pointee_tail cx t)
+      pointer_to t may = then_meant (λ tail. Ok (tree_of (pointer_tree cx.dl.now tail may))) (pointee_tail cx t)
 
       -- the tree of a type
       unfoldable pub type_tree : Outer → TyRead → Meaning Tree
@@ -176,7 +176,7 @@ module _ (cx : Context) where
       type_tree outer function = Ok (tree_of (function_tree cx.dl.now))
       type_tree outer dyn = no_size
       type_tree outer (tuple ts) = tuple_tree outer (list_of_types ts)
-      type_tree outer (array t count) = after (λ e. Ok (array_tree count e)) (T.of_type outer t)
+      type_tree outer (array t count) = then_meant (λ e. Ok (array_tree count e)) (T.of_type outer t)
       type_tree outer (slice t) = no_size
       type_tree outer (reference t) = pointer_to t false
       type_tree outer (pointer t) = pointer_to t true
@@ -194,4 +194,4 @@ module _ (cx : Context) where
     -- the same, and none of a type whose size isn't known
     unfoldable pub sized_tree : TyRead → Meaning (Option Tree)
     sized_tree t =
-        after (λ tail. if is_sized tail then after (λ whole. Ok (Some whole)) (whole_tree t) else Ok None) (pointee_tail cx t)
+        then_meant (λ tail. if has_known_size tail then then_meant (λ whole. Ok (Some whole)) (whole_tree t) else Ok None) (pointee_tail cx t)

@@ -6,7 +6,7 @@ use Rattle.abi_rust.specs.declared.ty.Given.TheOpen.{Given-F, Ty-F}
 use Rattle.abi_rust.specs.declared.ty.Given.TheOpen as layer
 use Rattle.abi_rust.specs.declared.ty.Primitive.{Primitive}
 use Rattle.abi_rust.specs.declared.ty.Ty.{Ty}
-use Rattle.abi_rust.specs.Values.{ValueRead, value_of}
+use Rattle.abi_rust.specs.Values.{ValueRead, value_as_read}
 use Rattle.abi_rust.specs.declared.work.Setting.{Setting}
 
 mutual
@@ -62,7 +62,7 @@ list_given (more_given g gs) = g ∷ list_given gs
 -- one layer of the program's types, whose parts are seen so already
 abbrev pub layer_given : Given-F GivenRead TyRead → GivenRead
 layer_given (layer.«Type» t) = of_type t
-layer_given (layer.Value v) = of_value (value_of v)
+layer_given (layer.Value v) = of_value (value_as_read v)
 
 -- one layer of a type
 abbrev pub layer_ty : Ty-F GivenRead TyRead → TyRead

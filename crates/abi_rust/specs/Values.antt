@@ -2,7 +2,7 @@
 use Rattle.std.specs.Prelude.{◌≡◌, ℕ, Bool, ℤ, Option, Some, None}
 use Rattle.rust_source.specs.declared.syntax.IntegerKind.{IntegerKind}
 use Rattle.abi_rust.specs.declared.int.Int.{Int}
-use Rattle.abi_rust.specs.Int.{number_of}
+use Rattle.abi_rust.specs.Int.{number_of_int}
 use Rattle.abi_rust.specs.declared.ty.Kind.{Kind}
 use Rattle.abi_rust.specs.declared.ty.Kind.TheVariants.{Bool as BoolKind, Char as CharKind, Integer as IntegerKind_of}
 use Rattle.abi_rust.specs.declared.ty.Value.{Value}
@@ -17,10 +17,10 @@ pub data ValueRead : Type 0 where
   number : IntegerKind → ℤ → ValueRead
 
 -- the program's value as the definitions see it
-abbrev pub value_of : Value → ValueRead
-value_of (BoolValue b) = truth b
-value_of (CharValue c) = code c
-value_of (IntegerValue kind int) = number kind (number_of int)
+abbrev pub value_as_read : Value → ValueRead
+value_as_read (BoolValue b) = truth b
+value_as_read (CharValue c) = code c
+value_as_read (IntegerValue kind int) = number kind (number_of_int int)
 
 -- a value's type, by the definitions
 abbrev pub kind_read : ValueRead → Kind
@@ -40,9 +40,9 @@ IsOfKind (Some kind) value = kind_of_value value ≡ kind
 IsOfKind None value = Unit {0}
 
 -- the value is the number, as one of the type
-abbrev pub IsNumberOf : IntegerKind → Option Int → Value → Type 0
-IsNumberOf kind (Some int) value = value ≡ IntegerValue kind int
-IsNumberOf kind None value = ⊥
+abbrev pub IsNumberOfKind : IntegerKind → Option Int → Value → Type 0
+IsNumberOfKind kind (Some int) value = value ≡ IntegerValue kind int
+IsNumberOfKind kind None value = ⊥
 
 -- a discriminant that isn't written is the one that comes next
 abbrev pub FollowsOn : {A : Type 0} → (written : Option A) (next : Option Int) → Int → Type 0

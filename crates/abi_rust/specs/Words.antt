@@ -42,12 +42,12 @@ unfoldable pub symbol_of : Words → Word → Symbol
 symbol_of ws w = record { 0 = (ws.first + place_of_word w) % 2 ^ 32 }
 
 -- two names are one
-abbrev pub same_name : Symbol → Symbol → Bool
-same_name a b = nat_eq a.0 b.0
+abbrev pub is_same_name : Symbol → Symbol → Bool
+is_same_name a b = nat_eq a.0 b.0
 
 -- the name is this word
 abbrev pub is_word : Words → Symbol → Word → Bool
-is_word ws name w = same_name name (symbol_of ws w)
+is_word ws name w = is_same_name name (symbol_of ws w)
 
 -- the integer type whose name stands so far behind the first
 abbrev pub integer_at : ℕ → Option IntegerKind

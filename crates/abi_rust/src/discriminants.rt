@@ -2,7 +2,7 @@
 
 ghost use Rattle.std.specs.Prelude.{◌≡◌, slice_get};
 ghost use Rattle.std.specs.Option.{option_copied, option_map};
-ghost use Rattle.abi_rust.specs.Evaluating.{discriminant_kind, variant_by, variant_from, variant_named, written_before, written_from};
+ghost use Rattle.abi_rust.specs.Evaluating.{discriminant_kind, variant_of_item, variant_from, variant_named, written_before, written_from};
 
 use crate::paths::{Found, Space, find_of, item_at};
 use crate::work::Context;
@@ -28,7 +28,7 @@ pub(crate) fn variant_named<'a>(
 /// The item of this number, where it is an enum, and the number of its variant of this name.
 fn variant_of<'a>(cx: &Context<'a, '_>, number: u32, name: Symbol) -> Option<(&'a Item, usize)>
     ensures { option_map (λ found. (found.0.now, found.1)) result
-        ≡ variant_by cx.now name (slice_get cx.now.items.now.items.items number) }
+        ≡ variant_of_item cx.now name (slice_get cx.now.items.now.items.items number) }
 {
     let item = item_at(cx.items, number)?;
     match &item.kind {

@@ -2,11 +2,11 @@
 
 ghost use Rattle.std.specs.Prelude.{◌≡◌, IfOk, Ok, Some, nat_eq, length};
 ghost use Rattle.std.specs.Option.{option_copied, option_map};
-ghost use Rattle.abi_rust.specs.Evaluating.{begun, binary_value, branch_value, cast_value, cast_variant, constant_on, constant_value, counted, discriminant, evaluator, operand_value, path_value, right_kind, second_value, typed, unary_value, value_by, value_given, value_with};
+ghost use Rattle.abi_rust.specs.Evaluating.{begun, binary_value, branch_value, cast_value, cast_variant, constant_on, constant_value, counted_on, discriminant, evaluator, operand_value, path_value, right_kind, second_value, typed, unary_value, value_by, value_given, value_with};
 ghost use Rattle.abi_rust.specs.Kinds.{constant_place};
-ghost use Rattle.abi_rust.specs.Meaning.{Answers};
+ghost use Rattle.abi_rust.specs.Meaning.{Means};
 ghost use Rattle.abi_rust.specs.Types.{where_of};
-ghost use Rattle.abi_rust.specs.Values.{IsOfKind, value_of};
+ghost use Rattle.abi_rust.specs.Values.{IsOfKind, value_as_read};
 
 use crate::constants::{constant_named, inside_constant};
 use crate::discriminants::{discriminant_kind, variant_named, written_before};
@@ -38,7 +38,7 @@ pub(crate) fn evaluate<'a>(
     room: u32,
 ) -> Result<Value, Stop>
     ensures kind { IfOk result (λ value. IsOfKind wanted value) }
-    ensures value { Answers value_of (evaluator cx.now room (where_of setting.entry) expr.now wanted) result }
+    ensures value { Means value_as_read (evaluator cx.now room (where_of setting.entry) expr.now wanted) result }
 {
     work.spend()?;
     let room = less(room)?;
@@ -57,7 +57,7 @@ fn evaluate_typed<'a>(
     room: u32,
 ) -> Result<Value, Stop>
     ensures kind { IfOk result (λ value. IsOfKind wanted value) }
-    ensures value { Answers value_of
+    ensures value { Means value_as_read
         (value_with cx.now (evaluator cx.now room) (where_of setting.entry) expr.now wanted) result }
 {
     let value = evaluate_any(cx, work, setting, expr, wanted, room)?;
@@ -74,7 +74,7 @@ fn evaluate_any<'a>(
     wanted: Option<Kind>,
     room: u32,
 ) -> Result<Value, Stop>
-    ensures { Answers value_of
+    ensures { Means value_as_read
         (value_by cx.now (evaluator cx.now room) (where_of setting.entry) wanted expr.now) result }
 {
     match expr {
@@ -118,8 +118,8 @@ fn evaluate_branch<'a>(
     wanted: Option<Kind>,
     room: u32,
 ) -> Result<Value, Stop>
-    ensures { Answers value_of
-        (branch_value cx.now (evaluator cx.now room) (where_of setting.entry) left.now right.now wanted (value_of condition)) result }
+    ensures { Means value_as_read
+        (branch_value cx.now (evaluator cx.now room) (where_of setting.entry) left.now right.now wanted (value_as_read condition)) result }
 {
     match condition {
         Value::Bool(true) => evaluate(cx, work, setting, left, wanted, room),
@@ -131,7 +131,7 @@ fn evaluate_branch<'a>(
 fn typed(value: Value, wanted: Option<Kind>, at: Place) -> Result<Value, Stop>
     ensures same { IfOk result (λ given. given ≡ value) }
     ensures kind { IfOk result (λ given. IsOfKind wanted given) }
-    ensures meant { Answers value_of (typed at wanted (value_of value)) result }
+    ensures meant { Means value_as_read (typed at wanted (value_as_read value)) result }
 {
     match wanted {
         Some(kind) => {
@@ -156,7 +156,7 @@ fn evaluate_unary<'a>(
     wanted: Option<Kind>,
     room: u32,
 ) -> Result<Value, Stop>
-    ensures { Answers value_of
+    ensures { Means value_as_read
         (unary_value cx.now (evaluator cx.now room) (where_of setting.entry) operator operand.now wanted) result }
 {
     match (operator, operand) {
@@ -183,7 +183,7 @@ fn evaluate_binary<'a>(
     wanted: Option<Kind>,
     room: u32,
 ) -> Result<Value, Stop>
-    ensures { Answers value_of
+    ensures { Means value_as_read
         (binary_value cx.now (evaluator cx.now room) (where_of setting.entry) operator left.now right.now wanted) result }
 {
     let kind = operand_kind(cx, setting, operator, left, right, wanted);
@@ -203,8 +203,8 @@ fn evaluate_second<'a>(
     right: &'a Expr,
     room: u32,
 ) -> Result<Value, Stop>
-    ensures { Answers value_of
-        (second_value cx.now (evaluator cx.now room) (where_of setting.entry) operator left.now right.now (value_of first)) result }
+    ensures { Means value_as_read
+        (second_value cx.now (evaluator cx.now room) (where_of setting.entry) operator left.now right.now (value_as_read first)) result }
 {
     if is_settled(operator, first) {
         return Ok(first);
@@ -225,7 +225,7 @@ fn right_kind(
     first: Value,
     right: &Expr,
 ) -> Option<Kind>
-    ensures { result ≡ right_kind cx.now (where_of setting.entry) operator (value_of first) right.now }
+    ensures { result ≡ right_kind cx.now (where_of setting.entry) operator (value_as_read first) right.now }
 {
     if is_shift(operator) {
         kind_of(cx, setting, right)
@@ -246,7 +246,7 @@ fn evaluate_cast<'a>(
     at: Place,
     room: u32,
 ) -> Result<Value, Stop>
-    ensures { Answers value_of
+    ensures { Means value_as_read
         (cast_value cx.now (evaluator cx.now room) (where_of setting.entry) operand.now ty.now at) result }
 {
     let Some(kind) = kind_written(cx, setting, ty) else {
@@ -266,7 +266,7 @@ fn evaluate_operand<'a>(
     kind: Kind,
     room: u32,
 ) -> Result<Value, Stop>
-    ensures { Answers value_of
+    ensures { Means value_as_read
         (operand_value cx.now (evaluator cx.now room) (where_of setting.entry) operand.now kind
         (cast_variant cx.now setting.entry.«module» operand.now)) result }
 {
@@ -302,7 +302,7 @@ fn discriminant<'a>(
     index: usize,
     room: u32,
 ) -> Result<Value, Stop>
-    ensures { Answers value_of (discriminant cx.now (evaluator cx.now room) item.now index) result }
+    ensures { Means value_as_read (discriminant cx.now (evaluator cx.now room) item.now index) result }
 {
     let ItemKind::Enum(all) = &item.kind else {
         return Err(stop_at(item.at, FaultKind::WrongType));
@@ -321,7 +321,7 @@ fn begun<'a>(
     written: Option<&'a Expr>,
     room: u32,
 ) -> Result<Value, Stop>
-    ensures { Answers value_of
+    ensures { Means value_as_read
         (begun cx.now (evaluator cx.now room) item.now (option_copied written.entry)) result }
 {
     let kind = discriminant_kind(item);
@@ -337,7 +337,7 @@ fn begun<'a>(
 /// The discriminant that stands so far behind one.
 #[tactic(auto, using(crate::proofs::Numbers::too_wide))]
 fn counted(cx: &Context<'_, '_>, item: &Item, behind: usize, start: Value) -> Result<Value, Stop>
-    ensures { Answers value_of (counted cx.now item.now behind (value_of start)) result }
+    ensures { Means value_as_read (counted_on cx.now item.now behind (value_as_read start)) result }
 {
     let kind = discriminant_kind(item);
     match start {
@@ -352,7 +352,7 @@ fn counted(cx: &Context<'_, '_>, item: &Item, behind: usize, start: Value) -> Re
 
 /// The value that the parameter of this name is given, if it is one.
 fn value_given(cx: &Context<'_, '_>, setting: Setting<'_>, path: &Path) -> Option<Value>
-    ensures { option_map value_of result ≡ value_given cx.now (where_of setting.entry) path.now }
+    ensures { option_map value_as_read result ≡ value_given cx.now (where_of setting.entry) path.now }
 {
     match given_named(cx, setting, single_name(path)?) {
         Some(Given::Value(value)) => Some(*value),
@@ -370,7 +370,7 @@ pub(crate) fn evaluate_path<'a>(
     path: &'a Path,
     room: u32,
 ) -> Result<Value, Stop>
-    ensures { Answers value_of
+    ensures { Means value_as_read
         (path_value cx.now (evaluator cx.now room) (where_of setting.entry) path.now) result }
 {
     if let Some(value) = value_given(cx, setting, path) {
@@ -392,7 +392,7 @@ fn constant<'a>(
     at: Place,
     room: u32,
 ) -> Result<Value, Stop>
-    ensures { Answers value_of (constant_value cx.now (evaluator cx.now room) number at) result }
+    ensures { Means value_as_read (constant_value cx.now (evaluator cx.now room) number at) result }
 {
     let unevaluated = FaultKind::Unevaluated(Unevaluated::Expression);
     let Some(item) = item_at(cx.items, number) else {

@@ -1,7 +1,7 @@
 //! Why a source, or a type of it, has no tree.
 
 ghost use Rattle.std.specs.Prelude.{◌≡◌, Some};
-ghost use Rattle.abi_rust.specs.Reprs.{is_memory};
+ghost use Rattle.abi_rust.specs.Reprs.{is_want_of_memory};
 
 use rust_source::{IntegerKind, Place, SourceFault, SourceFaultKind, Symbol, Unevaluated};
 use rustc_abi::LayError;
@@ -99,7 +99,7 @@ pub struct Fault {
 impl Fault {
     /// Whether a growth of memory was refused, which says nothing of the source.
     pub fn is_out_of_memory(&self) -> bool
-        ensures { result ≡ is_memory self.now.kind }
+        ensures { result ≡ is_want_of_memory self.now.kind }
     {
         match self.kind {
             FaultKind::OutOfMemory => true,

@@ -25,12 +25,12 @@ pub(crate) struct Width {
 }
 
 impl Width {
-    ghost use Rattle.abi_rust.specs.Int.{Has, wrapped, number_of};
-    ghost use Rattle.abi_rust.specs.Operators.{bits_in, has_number, is_signed};
+    ghost use Rattle.abi_rust.specs.Int.{Has, wrapped, number_of_int};
+    ghost use Rattle.abi_rust.specs.Operators.{bits_of_integer, holds_number, is_signed};
 
     /// The width of an integer type, under pointers of this many bits, of which 1 to 128 count.
     pub(crate) fn of(kind: IntegerKind, pointer_bits: u32) -> Width
-        ensures bits { result.bits ≡ bits_in pointer_bits kind }
+        ensures bits { result.bits ≡ bits_of_integer pointer_bits kind }
         ensures signed { result.is_signed ≡ is_signed kind }
     {
         let (bits, is_signed) = match kind {
@@ -73,7 +73,7 @@ impl Width {
 
     /// The type's greatest number.
     pub(crate) fn max(self) -> Int
-        ensures { number_of result ≡ pos (cond self.is_signed (2 ^ (self.bits - 1) - 1) (2 ^ self.bits - 1)) }
+        ensures { number_of_int result ≡ pos (cond self.is_signed (2 ^ (self.bits - 1) - 1) (2 ^ self.bits - 1)) }
     {
         if self.is_signed {
             Int::positive(self.top() - 1)
@@ -84,7 +84,7 @@ impl Width {
 
     /// The type's least number.
     pub(crate) fn min(self) -> Int
-        ensures { number_of result ≡ cond self.is_signed (neg_ℤ (pos (2 ^ (self.bits - 1)))) (pos 0) }
+        ensures { number_of_int result ≡ cond self.is_signed (neg_ℤ (pos (2 ^ (self.bits - 1)))) (pos 0) }
     {
         if self.is_signed {
             Int::new(true, self.top())
@@ -95,8 +95,8 @@ impl Width {
 
     /// Whether the type has the number.
     pub(crate) fn has(self, int: Int) -> bool
-        ensures has { IsTrue result ↔ Has self (number_of int) }
-        ensures value { result ≡ has_number self.is_signed self.bits (number_of int) }
+        ensures has { IsTrue result ↔ Has self (number_of_int int) }
+        ensures value { result ≡ holds_number self.is_signed self.bits (number_of_int int) }
     {
         if self.is_signed {
             if int.is_negative {
@@ -119,7 +119,7 @@ impl Width {
 
     /// The number of the type that has these lowest bits.
     pub(crate) fn wrap(self, bits: u128) -> Int
-        ensures { number_of result ≡ wrapped self.is_signed self.bits bits }
+        ensures { number_of_int result ≡ wrapped self.is_signed self.bits bits }
     {
         let low = self.low(bits);
         if !self.is_signed || low < self.top() {
@@ -130,11 +130,11 @@ impl Width {
 }
 
 impl Int {
-    ghost use Rattle.abi_rust.specs.Int.{IsShift, number_of, signed, wrapped};
+    ghost use Rattle.abi_rust.specs.Int.{IsShift, number_of_int, signed, wrapped};
 
     /// The number, or minus it.
     pub(crate) fn new(is_negative: bool, magnitude: u128) -> Int
-        ensures { number_of result ≡ signed is_negative magnitude }
+        ensures { number_of_int result ≡ signed is_negative magnitude }
     {
         Int {
             is_negative: is_negative && magnitude != 0,
@@ -144,7 +144,7 @@ impl Int {
 
     /// A number that isn't negative.
     pub(crate) fn positive(magnitude: u128) -> Int
-        ensures { number_of result ≡ pos magnitude }
+        ensures { number_of_int result ≡ pos magnitude }
     {
         Int {
             is_negative: false,
@@ -154,7 +154,7 @@ impl Int {
 
     /// Its lowest 128 bits in two's complement.
     pub(crate) fn bits(self) -> u128
-        ensures { result ≡ cast_unsigned w128 (number_of self) }
+        ensures { result ≡ cast_unsigned w128 (number_of_int self) }
     {
         if self.is_negative {
             u128::MAX - self.magnitude + 1
@@ -165,15 +165,15 @@ impl Int {
 
     /// Minus the number.
     pub(crate) fn negated(self) -> Int
-        ensures { number_of result ≡ neg_ℤ (number_of self) }
+        ensures { number_of_int result ≡ neg_ℤ (number_of_int self) }
     {
         Int::new(!self.is_negative, self.magnitude)
     }
 
     /// The sum, or none where it has more than 128 bits.
     pub(crate) fn plus(self, other: Int) -> Option<Int>
-        ensures some { IfSome result (λ sum. number_of sum ≡ number_of self +ℤ number_of other) }
-        ensures none { IfNone result (2 ^ 128 ≤ unsigned_abs (number_of self +ℤ number_of other)) }
+        ensures some { IfSome result (λ sum. number_of_int sum ≡ number_of_int self +ℤ number_of_int other) }
+        ensures none { IfNone result (2 ^ 128 ≤ unsigned_abs (number_of_int self +ℤ number_of_int other)) }
     {
         if self.is_negative == other.is_negative {
             let magnitude = self.magnitude.checked_add(other.magnitude)?;
@@ -188,8 +188,8 @@ impl Int {
 
     /// The product, or none where it has more than 128 bits.
     pub(crate) fn times(self, other: Int) -> Option<Int>
-        ensures some { IfSome result (λ product. number_of product ≡ number_of self *ℤ number_of other) }
-        ensures none { IfNone result (2 ^ 128 ≤ unsigned_abs (number_of self *ℤ number_of other)) }
+        ensures some { IfSome result (λ product. number_of_int product ≡ number_of_int self *ℤ number_of_int other) }
+        ensures none { IfNone result (2 ^ 128 ≤ unsigned_abs (number_of_int self *ℤ number_of_int other)) }
     {
         let magnitude = self.magnitude.checked_mul(other.magnitude)?;
         Some(Int::new(self.is_negative != other.is_negative, magnitude))
@@ -197,9 +197,9 @@ impl Int {
 
     /// The quotient, cut towards zero, or none for a divisor that is zero.
     pub(crate) fn over(self, other: Int) -> Option<Int>
-        ensures some { IfSome result (λ quotient. number_of quotient
-            ≡ int_div (number_of self) (number_of other)) }
-        ensures none { IsNone result ↔ (number_of other ≡ pos 0) }
+        ensures some { IfSome result (λ quotient. number_of_int quotient
+            ≡ int_div (number_of_int self) (number_of_int other)) }
+        ensures none { IsNone result ↔ (number_of_int other ≡ pos 0) }
     {
         let magnitude = self.magnitude.checked_div(other.magnitude)?;
         Some(Int::new(self.is_negative != other.is_negative, magnitude))
@@ -207,8 +207,8 @@ impl Int {
 
     /// What the quotient leaves, of the sign of the dividend, or none for a divisor that is zero.
     pub(crate) fn left_over(self, other: Int) -> Option<Int>
-        ensures some { IfSome result (λ rest. number_of rest ≡ int_rem (number_of self) (number_of other)) }
-        ensures none { IsNone result ↔ (number_of other ≡ pos 0) }
+        ensures some { IfSome result (λ rest. number_of_int rest ≡ int_rem (number_of_int self) (number_of_int other)) }
+        ensures none { IsNone result ↔ (number_of_int other ≡ pos 0) }
     {
         let magnitude = self.magnitude.checked_rem(other.magnitude)?;
         Some(Int::new(self.is_negative, magnitude))
@@ -216,9 +216,9 @@ impl Int {
 
     /// The number times two to the power, in the lowest bits of a type, or none for a power that the type hasn't.
     pub(crate) fn shifted_left(self, width: Width, by: Int) -> Option<Int>
-        ensures some { IfSome result (λ shifted. number_of shifted ≡ wrapped width.is_signed width.bits
-            (cast_unsigned w128 (number_of self) * 2 ^ unsigned_abs (number_of by) % 2 ^ 128)) }
-        ensures none { IsSome result ↔ IsShift width (number_of by) }
+        ensures some { IfSome result (λ shifted. number_of_int shifted ≡ wrapped width.is_signed width.bits
+            (cast_unsigned w128 (number_of_int self) * 2 ^ unsigned_abs (number_of_int by) % 2 ^ 128)) }
+        ensures none { IsSome result ↔ IsShift width (number_of_int by) }
     {
         let by = by.shift(width)?;
         Some(width.wrap(self.bits() << by))
@@ -226,9 +226,9 @@ impl Int {
 
     /// The number over two to the power, cut downwards, or none for a power that the type hasn't.
     pub(crate) fn shifted_right(self, width: Width, by: Int) -> Option<Int>
-        ensures some { IfSome result (λ shifted. number_of shifted
-            ≡ int_div_euclid (number_of self) (pos (2 ^ unsigned_abs (number_of by)))) }
-        ensures none { IsSome result ↔ IsShift width (number_of by) }
+        ensures some { IfSome result (λ shifted. number_of_int shifted
+            ≡ int_div_euclid (number_of_int self) (pos (2 ^ unsigned_abs (number_of_int by)))) }
+        ensures none { IsSome result ↔ IsShift width (number_of_int by) }
     {
         let by = by.shift(width)?;
         if self.is_negative {
@@ -239,8 +239,8 @@ impl Int {
 
     /// Whether it is below the other.
     pub(crate) fn is_below(self, other: Int) -> bool
-        ensures below { IsTrue result ↔ (number_of self <ℤ number_of other) }
-        ensures value { result ≡ int_lt (number_of self) (number_of other) }
+        ensures below { IsTrue result ↔ (number_of_int self <ℤ number_of_int other) }
+        ensures value { result ≡ int_lt (number_of_int self) (number_of_int other) }
     {
         match (self.is_negative, other.is_negative) {
             (true, true) => self.magnitude > other.magnitude,
@@ -252,8 +252,8 @@ impl Int {
 
     /// By how many bits it shifts a number of the type: fewer than that has, or none.
     fn shift(self, width: Width) -> Option<u32>
-        ensures some { IfSome result (λ n. (number_of self ≡ pos n) × (n < width.bits)) }
-        ensures none { IsSome result ↔ IsShift width (number_of self) }
+        ensures some { IfSome result (λ n. (number_of_int self ≡ pos n) × (n < width.bits)) }
+        ensures none { IsSome result ↔ IsShift width (number_of_int self) }
     {
         if self.is_negative || self.magnitude >= u128::from(width.bits) {
             return None;

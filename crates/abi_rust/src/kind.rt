@@ -3,7 +3,7 @@
 ghost use Rattle.std.specs.Prelude.{◌≡◌, IfSome, slice_get};
 ghost use Rattle.std.specs.Option.{option_and_then, option_copied, option_map};
 ghost use Rattle.rust_source.specs.declared.syntax.Path.{out-Path};
-ghost use Rattle.abi_rust.specs.Kinds.{constant_type, given_named, is_shift, is_test, kind_at, kind_found, kind_given, kind_of, kind_of_primitive, kind_written, limit_type, name_alone, number_from, operand_kind, operands_kind, outside, parameter_named, parameter_type, parameters_of, path_kind, single_name};
+ghost use Rattle.abi_rust.specs.Kinds.{constant_type, given_named, is_shift, is_test, kind_of_names, kind_found, kind_given, kind_of_expr, kind_of_primitive, kind_written, limit_type, name_alone, number_from, operand_kind, operands_kind, outside, parameter_named, parameter_type, parameters_of, path_kind, single_name};
 ghost use Rattle.abi_rust.specs.Places.{last_name};
 ghost use Rattle.abi_rust.specs.Types.{given_of, where_of};
 
@@ -112,14 +112,14 @@ pub(crate) fn name_alone(path: &Path, count: usize) -> Option<Symbol>
 }
 
 /// The type of constants that the first names of a path are, so many of them, if they are one.
-#[tactic(auto, unfolding(crate::specs::Kinds::kind_at))]
+#[tactic(auto, unfolding(crate::specs::Kinds::kind_of_names))]
 pub(crate) fn kind_at(
     cx: &Context<'_, '_>,
     setting: Setting<'_>,
     path: &Path,
     count: usize,
 ) -> Option<Kind>
-    ensures { result ≡ kind_at cx.now.items.now cx.now.scope.now (where_of setting.entry) path.now count }
+    ensures { result ≡ kind_of_names cx.now.items.now cx.now.scope.now (where_of setting.entry) path.now count }
 {
     if let Some(name) = name_alone(path, count) {
         if parameter_named(cx, setting.item, name).is_some() {
@@ -163,7 +163,7 @@ fn kind_found(cx: &Context<'_, '_>, found: Option<Found>) -> Option<Kind>
 
 /// The type of an expression, where its parts tell it.
 pub(crate) fn kind_of(cx: &Context<'_, '_>, setting: Setting<'_>, expr: &Expr) -> Option<Kind>
-    ensures { result ≡ kind_of cx.now.items.now cx.now.scope.now (where_of setting.entry) expr.now }
+    ensures { result ≡ kind_of_expr cx.now.items.now cx.now.scope.now (where_of setting.entry) expr.now }
 {
     match expr {
         Expr::Integer(_, suffix, _) => Some(Kind::Integer((*suffix)?)),

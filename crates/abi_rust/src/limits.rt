@@ -4,10 +4,10 @@ ghost use Rattle.std.specs.Prelude.{◌≡◌};
 ghost use Rattle.std.specs.Option.{option_map};
 ghost use Rattle.rust_source.specs.declared.syntax.Segment.{out-Segment};
 ghost use Rattle.abi_rust.specs.Evaluating.{limit, limit_named, limit_of, unknown_of};
-ghost use Rattle.abi_rust.specs.Kinds.{kind_at};
-ghost use Rattle.abi_rust.specs.Meaning.{Answers};
+ghost use Rattle.abi_rust.specs.Kinds.{kind_of_names};
+ghost use Rattle.abi_rust.specs.Meaning.{Means};
 ghost use Rattle.abi_rust.specs.Types.{where_of};
-ghost use Rattle.abi_rust.specs.Values.{value_of};
+ghost use Rattle.abi_rust.specs.Values.{value_as_read};
 
 use crate::fault::{FaultKind, Stop, stop_at};
 use crate::int::{Int, Width};
@@ -21,7 +21,7 @@ use rust_source::{IntegerKind, Path, Symbol, Unevaluated};
 /// `T::MAX`, `T::MIN` or `T::BITS` of an integer type.
 #[tactic(auto, unfolding(crate::specs::Evaluating::limit))]
 pub(crate) fn limit(cx: &Context<'_, '_>, setting: Setting<'_>, path: &Path) -> Result<Value, Stop>
-    ensures { Answers value_of (limit cx.now (where_of setting.entry) path.now) result }
+    ensures { Means value_as_read (limit cx.now (where_of setting.entry) path.now) result }
 {
     let count = path.segments.len().saturating_sub(1);
     let Some(last) = path.segments.last() else {
@@ -41,7 +41,7 @@ pub(crate) fn limit(cx: &Context<'_, '_>, setting: Setting<'_>, path: &Path) -> 
 
 /// The limit of this name of a type, if it is an integer's.
 fn limit_of(cx: &Context<'_, '_>, kind: Option<Kind>, name: Symbol) -> Option<Value>
-    ensures { option_map value_of result ≡ limit_of cx.now name kind }
+    ensures { option_map value_as_read result ≡ limit_of cx.now name kind }
 {
     match kind {
         Some(Kind::Integer(kind)) => limit_named(cx, kind, name),
@@ -68,7 +68,7 @@ fn unknown_of(
 
 /// The limit of this name of an integer type.
 fn limit_named(cx: &Context<'_, '_>, kind: IntegerKind, name: Symbol) -> Option<Value>
-    ensures { option_map value_of result ≡ limit_named cx.now kind name }
+    ensures { option_map value_as_read result ≡ limit_named cx.now kind name }
 {
     let width = Width::of(kind, cx.pointer_bits);
     let words = cx.scope.words;

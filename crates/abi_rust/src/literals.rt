@@ -2,9 +2,9 @@
 
 ghost use Rattle.std.specs.Prelude.{◌≡◌};
 ghost use Rattle.abi_rust.specs.Evaluating.{inner_kind, literal, literal_kind};
-ghost use Rattle.abi_rust.specs.Int.{number_of};
-ghost use Rattle.abi_rust.specs.Meaning.{Answers};
-ghost use Rattle.abi_rust.specs.Values.{value_of};
+ghost use Rattle.abi_rust.specs.Int.{number_of_int};
+ghost use Rattle.abi_rust.specs.Meaning.{Means};
+ghost use Rattle.abi_rust.specs.Values.{value_as_read};
 
 use crate::fault::{FaultKind, Stop, stop_at};
 use crate::int::{Int, Width};
@@ -36,7 +36,7 @@ pub(crate) fn literal(
     wanted: Option<Kind>,
     at: Place,
 ) -> Result<Value, Stop>
-    ensures { Answers value_of (literal cx.now.pointer_bits (number_of int) suffix wanted at) result }
+    ensures { Means value_as_read (literal cx.now.pointer_bits (number_of_int int) suffix wanted at) result }
 {
     let Some(kind) = literal_kind(suffix, wanted) else {
         return Err(stop_at(at, FaultKind::WrongType));

@@ -2,9 +2,9 @@
 
 ghost use Rattle.std.specs.Prelude.{◌≡◌, IfNone, IfOk, IfSome, Err, pos, unsigned_abs, ◌%◌};
 ghost use Rattle.std.specs.Option.{option_map};
-ghost use Rattle.abi_rust.specs.Int.{number_of};
-ghost use Rattle.abi_rust.specs.Operators.{as_code, binary_of, bits_of_value, cast_of, divided, fitted, is_settled, number_of_kind, number_of_truth, of_numbers, of_two, of_truths, order_of, same_integer, same_kind, seen, shifted_left, shifted_right, unary_of};
-ghost use Rattle.abi_rust.specs.Values.{IsNumberOf, value_of};
+ghost use Rattle.abi_rust.specs.Int.{number_of_int};
+ghost use Rattle.abi_rust.specs.Operators.{as_code, binary_of, bits_of_value, cast_of, divided, fitted, is_settled, number_of_kind, number_of_truth, of_numbers, of_two, of_truths, order_of, same_integer, is_same_kind, seen, shifted_left, shifted_right, unary_of};
+ghost use Rattle.abi_rust.specs.Values.{IsNumberOfKind, value_as_read};
 
 use crate::fault::FaultKind;
 use crate::int::{Int, Width};
@@ -13,9 +13,9 @@ use rust_source::{Binary, IntegerKind, Unary};
 
 /// A number, where it fits the type.
 pub(crate) fn fitting(kind: IntegerKind, width: Width, int: Option<Int>) -> Result<Value, FaultKind>
-    ensures number { IfOk result (λ value. IsNumberOf kind int value) }
-    ensures fits { IfSome int (λ i. seen value_of result
-        ≡ fitted kind width.is_signed width.bits (number_of i)) }
+    ensures number { IfOk result (λ value. IsNumberOfKind kind int value) }
+    ensures fits { IfSome int (λ i. seen value_as_read result
+        ≡ fitted kind width.is_signed width.bits (number_of_int i)) }
     ensures none { IfNone int (result ≡ Err (FaultKind.Overflow kind)) }
 {
     match int {
@@ -32,7 +32,7 @@ pub(crate) fn fitting(kind: IntegerKind, width: Width, int: Option<Int>) -> Resu
 
 /// What an operator before its operand makes of it.
 pub(crate) fn unary(operator: Unary, value: Value, pointer_bits: u32) -> Result<Value, FaultKind>
-    ensures { seen value_of result ≡ unary_of pointer_bits operator (value_of value) }
+    ensures { seen value_as_read result ≡ unary_of pointer_bits operator (value_as_read value) }
 {
     match (operator, value) {
         (Unary::Not, Value::Bool(truth)) => Ok(Value::Bool(!truth)),
@@ -53,7 +53,7 @@ pub(crate) fn unary(operator: Unary, value: Value, pointer_bits: u32) -> Result<
 
 /// Whether the first operand decides: `false && ..`, `true || ..`.
 pub(crate) fn is_settled(operator: Binary, first: Value) -> bool
-    ensures { result ≡ is_settled operator (value_of first) }
+    ensures { result ≡ is_settled operator (value_as_read first) }
 {
     match (operator, first) {
         (Binary::And, Value::Bool(false)) => true,
@@ -69,7 +69,7 @@ pub(crate) fn binary(
     right: Value,
     pointer_bits: u32,
 ) -> Result<Value, FaultKind>
-    ensures { seen value_of result ≡ binary_of pointer_bits operator (value_of left) (value_of right) }
+    ensures { seen value_as_read result ≡ binary_of pointer_bits operator (value_as_read left) (value_as_read right) }
 {
     match (left, right) {
         (Value::Bool(a), Value::Bool(b)) => of_bools(operator, a, b),
@@ -87,7 +87,7 @@ pub(crate) fn binary(
 
 /// What an operator makes of truths.
 fn of_bools(operator: Binary, a: bool, b: bool) -> Result<Value, FaultKind>
-    ensures { seen value_of result ≡ of_truths operator a b }
+    ensures { seen value_as_read result ≡ of_truths operator a b }
 {
     match operator {
         Binary::And | Binary::BitAnd => Ok(Value::Bool(a && b)),
@@ -99,14 +99,14 @@ fn of_bools(operator: Binary, a: bool, b: bool) -> Result<Value, FaultKind>
 
 /// A truth as a number.
 fn of_truth(truth: bool) -> Int
-    ensures { number_of result ≡ pos (number_of_truth truth) }
+    ensures { number_of_int result ≡ pos (number_of_truth truth) }
 {
     Int::positive(u128::from(truth))
 }
 
 /// What a comparison tells.
 fn of_order(operator: Binary, a: Int, b: Int) -> Result<Value, FaultKind>
-    ensures { seen value_of result ≡ order_of operator (number_of a) (number_of b) }
+    ensures { seen value_as_read result ≡ order_of operator (number_of_int a) (number_of_int b) }
 {
     match operator {
         Binary::Equal => Ok(Value::Bool(!a.is_below(b) && !b.is_below(a))),
@@ -121,16 +121,16 @@ fn of_order(operator: Binary, a: Int, b: Int) -> Result<Value, FaultKind>
 
 /// The number times two to the power, of which the lowest bits stay.
 fn shifted_left(kind: IntegerKind, width: Width, a: Int, b: Int) -> Result<Value, FaultKind>
-    ensures { seen value_of result
-        ≡ shifted_left kind width.is_signed width.bits (number_of a) (number_of b) }
+    ensures { seen value_as_read result
+        ≡ shifted_left kind width.is_signed width.bits (number_of_int a) (number_of_int b) }
 {
     fitting(kind, width, a.shifted_left(width, b))
 }
 
 /// The number over two to the power, cut downwards.
 fn shifted_right(kind: IntegerKind, width: Width, a: Int, b: Int) -> Result<Value, FaultKind>
-    ensures { seen value_of result
-        ≡ shifted_right kind width.is_signed width.bits (number_of a) (number_of b) }
+    ensures { seen value_as_read result
+        ≡ shifted_right kind width.is_signed width.bits (number_of_int a) (number_of_int b) }
 {
     fitting(kind, width, a.shifted_right(width, b))
 }
@@ -144,8 +144,8 @@ fn of_two(
     a: Int,
     b: Int,
 ) -> Result<Value, FaultKind>
-    ensures { seen value_of result
-        ≡ of_two operator width.is_signed width.bits kind other (number_of a) (number_of b) }
+    ensures { seen value_as_read result
+        ≡ of_two operator width.is_signed width.bits kind other (number_of_int a) (number_of_int b) }
 {
     match operator {
         Binary::Shl => shifted_left(kind, width, a, b),
@@ -168,8 +168,8 @@ fn of_integers(
     a: Int,
     b: Int,
 ) -> Result<Value, FaultKind>
-    ensures { seen value_of result
-        ≡ of_numbers operator kind width.is_signed width.bits (number_of a) (number_of b) }
+    ensures { seen value_as_read result
+        ≡ of_numbers operator kind width.is_signed width.bits (number_of_int a) (number_of_int b) }
 {
     match operator {
         Binary::Add => fitting(kind, width, a.plus(b)),
@@ -186,7 +186,7 @@ fn of_integers(
 
 /// The quotient, cut towards zero.
 fn divided(kind: IntegerKind, width: Width, a: Int, b: Int) -> Result<Value, FaultKind>
-    ensures { seen value_of result ≡ divided kind width.is_signed width.bits (number_of a) (number_of b) }
+    ensures { seen value_as_read result ≡ divided kind width.is_signed width.bits (number_of_int a) (number_of_int b) }
 {
     match a.over(b) {
         Some(quotient) => fitting(kind, width, Some(quotient)),
@@ -196,8 +196,8 @@ fn divided(kind: IntegerKind, width: Width, a: Int, b: Int) -> Result<Value, Fau
 
 /// What the quotient leaves. It overflows where the quotient does.
 fn remainder(kind: IntegerKind, width: Width, a: Int, b: Int) -> Result<Value, FaultKind>
-    ensures { seen value_of result
-        ≡ of_numbers Binary.Rem kind width.is_signed width.bits (number_of a) (number_of b) }
+    ensures { seen value_as_read result
+        ≡ of_numbers Binary.Rem kind width.is_signed width.bits (number_of_int a) (number_of_int b) }
 {
     let _quotient = divided(kind, width, a, b)?;
     match a.left_over(b) {
@@ -208,14 +208,14 @@ fn remainder(kind: IntegerKind, width: Width, a: Int, b: Int) -> Result<Value, F
 
 /// The lowest byte of a number that isn't negative.
 fn low_byte(int: Int) -> u32
-    ensures { result ≡ unsigned_abs (number_of int) % 256 }
+    ensures { result ≡ unsigned_abs (number_of_int int) % 256 }
 {
     u32::try_from(int.magnitude % 256).unwrap_or(0)
 }
 
 /// A value's bits.
 fn bits_of(value: Value) -> u128
-    ensures { result ≡ bits_of_value (value_of value) }
+    ensures { result ≡ bits_of_value (value_as_read value) }
 {
     match value {
         Value::Bool(truth) => of_truth(truth).bits(),
@@ -226,7 +226,7 @@ fn bits_of(value: Value) -> u128
 
 /// What a cast to a character makes of a value: of one, and of a byte.
 fn as_code(value: Value) -> Result<Value, FaultKind>
-    ensures { seen value_of result ≡ as_code (value_of value) }
+    ensures { seen value_as_read result ≡ as_code (value_as_read value) }
 {
     match value {
         Value::Char(code) => Ok(Value::Char(code)),
@@ -237,7 +237,7 @@ fn as_code(value: Value) -> Result<Value, FaultKind>
 
 /// What a cast makes of a value.
 pub(crate) fn cast(value: Value, kind: Kind, pointer_bits: u32) -> Result<Value, FaultKind>
-    ensures { seen value_of result ≡ cast_of pointer_bits kind (value_of value) }
+    ensures { seen value_as_read result ≡ cast_of pointer_bits kind (value_as_read value) }
 {
     match kind {
         Kind::Integer(wanted) => {
@@ -268,7 +268,7 @@ pub(crate) fn same_integer(a: IntegerKind, b: IntegerKind) -> bool
 
 /// Whether two types of constants are one.
 pub(crate) fn same_kind(a: Kind, b: Kind) -> bool
-    ensures { result ≡ same_kind a b }
+    ensures { result ≡ is_same_kind a b }
 {
     match (a, b) {
         (Kind::Bool, Kind::Bool) => true,

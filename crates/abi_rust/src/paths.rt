@@ -4,7 +4,7 @@ ghost use Rattle.std.specs.Prelude.{◌≡◌, ◌+◌, IfNone, IfSome, length, 
 ghost use Rattle.std.specs.Option.{option_copied};
 ghost use Rattle.rust_source.specs.declared.syntax.Path.{out-Path};
 ghost use Rattle.abi_rust.specs.Kinds.{found_by, most_aliases, type_named};
-ghost use Rattle.abi_rust.specs.Names.{behind, beside_module, declared, first, found, found_of, most_modules, most_uses, names_of, own, parent, path_named, root, space_before, target, target_with, within};
+ghost use Rattle.abi_rust.specs.Names.{named_behind, beside_module, declared, first, found, found_of, most_modules, most_uses, names_in_path, own, parent, path_named, root, space_before, target, target_with, within};
 
 use crate::scope::Scope;
 use crate::ty::Primitive;
@@ -107,7 +107,7 @@ fn names_named(
     room: u32,
 ) -> Option<Found>
     ensures { result ≡ path_named items.now scope.now (target items.now scope.now room)
-        count «module» (out-Path path.now).is_global space None (names_of path.now) }
+        count «module» (out-Path path.now).is_global space None (names_in_path path.now) }
 {
     let mut left = count.checked_sub(1)?;
     let (begin, rest) = path.segments.as_slice().split_first()?;
@@ -192,7 +192,7 @@ fn beside_module(
     space: Space,
     found: Option<Found>,
 ) -> Option<Found>
-    ensures { result ≡ beside_module items.now scope.now count space (names_of path.now) found }
+    ensures { result ≡ beside_module items.now scope.now count space (names_in_path path.now) found }
 {
     if let Some(Found::Module(_)) = found {
         if count == 1 && space == Space::Types {
@@ -361,7 +361,7 @@ fn first(
 
 /// What a name behind another names.
 #[cycle(names)]
-#[tactic(auto, unfolding(crate::specs::Names::behind))]
+#[tactic(auto, unfolding(crate::specs::Names::named_behind))]
 fn behind(
     items: &Items,
     scope: &Scope,
@@ -370,7 +370,7 @@ fn behind(
     space: Space,
     room: u32,
 ) -> Option<Found>
-    ensures { result ≡ behind items.now scope.now (target items.now scope.now room) before name space }
+    ensures { result ≡ named_behind items.now scope.now (target items.now scope.now room) before name space }
 {
     let Some(Found::Module(module)) = before else {
         return None;

@@ -2,10 +2,10 @@
 
 ghost use Rattle.std.specs.Prelude.{◌≡◌};
 ghost use Rattle.abi_rust.specs.Evaluating.{made_at};
-ghost use Rattle.abi_rust.specs.Meaning.{Answers};
+ghost use Rattle.abi_rust.specs.Meaning.{Means};
 ghost use Rattle.abi_rust.specs.Operators.{seen};
-ghost use Rattle.abi_rust.specs.Values.{value_of};
-ghost use Rattle.abi_rust.specs.Places.{place_of, place_of_path};
+ghost use Rattle.abi_rust.specs.Values.{value_as_read};
+ghost use Rattle.abi_rust.specs.Places.{place_of_expr, place_of_path};
 
 use crate::fault::{FaultKind, Stop, stop_at};
 use crate::ty::Value;
@@ -13,7 +13,7 @@ use rust_source::{Expr, Path, Place};
 
 /// Where an expression stands.
 pub(crate) fn place_of(expr: &Expr) -> Place
-    ensures { result ≡ place_of expr.now }
+    ensures { result ≡ place_of_expr expr.now }
 {
     match expr {
         Expr::Integer(_, _, at) => *at,
@@ -42,7 +42,7 @@ pub(crate) fn place_of_path(path: &Path) -> Place
 
 /// A fault at a place, where there is one.
 pub(crate) fn at_place(at: Place, found: Result<Value, FaultKind>) -> Result<Value, Stop>
-    ensures { Answers value_of (made_at at (seen value_of found)) result }
+    ensures { Means value_as_read (made_at at (seen value_as_read found)) result }
 {
     match found {
         Ok(value) => Ok(value),

@@ -3,8 +3,8 @@
 ghost use Rattle.std.specs.Prelude.{◌≡◌, None};
 ghost use Rattle.std.specs.Option.{option_map};
 ghost use Rattle.abi_rust.specs.Scalars.{type_of_kind};
-ghost use Rattle.abi_rust.specs.Meaning.{Answers};
-ghost use Rattle.abi_rust.specs.Reprs.{alignment_in, asks_beside, enum_fault, fields_fault, flags_of, plain, repr_by, repr_fault, repr_of};
+ghost use Rattle.abi_rust.specs.Meaning.{Means};
+ghost use Rattle.abi_rust.specs.Reprs.{alignment_asked, asks_beside, repr_fault_of_enum, repr_fault_of_fields, flags_of, no_repr, repr_by, repr_fault, repr_of};
 
 use crate::fault::{FaultKind, Stop, stop_at};
 use crate::scalars::integer_type;
@@ -16,7 +16,7 @@ use rust_source::{IntegerKind, Item, ItemKind, Place, Repr};
 
 /// What asks for nothing.
 pub(crate) fn plain() -> ReprOptions
-    ensures { result ≡ plain }
+    ensures { result ≡ no_repr }
 {
     ReprOptions {
         int: None,
@@ -31,7 +31,7 @@ pub(crate) fn plain() -> ReprOptions
 /// What an item's repr asks for, or the fault that the compiler finds in it.
 #[tactic(auto, unfolding(crate::specs::Reprs::repr_of))]
 pub(crate) fn repr_of(item: &Item) -> Result<ReprOptions, Stop>
-    ensures { Answers (λ repr. repr) (repr_of item.now) result }
+    ensures { Means (λ repr. repr) (repr_of item.now) result }
 {
     let repr = &item.repr;
     let Some(at) = repr.at else {
@@ -45,7 +45,7 @@ pub(crate) fn repr_of(item: &Item) -> Result<ReprOptions, Stop>
 
 /// What a repr asks for in which the compiler finds no fault.
 fn options_of(repr: &Repr, at: Place) -> Result<ReprOptions, Stop>
-    ensures { Answers (λ repr. repr) (repr_by at repr.now None) result }
+    ensures { Means (λ repr. repr) (repr_by at repr.now None) result }
 {
     let align = alignment(repr.align, at)?;
     let pack = alignment(repr.packed, at)?;
@@ -88,7 +88,7 @@ fn flags_of(repr: &Repr) -> ReprFlags
 
 /// An alignment of so many bytes.
 fn alignment(bytes: Option<u64>, at: Place) -> Result<Option<Align>, Stop>
-    ensures { Answers (λ align. align) (alignment_in at bytes) result }
+    ensures { Means (λ align. align) (alignment_asked at bytes) result }
 {
     let Some(bytes) = bytes else {
         return Ok(None);
@@ -130,7 +130,7 @@ fn asks_else(repr: &Repr) -> bool
 
 /// What is wrong with a repr on an enum of so many variants.
 fn fault_on_enum(repr: &Repr, variants: usize) -> Option<FaultKind>
-    ensures { result ≡ enum_fault repr.now variants }
+    ensures { result ≡ repr_fault_of_enum repr.now variants }
 {
     if repr.packed.is_some() {
         return Some(FaultKind::PackedEnum);
@@ -146,7 +146,7 @@ fn fault_on_enum(repr: &Repr, variants: usize) -> Option<FaultKind>
 
 /// What is wrong with a repr on a struct or a union.
 fn fault_on_fields(repr: &Repr) -> Option<FaultKind>
-    ensures { result ≡ fields_fault repr.now }
+    ensures { result ≡ repr_fault_of_fields repr.now }
 {
     if repr.integer.is_some() {
         return Some(FaultKind::IntegerRepr);

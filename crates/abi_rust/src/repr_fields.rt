@@ -3,7 +3,7 @@
 ghost use Rattle.std.specs.Prelude.{◌≡◌, Ok, map, true};
 ghost use Rattle.abi_laid.specs.Tree.{tree_of};
 ghost use Rattle.abi_rust.specs.Aligned.{aligning, any_aligned, any_fields, any_written, discriminants_checked, fields_aligned, packed_checked, place_of_repr, type_aligned};
-ghost use Rattle.abi_rust.specs.Meaning.{Answers, after};
+ghost use Rattle.abi_rust.specs.Meaning.{Means, then_meant};
 ghost use Rattle.abi_rust.specs.Measure.{IsMeasure, Measure, room_takers, takes_room, transparent_checked};
 
 use crate::fault::{FaultKind, Stop, stop_at};
@@ -21,7 +21,7 @@ pub(crate) fn check_transparent(
     fields: &[TypeTree],
 ) -> Result<(), Stop>
     ensures { (m : Measure) → IsMeasure cx.now.dl.now m →
-        Answers (λ _. true) (transparent_checked m item.now (map tree_of fields.now)) result }
+        Means (λ _. true) (transparent_checked m item.now (map tree_of fields.now)) result }
 {
     if !item.repr.transparent || fields.len() < 2 {
         return Ok(());
@@ -36,7 +36,7 @@ pub(crate) fn check_transparent(
 #[tactic(auto, using(crate::proofs::Measures::takers_more, crate::proofs::Measures::takers_done))]
 fn room_takers(cx: &Context<'_, '_>, fields: &[TypeTree]) -> Result<usize, Stop>
     ensures { (m : Measure) → IsMeasure cx.now.dl.now m →
-        Answers (λ n. n) (room_takers m (map tree_of fields.now)) result }
+        Means (λ n. n) (room_takers m (map tree_of fields.now)) result }
 {
     let mut count = 0usize;
     for field in fields {
@@ -50,7 +50,7 @@ fn room_takers(cx: &Context<'_, '_>, fields: &[TypeTree]) -> Result<usize, Stop>
 /// Whether it takes room or is aligned to more than a byte.
 fn takes_room(cx: &Context<'_, '_>, field: &TypeTree) -> Result<bool, Stop>
     ensures { (m : Measure) → IsMeasure cx.now.dl.now m →
-        Answers (λ is. is) (after (λ s. Ok (takes_room s)) (m (tree_of field.now))) result }
+        Means (λ is. is) (then_meant (λ s. Ok (takes_room s)) (m (tree_of field.now))) result }
 {
     let (size, align) = size_and_align(cx, field)?;
     Ok(size != 0 || align != 1)
@@ -77,7 +77,7 @@ pub(crate) fn check_packed<'a>(
     fields: &Fields,
     room: u32,
 ) -> Result<(), Stop>
-    ensures { Answers (λ _. true) (packed_checked cx.now room item.now fields.now.all.items) result }
+    ensures { Means (λ _. true) (packed_checked cx.now room item.now fields.now.all.items) result }
 {
     if item.repr.packed.is_none() {
         return Ok(());
@@ -98,7 +98,7 @@ fn has_aligned<'a>(
     fields: &[Field],
     room: u32,
 ) -> Result<bool, Stop>
-    ensures { Answers (λ is. is) ((aligning cx.now room).of_fields «module» fields.now) result }
+    ensures { Means (λ is. is) ((aligning cx.now room).of_fields «module» fields.now) result }
 {
     let room = less(room)?;
     any_aligned(cx, work, module, fields, room)
@@ -114,7 +114,7 @@ fn any_aligned<'a>(
     fields: &[Field],
     room: u32,
 ) -> Result<bool, Stop>
-    ensures { Answers (λ is. is) (any_aligned cx.now (aligning cx.now room) «module» fields.now) result }
+    ensures { Means (λ is. is) (any_aligned cx.now (aligning cx.now room) «module» fields.now) result }
 {
     for field in fields {
         if is_aligned(cx, work, module, &field.ty, room)? {
@@ -134,7 +134,7 @@ fn is_aligned<'a>(
     ty: &Type,
     room: u32,
 ) -> Result<bool, Stop>
-    ensures { Answers (λ is. is) ((aligning cx.now room).of_type «module» ty.now) result }
+    ensures { Means (λ is. is) ((aligning cx.now room).of_type «module» ty.now) result }
 {
     work.spend()?;
     let room = less(room)?;
@@ -151,7 +151,7 @@ fn is_aligned_with<'a>(
     ty: &Type,
     room: u32,
 ) -> Result<bool, Stop>
-    ensures { Answers (λ is. is) (type_aligned cx.now (aligning cx.now room) «module» ty.now) result }
+    ensures { Means (λ is. is) (type_aligned cx.now (aligning cx.now room) «module» ty.now) result }
 {
     let Some(Found::Item(number)) = found_by(cx.items, cx.scope, module, ty) else {
         return Ok(false);
@@ -177,7 +177,7 @@ fn is_item_aligned<'a>(
     fields: &[Field],
     room: u32,
 ) -> Result<bool, Stop>
-    ensures { Answers (λ is. is) ((aligning cx.now room).of_item item.now fields.now) result }
+    ensures { Means (λ is. is) ((aligning cx.now room).of_item item.now fields.now) result }
 {
     let room = less(room)?;
     is_item_aligned_with(cx, work, item, fields, room)
@@ -193,7 +193,7 @@ fn is_item_aligned_with<'a>(
     fields: &[Field],
     room: u32,
 ) -> Result<bool, Stop>
-    ensures { Answers (λ is. is) (fields_aligned cx.now (aligning cx.now room) item.now fields.now) result }
+    ensures { Means (λ is. is) (fields_aligned cx.now (aligning cx.now room) item.now fields.now) result }
 {
     if item.repr.align.is_some() {
         return Ok(true);
@@ -230,7 +230,7 @@ fn any_fields(variants: &[Variant]) -> bool
 
 /// A fault where an enum with a discriminant and a variant with fields has no integer as its repr.
 pub(crate) fn check_discriminants(item: &Item, all: &Enum) -> Result<(), Stop>
-    ensures { Answers (λ _. true) (discriminants_checked item.now all.now.variants.items) result }
+    ensures { Means (λ _. true) (discriminants_checked item.now all.now.variants.items) result }
 {
     if item.repr.integer.is_some() {
         return Ok(());

@@ -6,11 +6,11 @@ ghost use Rattle.rust_source.specs.declared.syntax.Argument.{out-Argument};
 ghost use Rattle.rust_source.specs.declared.syntax.Path.{out-Path};
 ghost use Rattle.rust_source.specs.declared.syntax.Segment.{out-Segment};
 ghost use Rattle.rust_source.specs.declared.syntax.«Type».{out-Type};
-ghost use Rattle.abi_rust.specs.Meaning.{Answers};
-ghost use Rattle.abi_rust.specs.Resolving.{argument_given, default_given, first_name, give, given_constant, given_type, inner, is_behind_type, is_self, is_wanted, item_under, item_with, length_by, length_of, named_by, named_type, one_given, path_type, resolver, self_by, tuple_from, type_as_constant, type_given, type_on, type_with, unknown};
+ghost use Rattle.abi_rust.specs.Meaning.{Means};
+ghost use Rattle.abi_rust.specs.Resolving.{argument_given, default_given, first_name, give, given_constant, given_type, inner, is_behind_type, is_self, is_wanted, item_under, item_with, length_by, length_of, type_named_by, named_type, one_given, path_type, resolver, self_by, tuple_from, type_as_constant, type_given, type_of_layer, type_with, unknown};
 ghost use Rattle.abi_rust.specs.Resolving.{most_deep};
 ghost use Rattle.abi_rust.specs.Types.{all_given, given_of, ty_of, where_of};
-ghost use Rattle.abi_rust.specs.Values.{value_of};
+ghost use Rattle.abi_rust.specs.Values.{value_as_read};
 
 use crate::evaluate::{evaluate, evaluate_path};
 use crate::fault::{FaultKind, Stop, stop_at};
@@ -38,7 +38,7 @@ pub(crate) fn resolve<'a>(
     ty: &'a Type,
     room: u32,
 ) -> Result<Ty, Stop>
-    ensures { Answers ty_of (resolver cx.now room (where_of setting.entry) ty.now) result }
+    ensures { Means ty_of (resolver cx.now room (where_of setting.entry) ty.now) result }
 {
     work.spend()?;
     let room = less(room)?;
@@ -55,7 +55,7 @@ fn resolve_with<'a>(
     ty: &'a Type,
     room: u32,
 ) -> Result<Ty, Stop>
-    ensures { Answers ty_of (type_with cx.now (inner cx.now room) (where_of setting.entry) ty.now) result }
+    ensures { Means ty_of (type_with cx.now (inner cx.now room) (where_of setting.entry) ty.now) result }
 {
     match ty {
         Type::Never => Ok(Ty::Never),
@@ -94,7 +94,7 @@ fn resolve_tuple<'a>(
     parts: &'a [Type],
     room: u32,
 ) -> Result<Ty, Stop>
-    ensures { Answers ty_of
+    ensures { Means ty_of
         (tuple_from cx.now (inner cx.now room) (where_of setting.entry) [] parts.now) result }
 {
     let mut resolved = Vec::new(cx.alloc);
@@ -113,7 +113,7 @@ fn length<'a>(
     setting: Setting<'_>,
     count: &'a Expr,
 ) -> Result<u64, Stop>
-    ensures { Answers (λ n. n) (length_of cx.now (where_of setting.entry) count.now) result }
+    ensures { Means (λ n. n) (length_of cx.now (where_of setting.entry) count.now) result }
 {
     let wanted = Some(Kind::Integer(IntegerKind::Usize));
     let value = evaluate(cx, work, setting, count, wanted, most_deep())?;
@@ -122,7 +122,7 @@ fn length<'a>(
 
 /// A value as an array's length.
 fn length_by(cx: &Context<'_, '_>, value: Value, count: &Expr) -> Result<u64, Stop>
-    ensures { Answers (λ n. n) (length_by cx.now count.now (value_of value)) result }
+    ensures { Means (λ n. n) (length_by cx.now count.now (value_as_read value)) result }
 {
     match value {
         Value::Integer(_, int) => match u64::try_from(int.magnitude) {
@@ -163,7 +163,7 @@ fn resolve_path<'a>(
     path: &'a Path,
     room: u32,
 ) -> Result<Ty, Stop>
-    ensures { Answers ty_of (path_type cx.now (inner cx.now room) (where_of setting.entry) path.now) result }
+    ensures { Means ty_of (path_type cx.now (inner cx.now room) (where_of setting.entry) path.now) result }
 {
     if let Some(ty) = type_given(cx, setting, path) {
         return copy_of(cx.alloc, work, ty);
@@ -184,7 +184,7 @@ fn resolve_named<'a>(
     path: &'a Path,
     room: u32,
 ) -> Result<Ty, Stop>
-    ensures { Answers ty_of (named_type cx.now (inner cx.now room) (where_of setting.entry) path.now) result }
+    ensures { Means ty_of (named_type cx.now (inner cx.now room) (where_of setting.entry) path.now) result }
 {
     let at = place_of_path(path);
     let Some(last) = path.segments.last() else {
@@ -205,7 +205,7 @@ fn self_type(
     setting: Setting<'_>,
     path: &Path,
 ) -> Result<Ty, Stop>
-    ensures { Answers ty_of (self_by cx.now (where_of setting.entry) path.now setting.entry.item) result }
+    ensures { Means ty_of (self_by cx.now (where_of setting.entry) path.now setting.entry.item) result }
 {
     match setting.item {
         Some(item) => Ok(Ty::Adt(item, copies_of(cx.alloc, work, setting.given)?)),
@@ -254,7 +254,7 @@ fn resolve_item<'a>(
     last: &'a Segment,
     room: u32,
 ) -> Result<Ty, Stop>
-    ensures { Answers ty_of ((inner cx.now room).item_of (where_of setting.entry) number last.now) result }
+    ensures { Means ty_of ((inner cx.now room).item_of (where_of setting.entry) number last.now) result }
 {
     let room = less(room)?;
     resolve_item_with(cx, work, setting, number, last, room)
@@ -271,7 +271,7 @@ fn resolve_item_with<'a>(
     last: &'a Segment,
     room: u32,
 ) -> Result<Ty, Stop>
-    ensures { Answers ty_of
+    ensures { Means ty_of
         (item_with cx.now (inner cx.now room) (where_of setting.entry) number last.now) result }
 {
     let Some(item) = item_at(cx.items, number) else {
@@ -291,7 +291,7 @@ fn item_under<'a>(
     given: Vec<Given>,
     room: u32,
 ) -> Result<Ty, Stop>
-    ensures { Answers ty_of
+    ensures { Means ty_of
         (item_under cx.now (inner cx.now room) number item.now item.now.kind (all_given given.items)) result }
 {
     match &item.kind {
@@ -322,7 +322,7 @@ fn give<'a>(
     last: &'a Segment,
     room: u32,
 ) -> Result<Vec<Given>, Stop>
-    ensures { Answers (λ given. all_given given.items)
+    ensures { Means (λ given. all_given given.items)
         (give cx.now (inner cx.now room) (where_of setting.entry) number item.now last.now) result }
 {
     if last.arguments.len() > item.parameters.len() {
@@ -353,7 +353,7 @@ fn give_one<'a>(
     argument: Option<&'a Argument>,
     room: u32,
 ) -> Result<Given, Stop>
-    ensures { Answers given_of
+    ensures { Means given_of
         (one_given cx.now (inner cx.now room) (where_of setting.entry) number item.now last.now
         (all_given given.now.items) parameter.now.kind (option_copied argument.entry)) result }
 {
@@ -393,7 +393,7 @@ fn given_by<'a>(
     at: Place,
     room: u32,
 ) -> Result<Given, Stop>
-    ensures { Answers given_of
+    ensures { Means given_of
         (argument_given cx.now (inner cx.now room) (where_of setting.entry) «module» at argument.now kind.now) result }
 {
     match kind {
@@ -415,7 +415,7 @@ fn type_given_by<'a>(
     at: Place,
     room: u32,
 ) -> Result<Given, Stop>
-    ensures { Answers given_of
+    ensures { Means given_of
         (given_type cx.now (inner cx.now room) (where_of setting.entry) at (out-Argument argument.now)) result }
 {
     match argument {
@@ -435,7 +435,7 @@ fn constant_given_by<'a>(
     at: Place,
     room: u32,
 ) -> Result<Given, Stop>
-    ensures { Answers given_of
+    ensures { Means given_of
         (given_constant cx.now (inner cx.now room) (where_of setting.entry) at wanted (out-Argument argument.now)) result }
 {
     match argument {
@@ -458,7 +458,7 @@ fn type_as_constant<'a>(
     at: Place,
     room: u32,
 ) -> Result<Given, Stop>
-    ensures { Answers given_of
+    ensures { Means given_of
         (type_as_constant cx.now (inner cx.now room) (where_of setting.entry) at wanted ty.now) result }
 {
     match ty {
@@ -475,7 +475,7 @@ fn type_as_constant<'a>(
 
 /// Whether a value is of the type that is wanted.
 fn is_wanted(wanted: Option<Kind>, value: Value) -> bool
-    ensures { result ≡ is_wanted wanted (value_of value) }
+    ensures { result ≡ is_wanted wanted (value_as_read value) }
 {
     match wanted {
         Some(kind) => same_kind(kind, value.kind()),
@@ -493,7 +493,7 @@ fn given_by_default<'a>(
     last: &Segment,
     room: u32,
 ) -> Result<Given, Stop>
-    ensures { Answers given_of
+    ensures { Means given_of
         (default_given cx.now (inner cx.now room) (where_of inside.entry) last.now kind.now) result }
 {
     match kind {

@@ -1,7 +1,7 @@
 //! The names that each module has.
 
 ghost use Rattle.std.specs.Prelude.{◌≡◌, ◌⊎◌, IfErr, IfOk, None, Some};
-ghost use Rattle.abi_rust.specs.Scope.{constant_in, module_in, own_constant, owner_of, reached_from, type_in, use_in};
+ghost use Rattle.abi_rust.specs.Scope.{constant_standing, module_in, own_constant, owner_of, reached_from, type_standing, use_in};
 ghost use Rattle.abi_rust.specs.ScopeNames.{HasSameNames, HasSameRoots, IsEmpty, KeepsNames, KeepsOwn, repeated_of};
 ghost use Rattle.abi_rust.specs.Standing.{IsMemory};
 
@@ -162,17 +162,17 @@ impl Scope {
     }
 
     /// The type of this name that stands in a module.
-    #[tactic(auto, unfolding(crate::specs::Scope::type_in))]
+    #[tactic(auto, unfolding(crate::specs::Scope::type_standing))]
     pub(crate) fn ty(&self, module: u32, name: Symbol) -> Option<u32>
-        ensures { result ≡ type_in self.now «module» name }
+        ensures { result ≡ type_standing self.now «module» name }
     {
         self.types.get(&key(module, name)).copied()
     }
 
     /// The constant of this name that stands in a module.
-    #[tactic(auto, unfolding(crate::specs::Scope::constant_in))]
+    #[tactic(auto, unfolding(crate::specs::Scope::constant_standing))]
     pub(crate) fn value(&self, module: u32, name: Symbol) -> Option<u32>
-        ensures { result ≡ constant_in self.now «module» name }
+        ensures { result ≡ constant_standing self.now «module» name }
     {
         self.values.get(&key(module, name)).copied()
     }

@@ -4,10 +4,10 @@ ghost use Rattle.std.specs.Prelude.{◌≡◌, Err, Some};
 ghost use Rattle.std.specs.Option.{option_copied};
 ghost use Rattle.abi_rust.specs.Evaluating.{argument_type, asks_by, asks_size, call, only_argument, only_type};
 ghost use Rattle.abi_rust.specs.Kinds.{item_at};
-ghost use Rattle.abi_rust.specs.Meaning.{Answers};
+ghost use Rattle.abi_rust.specs.Meaning.{Means};
 ghost use Rattle.abi_rust.specs.Scope.{module_in};
 ghost use Rattle.abi_rust.specs.Types.{where_of};
-ghost use Rattle.abi_rust.specs.Values.{value_of};
+ghost use Rattle.abi_rust.specs.Values.{value_as_read};
 ghost use Rattle.abi_rust.specs.Words.{symbol_of};
 
 use crate::fault::{FaultKind, Stop, stop_at};
@@ -27,7 +27,7 @@ pub(crate) fn call<'a>(
     path: &'a Path,
     at: Place,
 ) -> Result<Value, Stop>
-    ensures { Answers value_of (call cx.now (where_of setting.entry) path.now at) result }
+    ensures { Means value_as_read (call cx.now (where_of setting.entry) path.now at) result }
 {
     let unevaluated = FaultKind::Unevaluated(Unevaluated::Expression);
     let Some(asks_size) = size_call(cx, setting.module, path) else {
@@ -53,7 +53,7 @@ fn await_size<'a>(
     ty: &'a Type,
     at: Place,
 ) -> Result<Value, Stop>
-    ensures { Answers value_of (Err Stop.Size) result }
+    ensures { Means value_as_read (Err Stop.Size) result }
 {
     let given = copies_of(cx.alloc, work, setting.given)?;
     work.wanted = Some(Request {

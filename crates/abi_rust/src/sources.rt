@@ -2,7 +2,7 @@
 
 ghost use Rattle.std.specs.Prelude.{◌≡◌, ◌-◌, ◌<◌, ◌^◌, IfOk, Some, [], length, slice_get};
 ghost use Rattle.abi_rust.specs.Measure.{IsMeasure, Measure};
-ghost use Rattle.abi_rust.specs.Sources.{IsWorkOver, Tells, TellsWritten, fault_told, is_told, items_of, place_of_item, place_told, pointer_bits};
+ghost use Rattle.abi_rust.specs.Sources.{IsWorkOver, Tells, TellsWritten, fault_told, is_told_of, items_read, place_of_item, place_told, pointer_bits};
 
 use crate::fault::{Fault, FaultKind, FaultPlace, Stop};
 use crate::scope::Scope;
@@ -38,7 +38,7 @@ pub struct Sources {
 impl Sources {
     /// No source. An error comes where a growth of memory was refused.
     pub fn new(alloc: Global) -> Result<Sources, AllocError>
-        ensures { IfOk result (λ sources. items_of sources ≡ []) }
+        ensures { IfOk result (λ sources. items_read sources ≡ []) }
     {
         let mut names = Names::new(alloc)?;
         let words = Words::new(alloc, &mut names)?;
@@ -126,7 +126,7 @@ impl Sources {
 
     /// How many items there are: the standard library's, and then the file's.
     pub fn item_count(&self) -> usize
-        ensures { result ≡ length (items_of self.now) }
+        ensures { result ≡ length (items_read self.now) }
     {
         self.items.items.len()
     }
@@ -134,7 +134,7 @@ impl Sources {
     /// Whether the item is told of by itself: a struct, an enum, a union or an alias of the file that has no type and
     /// no constant as a parameter.
     pub fn is_told(&self, item: usize) -> bool
-        ensures { result ≡ is_told self.now item }
+        ensures { result ≡ is_told_of self.now item }
     {
         if item < self.first {
             return false;
@@ -153,7 +153,7 @@ impl Sources {
 
     /// Where the item's name stands.
     pub fn place_of(&self, item: usize) -> FaultPlace
-        ensures { result ≡ place_of_item self.now (slice_get (items_of self.now) item) }
+        ensures { result ≡ place_of_item self.now (slice_get (items_read self.now) item) }
     {
         match self.items.items.get(item) {
             Some(found) => self.place(Some(found.at)),

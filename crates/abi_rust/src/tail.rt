@@ -2,8 +2,8 @@
 
 ghost use Rattle.std.specs.Prelude.{◌≡◌, IfErr, IfOk, Some, map, true};
 ghost use Rattle.std.specs.Option.{option_copied, option_map};
-ghost use Rattle.abi_rust.specs.Meaning.{Answers, is_beside};
-ghost use Rattle.abi_rust.specs.Tails.{always_sized, assumed, field_tail, is_sized, last_field, last_of, last_type, may_any, outer_of, pointee_tail, tail_inner, tail_of_item_with, tail_of_last, tail_with};
+ghost use Rattle.abi_rust.specs.Meaning.{Means, is_beside};
+ghost use Rattle.abi_rust.specs.Tails.{always_sized, assumed, field_tail, has_known_size, tail_field, last_of, last_type, may_any, outer_of, pointee_tail, tail_inner, tail_of_item_with, tail_of_last, tail_with};
 ghost use Rattle.abi_rust.specs.Types.{all_given, given_of, givens, ty_of, types};
 
 use crate::above::{Above, stands_in, within};
@@ -30,7 +30,7 @@ pub(crate) enum Tail {
 impl Tail {
     /// Whether the size is known.
     pub(crate) fn is_sized(self) -> bool
-        ensures { result ≡ is_sized self }
+        ensures { result ≡ has_known_size self }
     {
         match self {
             Tail::Sized => true,
@@ -46,7 +46,7 @@ pub(crate) fn pointee_tail<'a>(
     work: &mut Work<'a>,
     ty: &Ty,
 ) -> Result<Tail, Stop>
-    ensures { Answers (λ tail. tail) (pointee_tail cx.now (ty_of ty.now)) result }
+    ensures { Means (λ tail. tail) (pointee_tail cx.now (ty_of ty.now)) result }
 {
     tail_of(cx, work, &Above::Nothing, ty, most_deep())
 }
@@ -61,7 +61,7 @@ fn tail_of<'a>(
     ty: &Ty,
     room: u32,
 ) -> Result<Tail, Stop>
-    ensures { Answers (λ tail. tail)
+    ensures { Means (λ tail. tail)
         ((tail_inner cx.now room).tail_of (outer_of above.now) (ty_of ty.now)) result }
 {
     work.spend()?;
@@ -79,7 +79,7 @@ fn tail_with<'a>(
     ty: &Ty,
     room: u32,
 ) -> Result<Tail, Stop>
-    ensures { Answers (λ tail. tail)
+    ensures { Means (λ tail. tail)
         (tail_with cx.now (tail_inner cx.now room) (outer_of above.now) (ty_of ty.now)) result }
 {
     match ty {
@@ -114,7 +114,7 @@ fn tail_of_item<'a>(
     given: &[Given],
     room: u32,
 ) -> Result<Tail, Stop>
-    ensures { Answers (λ tail. tail)
+    ensures { Means (λ tail. tail)
         ((tail_inner cx.now room).tail_of_item (outer_of above.now) number (givens (all_given given.now))) result }
 {
     let room = less(room)?;
@@ -132,7 +132,7 @@ fn tail_of_item_with<'a>(
     given: &[Given],
     room: u32,
 ) -> Result<Tail, Stop>
-    ensures { Answers (λ tail. tail)
+    ensures { Means (λ tail. tail)
         (tail_of_item_with cx.now (tail_inner cx.now room) (outer_of above.now) number
         (givens (all_given given.now))) result }
 {
@@ -158,7 +158,7 @@ fn tail_of_field<'a>(
     last: &'a Field,
     room: u32,
 ) -> Result<Tail, Stop>
-    ensures { Answers (λ tail. tail) (field_tail cx.now (tail_inner cx.now room) (outer_of above.now) number
+    ensures { Means (λ tail. tail) (field_tail cx.now (tail_inner cx.now room) (outer_of above.now) number
         (givens (all_given given.now)) item.now (Some last.now)) result }
 {
     if stands_in(above, number, given) {
@@ -176,7 +176,7 @@ fn tail_of_field<'a>(
 
 /// The last field of a struct or a union.
 fn last_field(item: &Item) -> Option<&Field>
-    ensures { option_copied result ≡ last_field item.now.kind }
+    ensures { option_copied result ≡ tail_field item.now.kind }
 {
     match &item.kind {
         ItemKind::Struct(fields) => last_of(fields.all.as_slice()),
@@ -245,7 +245,7 @@ pub(crate) fn is_always_sized<'a>(
     number: u32,
     item: &Item,
 ) -> Result<bool, Stop>
-    ensures { Answers (λ is. is) (always_sized cx.now number item.now) result }
+    ensures { Means (λ is. is) (always_sized cx.now number item.now) result }
 {
     if !may_any(item.parameters.as_slice()) {
         return Ok(true);

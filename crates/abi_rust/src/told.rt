@@ -3,10 +3,10 @@
 ghost use Rattle.std.specs.Prelude.{◌≡◌, ◌⊎◌, ◌∷◌, ◌++◌, [], Err, IfErr, IfOk, None, OnOk, map, slice_get, true};
 ghost use Rattle.std.specs.Option.{option_map};
 ghost use Rattle.abi_laid.specs.Tree.{tree_of};
-ghost use Rattle.abi_rust.specs.Meaning.{Answers, after, is_beside};
+ghost use Rattle.abi_rust.specs.Meaning.{Means, then_meant, is_beside};
 ghost use Rattle.abi_rust.specs.Measure.{IsMeasure, Measure};
 ghost use Rattle.abi_rust.specs.Sizes.{AreSizes, IsFaultOfSize, IsTold, IsUnder};
-ghost use Rattle.abi_rust.specs.Told.{is_itself, item_shape, item_type, label_of, measured_or, place_of_request, shape_of, shape_read, size_meant, subject_type, told_read, told_type, told_under, variant_label, variant_names};
+ghost use Rattle.abi_rust.specs.Told.{is_itself, item_shape, item_type, label_of, measured_or, place_of_request, shape_of, shape_read, size_meant, subject_type, told_read, told_type, told_under, variant_label, variant_called};
 ghost use Rattle.abi_rust.specs.Trees.{sized_tree};
 ghost use Rattle.abi_rust.specs.Types.{ty_of};
 
@@ -81,7 +81,7 @@ pub(crate) enum Subject<'a> {
 
 /// A subject's type.
 fn type_of<'a>(cx: &Context<'a, '_>, work: &mut Work<'a>, subject: Subject<'a>) -> Result<Ty, Stop>
-    ensures { Answers ty_of (subject_type cx.now subject.entry) result }
+    ensures { Means ty_of (subject_type cx.now subject.entry) result }
 {
     match subject {
         Subject::Written(module, ty) => resolve(cx, work, outside(module), ty, most_deep()),
@@ -91,7 +91,7 @@ fn type_of<'a>(cx: &Context<'a, '_>, work: &mut Work<'a>, subject: Subject<'a>) 
 
 /// The type that an item without parameters is.
 fn type_of_item<'a>(cx: &Context<'a, '_>, work: &mut Work<'a>, number: u32) -> Result<Ty, Stop>
-    ensures { Answers ty_of (item_type cx.now number (slice_get cx.now.items.now.items.items number)) result }
+    ensures { Means ty_of (item_type cx.now number (slice_get cx.now.items.now.items.items number)) result }
 {
     let Some(item) = item_at(cx.items, number) else {
         return Ok(Ty::Adt(number, Vec::new(cx.alloc)));
@@ -110,7 +110,7 @@ fn sized_tree<'a>(
     ty: &Ty,
 ) -> Result<Option<TypeTree>, Stop>
     ensures { (m : Measure) → IsMeasure cx.now.dl.now m →
-        Answers (option_map tree_of) (sized_tree cx.now m (ty_of ty.now)) result }
+        Means (option_map tree_of) (sized_tree cx.now m (ty_of ty.now)) result }
 {
     if !pointee_tail(cx, work, ty)?.is_sized() {
         return Ok(None);
@@ -128,7 +128,7 @@ fn attempt<'a>(
     file: Place,
 ) -> Result<Option<Told>, Stop>
     ensures { (m : Measure) → IsMeasure cx.now.dl.now m →
-        Answers (option_map told_read) (told_under cx.now m subject.entry file) result }
+        Means (option_map told_read) (told_under cx.now m subject.entry file) result }
 {
     let ty = type_of(cx, work, subject)?;
     told_type(cx, work, subject, file, &ty)
@@ -143,7 +143,7 @@ fn told_type<'a>(
     ty: &Ty,
 ) -> Result<Option<Told>, Stop>
     ensures { (m : Measure) → IsMeasure cx.now.dl.now m →
-        Answers (option_map told_read) (told_type cx.now m subject.entry file (ty_of ty.now)) result }
+        Means (option_map told_read) (told_type cx.now m subject.entry file (ty_of ty.now)) result }
 {
     match sized_tree(cx, work, ty)? {
         Some(tree) => {
@@ -162,7 +162,7 @@ pub(crate) fn tell<'a>(
 ) -> Result<Option<Told>, Stop>
     ensures exact { (m : Measure) → IsMeasure cx.now.dl.now m →
         (told_under cx.now m subject.entry file ≡ Err Stop.Size → ⊥) →
-        Answers (option_map told_read) (told_under cx.now m subject.entry file) result }
+        Means (option_map told_read) (told_under cx.now m subject.entry file) result }
     ensures told { (m : Measure) → IsMeasure cx.now.dl.now m → cx.now.known.now ≡ [] →
         IsTold cx.now m subject.entry file result }
 {
@@ -209,7 +209,7 @@ fn attempt_under<'a>(
 ) -> Result<Option<Told>, Stop>
     ensures { (m : Measure) → IsMeasure cx.now.dl.now m →
         (under : Context) × IsUnder cx.now known.now.items under ×
-        Answers (option_map told_read) (told_under under m subject.entry file) result }
+        Means (option_map told_read) (told_under under m subject.entry file) result }
 {
     let under = knowing(cx, known);
     attempt(&under, work, subject, file)
@@ -308,7 +308,7 @@ fn size_under<'a>(
 ) -> Result<(u64, u64), Stop>
     ensures { (m : Measure) → IsMeasure cx.now.dl.now m →
         (under : Context) × IsUnder cx.now known.now.items under ×
-        Answers (λ s. s) (size_meant under m request.now.at (place_of_request request.now) request.now.ty.now) result }
+        Means (λ s. s) (size_meant under m request.now.at (place_of_request request.now) request.now.ty.now) result }
 {
     let under = knowing(cx, known);
     size_of(&under, work, request)
@@ -321,7 +321,7 @@ fn size_of<'a>(
     work: &mut Work<'a>,
     request: &Request<'a>,
 ) -> Result<(u64, u64), Stop>
-    ensures { (m : Measure) → IsMeasure cx.now.dl.now m → Answers (λ s. s)
+    ensures { (m : Measure) → IsMeasure cx.now.dl.now m → Means (λ s. s)
         (size_meant cx.now m request.now.at (place_of_request request.now) request.now.ty.now) result }
 {
     let setting = Setting {
@@ -340,8 +340,8 @@ fn size_of_type<'a>(
     at: Place,
     ty: &Ty,
 ) -> Result<(u64, u64), Stop>
-    ensures { (m : Measure) → IsMeasure cx.now.dl.now m → Answers (λ s. s)
-        (after (measured_or cx.now m at) (sized_tree cx.now m (ty_of ty.now))) result }
+    ensures { (m : Measure) → IsMeasure cx.now.dl.now m → Means (λ s. s)
+        (then_meant (measured_or cx.now m at) (sized_tree cx.now m (ty_of ty.now))) result }
 {
     match sized_tree(cx, work, ty)? {
         Some(tree) => size_and_align(cx, &tree),
@@ -351,7 +351,7 @@ fn size_of_type<'a>(
 
 /// The size and the alignment of a tree, in bytes.
 pub(crate) fn size_and_align(cx: &Context<'_, '_>, tree: &TypeTree) -> Result<(u64, u64), Stop>
-    ensures { (m : Measure) → IsMeasure cx.now.dl.now m → Answers (λ s. s) (m (tree_of tree.now)) result }
+    ensures { (m : Measure) → IsMeasure cx.now.dl.now m → Means (λ s. s) (m (tree_of tree.now)) result }
 {
     match lay_out(cx.alloc, cx.dl, tree) {
         Ok(laid) => {
@@ -417,7 +417,7 @@ fn labels_of_variants(
     all: &[Variant],
     file: Place,
 ) -> Result<Vec<VariantLabels>, Stop>
-    ensures ok { IfOk result (λ labels. map variant_names labels.items ≡ map (variant_label file) all.now) }
+    ensures ok { IfOk result (λ labels. map variant_called labels.items ≡ map (variant_label file) all.now) }
     ensures err { IfErr result (λ e. is_beside e ≡ true) }
 {
     let mut labels = Vec::new(cx.alloc);
@@ -430,8 +430,8 @@ fn labels_of_variants(
 
 /// Puts a variant's names behind the others.
 fn push_variant(all: &mut Vec<VariantLabels>, name: Symbol, fields: Vec<Label>) -> Result<(), Stop>
-    ensures ok { OnOk result (map variant_names all.new.items
-        ≡ map variant_names all.old.items ++ (name, fields.items) ∷ []) }
+    ensures ok { OnOk result (map variant_called all.new.items
+        ≡ map variant_called all.old.items ++ (name, fields.items) ∷ []) }
     ensures err { IfErr result (λ e. is_beside e ≡ true) }
 {
     all.push(VariantLabels { name, fields })?;

@@ -4,13 +4,13 @@ ghost use Rattle.std.specs.Prelude.{◌≡◌, ◌∷◌, ◌++◌, [], IfErr, N
 ghost use Rattle.std.specs.Int.{cast_unsigned, w128};
 ghost use Rattle.std.specs.Option.{option_copied, option_map};
 ghost use Rattle.abi_laid.specs.Tree.{tree_of};
-ghost use Rattle.abi_rust.specs.Int.{number_of};
-ghost use Rattle.abi_rust.specs.Meaning.{Answers, is_beside};
+ghost use Rattle.abi_rust.specs.Int.{number_of_int};
+ghost use Rattle.abi_rust.specs.Meaning.{Means, is_beside};
 ghost use Rattle.abi_rust.specs.Measure.{IsMeasure, Measure, each_meant};
 ghost use Rattle.abi_rust.specs.Tails.{outer_of};
-ghost use Rattle.abi_rust.specs.Trees.{checked_trees, discriminant_value, enum_tree, field_tree, field_trees, first_limited, item_by, item_tree, kind_tree, number_in, stop_in, struct_fields, struct_tree, tree_inner, tuple_of, tuple_tree, type_tree, union_tree, variant_number, variant_read, variant_tree, variant_trees};
+ghost use Rattle.abi_rust.specs.Trees.{checked_trees, discriminant_value, enum_tree, field_tree, field_trees, first_limited, tree_by_item, item_tree, kind_tree, number_meant, stop_in, struct_fields, struct_tree, tree_inner, tuple_of, tuple_tree, type_tree, union_tree, variant_number, variant_as_tree, variant_tree, variant_trees};
 ghost use Rattle.abi_rust.specs.Types.{all_given, givens, list_of_types, ty_of, types, where_of};
-ghost use Rattle.abi_rust.specs.Values.{value_of};
+ghost use Rattle.abi_rust.specs.Values.{value_as_read};
 
 use crate::above::{Above, stands_in, within};
 use crate::discriminants::discriminant_kind;
@@ -41,7 +41,7 @@ pub(crate) fn tree<'a>(
     ty: &Ty,
     room: u32,
 ) -> Result<TypeTree, Stop>
-    ensures { (m : Measure) → IsMeasure cx.now.dl.now m → Answers tree_of
+    ensures { (m : Measure) → IsMeasure cx.now.dl.now m → Means tree_of
         ((tree_inner cx.now m room).of_type (outer_of above.now) (ty_of ty.now)) result }
 {
     work.spend()?;
@@ -59,7 +59,7 @@ fn tree_with<'a>(
     ty: &Ty,
     room: u32,
 ) -> Result<TypeTree, Stop>
-    ensures { (m : Measure) → IsMeasure cx.now.dl.now m → Answers tree_of
+    ensures { (m : Measure) → IsMeasure cx.now.dl.now m → Means tree_of
         (type_tree cx.now m (tree_inner cx.now m room) (outer_of above.now) (ty_of ty.now)) result }
 {
     match ty {
@@ -91,7 +91,7 @@ fn tree_of_tuple<'a>(
     parts: &[Ty],
     room: u32,
 ) -> Result<TypeTree, Stop>
-    ensures { (m : Measure) → IsMeasure cx.now.dl.now m → Answers tree_of (tuple_tree cx.now m
+    ensures { (m : Measure) → IsMeasure cx.now.dl.now m → Means tree_of (tuple_tree cx.now m
         (tree_inner cx.now m room) (outer_of above.now) (list_of_types (types (map ty_of parts.now)))) result }
 {
     let fields = trees_of_types(cx, work, above, parts, room)?;
@@ -131,7 +131,7 @@ fn trees_of_types<'a>(
     parts: &[Ty],
     room: u32,
 ) -> Result<Vec<TypeTree>, Stop>
-    ensures { (m : Measure) → IsMeasure cx.now.dl.now m → Answers (λ all. map tree_of all.items)
+    ensures { (m : Measure) → IsMeasure cx.now.dl.now m → Means (λ all. map tree_of all.items)
         (each_meant ((tree_inner cx.now m room).of_type (outer_of above.now))
         (list_of_types (types (map ty_of parts.now)))) result }
 {
@@ -154,7 +154,7 @@ fn tree_of_item<'a>(
     given: &[Given],
     room: u32,
 ) -> Result<TypeTree, Stop>
-    ensures { (m : Measure) → IsMeasure cx.now.dl.now m → Answers tree_of
+    ensures { (m : Measure) → IsMeasure cx.now.dl.now m → Means tree_of
         ((tree_inner cx.now m room).of_item (outer_of above.now) number (givens (all_given given.now))) result }
 {
     let room = less(room)?;
@@ -172,7 +172,7 @@ fn tree_of_item_with<'a>(
     given: &[Given],
     room: u32,
 ) -> Result<TypeTree, Stop>
-    ensures { (m : Measure) → IsMeasure cx.now.dl.now m → Answers tree_of (item_tree cx.now m
+    ensures { (m : Measure) → IsMeasure cx.now.dl.now m → Means tree_of (item_tree cx.now m
         (tree_inner cx.now m room) (outer_of above.now) number (givens (all_given given.now))) result }
 {
     let Some(item) = item_at(cx.items, number) else {
@@ -192,7 +192,7 @@ fn tree_of_found<'a>(
     item: &'a Item,
     room: u32,
 ) -> Result<TypeTree, Stop>
-    ensures { (m : Measure) → IsMeasure cx.now.dl.now m → Answers tree_of (item_by cx.now m
+    ensures { (m : Measure) → IsMeasure cx.now.dl.now m → Means tree_of (tree_by_item cx.now m
         (tree_inner cx.now m room) (outer_of above.now) number (givens (all_given given.now)) (Some item.now)) result }
 {
     if stands_in(above, number, given) {
@@ -218,7 +218,7 @@ fn tree_of_kind<'a>(
     item: &'a Item,
     room: u32,
 ) -> Result<TypeTree, Stop>
-    ensures { (m : Measure) → IsMeasure cx.now.dl.now m → Answers tree_of (kind_tree cx.now m
+    ensures { (m : Measure) → IsMeasure cx.now.dl.now m → Means tree_of (kind_tree cx.now m
         (tree_inner cx.now m room) (outer_of above.now) (where_of inside.entry) number item.now item.now.kind) result }
 {
     match &item.kind {
@@ -244,7 +244,7 @@ fn tree_of_struct<'a>(
     fields: &'a Fields,
     room: u32,
 ) -> Result<TypeTree, Stop>
-    ensures { (m : Measure) → IsMeasure cx.now.dl.now m → Answers tree_of (struct_tree cx.now m
+    ensures { (m : Measure) → IsMeasure cx.now.dl.now m → Means tree_of (struct_tree cx.now m
         (tree_inner cx.now m room) (outer_of above.now) (where_of inside.entry) number item.now
         fields.now.all.items) result }
 {
@@ -270,7 +270,7 @@ fn fields_of_struct<'a>(
     fields: &'a Fields,
     room: u32,
 ) -> Result<Vec<TypeTree>, Stop>
-    ensures { (m : Measure) → IsMeasure cx.now.dl.now m → Answers (λ all. map tree_of all.items)
+    ensures { (m : Measure) → IsMeasure cx.now.dl.now m → Means (λ all. map tree_of all.items)
         (struct_fields cx.now m (tree_inner cx.now m room) (outer_of above.now) (where_of inside.entry) item.now
         fields.now.all.items) result }
 {
@@ -305,7 +305,7 @@ fn checked_trees<'a>(
     fields: &'a [Field],
     room: u32,
 ) -> Result<Vec<TypeTree>, Stop>
-    ensures { (m : Measure) → IsMeasure cx.now.dl.now m → Answers (λ all. map tree_of all.items)
+    ensures { (m : Measure) → IsMeasure cx.now.dl.now m → Means (λ all. map tree_of all.items)
         (checked_trees cx.now m (tree_inner cx.now m room) (outer_of above.now) (where_of inside.entry) item.now
         fields.now) result }
 {
@@ -325,7 +325,7 @@ fn trees_of<'a>(
     fields: &'a [Field],
     room: u32,
 ) -> Result<Vec<TypeTree>, Stop>
-    ensures { (m : Measure) → IsMeasure cx.now.dl.now m → Answers (λ all. map tree_of all.items)
+    ensures { (m : Measure) → IsMeasure cx.now.dl.now m → Means (λ all. map tree_of all.items)
         (field_trees cx.now m (tree_inner cx.now m room) (outer_of above.now) (where_of inside.entry)
         fields.now) result }
 {
@@ -347,7 +347,7 @@ fn tree_of_field<'a>(
     field: &'a Field,
     room: u32,
 ) -> Result<TypeTree, Stop>
-    ensures { (m : Measure) → IsMeasure cx.now.dl.now m → Answers tree_of (field_tree cx.now m
+    ensures { (m : Measure) → IsMeasure cx.now.dl.now m → Means tree_of (field_tree cx.now m
         (tree_inner cx.now m room) (outer_of above.now) (where_of inside.entry) field.now) result }
 {
     let ty = resolve(cx, work, inside, &field.ty, most_deep())?;
@@ -380,7 +380,7 @@ fn tree_of_union<'a>(
     fields: &'a Fields,
     room: u32,
 ) -> Result<TypeTree, Stop>
-    ensures { (m : Measure) → IsMeasure cx.now.dl.now m → Answers tree_of (union_tree cx.now m
+    ensures { (m : Measure) → IsMeasure cx.now.dl.now m → Means tree_of (union_tree cx.now m
         (tree_inner cx.now m room) (outer_of above.now) (where_of inside.entry) item.now fields.now.all.items) result }
 {
     let repr = repr_of(item)?;
@@ -401,7 +401,7 @@ fn tree_of_enum<'a>(
     all: &'a Enum,
     room: u32,
 ) -> Result<TypeTree, Stop>
-    ensures { (m : Measure) → IsMeasure cx.now.dl.now m → Answers tree_of (enum_tree cx.now m
+    ensures { (m : Measure) → IsMeasure cx.now.dl.now m → Means tree_of (enum_tree cx.now m
         (tree_inner cx.now m room) (outer_of above.now) (where_of inside.entry) item.now all.now.variants.items) result }
 {
     let repr = repr_of(item)?;
@@ -423,7 +423,7 @@ fn trees_of_variants<'a>(
     all: &'a [Variant],
     room: u32,
 ) -> Result<Vec<(u128, Vec<TypeTree>)>, Stop>
-    ensures { (m : Measure) → IsMeasure cx.now.dl.now m → Answers (λ made. map variant_read made.items)
+    ensures { (m : Measure) → IsMeasure cx.now.dl.now m → Means (λ made. map variant_as_tree made.items)
         (variant_trees cx.now m (tree_inner cx.now m room) (outer_of above.now) (where_of inside.entry) item.now None
         all.now) result }
 {
@@ -443,8 +443,8 @@ fn push_variant(
     number: Int,
     fields: Vec<TypeTree>,
 ) -> Result<(), Stop>
-    ensures ok { OnOk result (map variant_read all.new.items ≡ map variant_read all.old.items
-        ++ (cast_unsigned w128 (number_of number), map tree_of fields.items) ∷ []) }
+    ensures ok { OnOk result (map variant_as_tree all.new.items ≡ map variant_as_tree all.old.items
+        ++ (cast_unsigned w128 (number_of_int number), map tree_of fields.items) ∷ []) }
     ensures err { IfErr result (λ e. is_beside e ≡ true) }
 {
     all.push((number.bits(), fields))?;
@@ -464,9 +464,9 @@ fn tree_of_variant<'a>(
     last: Option<Int>,
     room: u32,
 ) -> Result<(Int, Vec<TypeTree>), Stop>
-    ensures { (m : Measure) → IsMeasure cx.now.dl.now m → Answers (λ made. (number_of made.0, map tree_of made.1.items))
+    ensures { (m : Measure) → IsMeasure cx.now.dl.now m → Means (λ made. (number_of_int made.0, map tree_of made.1.items))
         (variant_tree cx.now m (tree_inner cx.now m room) (outer_of above.now) (where_of inside.entry) item.now
-        (option_map number_of last) variant.now) result }
+        (option_map number_of_int last) variant.now) result }
 {
     let number = discriminant_of(cx, work, item, variant, last)?;
     let fields = variant.fields.all.as_slice();
@@ -483,7 +483,7 @@ fn discriminant_of<'a>(
     variant: &'a Variant,
     last: Option<Int>,
 ) -> Result<Int, Stop>
-    ensures { Answers number_of (variant_number cx.now item.now (option_map number_of last) variant.now) result }
+    ensures { Means number_of_int (variant_number cx.now item.now (option_map number_of_int last) variant.now) result }
 {
     let value = discriminant_value(
         cx,
@@ -508,8 +508,8 @@ fn discriminant_value<'a>(
     last: Option<Int>,
     at: Place,
 ) -> Result<Value, Stop>
-    ensures { Answers value_of
-        (discriminant_value cx.now item.now (option_map number_of last) at (option_copied written.entry)) result }
+    ensures { Means value_as_read
+        (discriminant_value cx.now item.now (option_map number_of_int last) at (option_copied written.entry)) result }
 {
     match written {
         Some(expr) => {
@@ -528,7 +528,7 @@ fn number_behind(
     last: Option<Int>,
     at: Place,
 ) -> Result<Value, Stop>
-    ensures { Answers value_of (discriminant_value cx.now item.now (option_map number_of last) at None) result }
+    ensures { Means value_as_read (discriminant_value cx.now item.now (option_map number_of_int last) at None) result }
 {
     let kind = discriminant_kind(item);
     let width = Width::of(kind, cx.pointer_bits);

@@ -3,7 +3,7 @@
 ghost use Rattle.std.specs.Prelude.{◌≡◌, map};
 ghost use Rattle.abi_rust.specs.Known.{number_of_float, same_given, same_givens, same_primitive, same_ty, same_tys, same_value};
 ghost use Rattle.abi_rust.specs.Types.{all_given, given_of, givens, ty_of, types};
-ghost use Rattle.abi_rust.specs.Values.{kind_of_value, kind_read, value_of};
+ghost use Rattle.abi_rust.specs.Values.{kind_of_value, kind_read, value_as_read};
 
 use crate::int::Int;
 use crate::operators::same_integer;
@@ -71,7 +71,7 @@ impl Value {
     /// Its type.
     pub(crate) fn kind(self) -> Kind
         ensures value { result ≡ kind_of_value self }
-        ensures read { result ≡ kind_read (value_of self) }
+        ensures read { result ≡ kind_read (value_as_read self) }
     {
         match self {
             Value::Bool(_) => Kind::Bool,
@@ -83,7 +83,7 @@ impl Value {
 
 /// Whether two values are one.
 fn same_value(a: Value, b: Value) -> bool
-    ensures { result ≡ same_value (value_of a) (value_of b) }
+    ensures { result ≡ same_value (value_as_read a) (value_as_read b) }
 {
     match (a, b) {
         (Value::Bool(a), Value::Bool(b)) => { if a { b } else { !b } }

@@ -2,7 +2,7 @@
 
 ghost use Rattle.std.specs.Prelude.{◌≡◌, ◌+◌, ◌&&◌, nat_eq, true, IfErr, IfOk, OnOk, Some, None, [], ◌∷◌, ◌++◌, map};
 ghost use Rattle.abi_rust.specs.Known.{known_at, same_givens};
-ghost use Rattle.abi_rust.specs.Meaning.{Answers, is_beside};
+ghost use Rattle.abi_rust.specs.Meaning.{Means, is_beside};
 ghost use Rattle.abi_rust.specs.Resolving.{most_deep};
 ghost use Rattle.abi_rust.specs.Types.{all_given, given_of, givens, ty_of};
 

@@ -2,10 +2,10 @@
 use Rattle.std.proofs.Common.{◌≡◌, ◌+◌, ◌*◌, None, drop, map}
 use Rattle.std.specs.Option.{option_map}
 use Rattle.abi_laid.specs.Tree.{tree_of}
-use Rattle.abi_rust.specs.Int.{number_of}
+use Rattle.abi_rust.specs.Int.{number_of_int}
 use Rattle.abi_rust.specs.Measure.{IsMeasure, Measure, each_meant}
 use Rattle.abi_rust.specs.Tails.{outer_of}
-use Rattle.abi_rust.specs.Trees.{field_trees, tree_inner, variant_read, variant_trees}
+use Rattle.abi_rust.specs.Trees.{field_trees, tree_inner, variant_as_tree, variant_trees}
 use Rattle.abi_rust.specs.Types.{list_of_types, ty_of, types, where_of}
 use Rattle.abi_rust.proofs.Trees.{behind}
 use Rattle.abi_rust.proofs.tree.+trees.Given as goal
@@ -77,5 +77,5 @@ invariant-trees_of-loop-field l =
 abbrev pub invariant-trees_of_variants-loop-variant : goal.invariant-trees_of_variants-loop-variant
 invariant-trees_of_variants-loop-variant l =
     (m : Measure) → IsMeasure l.cx.dl.now m →
-    behind (map variant_read l.variants.items) (variant_trees l.cx m (tree_inner l.cx m l.room) (outer_of l.above) (where_of l.inside) l.item (option_map number_of l.last) (drop l.variant-index l.all))
+    behind (map variant_as_tree l.variants.items) (variant_trees l.cx m (tree_inner l.cx m l.room) (outer_of l.above) (where_of l.inside) l.item (option_map number_of_int l.last) (drop l.variant-index l.all))
     ≡ variant_trees l.cx m (tree_inner l.cx m l.room) (outer_of l.above) (where_of l.inside) l.item None l.all
