@@ -43,8 +43,3 @@ IsOfKind None value = Unit {0}
 abbrev pub IsNumberOfKind : IntegerKind → Option Int → Value → Type 0
 IsNumberOfKind kind (Some int) value = value ≡ IntegerValue kind int
 IsNumberOfKind kind None value = ⊥
-
--- a discriminant that isn't written is the one that comes next
-abbrev pub FollowsOn : {A : Type 0} → (written : Option A) (next : Option Int) → Int → Type 0
-FollowsOn (Some expr) next int = Unit {0}
-FollowsOn None next int = next ≡ Some int
