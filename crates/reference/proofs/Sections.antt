@@ -48,7 +48,8 @@ module _ (dl : TargetDataLayout) (tree : Tree) where
     pointer_thin = r5;
     pointer_unsized = r6;
     array = r7;
-    tuple_unit = r8 }
+    tuple_unit = r8;
+  }
   simple (Err e) r1 r2 r3 r4 r5 r6 r7 r8 = tt
 
   pub rust : (r : Result Laid LayError) → Rule (LiesAsAlone (LiesAs dl)) r → Rule IsAligned r → Rule IsApart r
@@ -62,7 +63,8 @@ module _ (dl : TargetDataLayout) (tree : Tree) where
     repr_alignment_align = r1;
     repr_alignment_packed_fields = r2;
     repr_alignment_packed_padding = r3;
-    repr_alignment_enum = r4 }
+    repr_alignment_enum = r4;
+  }
   modifiers (Err e) r1 r2 r3 r4 = tt
 
   pub c : (r : Result Laid LayError) → Rule IsCStruct r → Rule IsCUnion r → Rule (IsCEnum dl) r
