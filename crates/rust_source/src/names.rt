@@ -52,7 +52,8 @@ impl Names {
 
     /// Gives numbers to names that have none, in their order.
     fn add_all(&mut self, alloc: Global, words: &[&'static str]) -> Result<(), AllocError>
-        ensures { IfOk result (λ _. texts self.new ≡ all_added (texts self.old) (map word_of words.now)) }
+        ensures { IfOk result
+            (λ _. texts self.new ≡ all_added (texts self.old) (map word_of words.now)) }
     {
         for word in words {
             let _ = self.add(alloc, word)?;

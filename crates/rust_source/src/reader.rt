@@ -118,7 +118,8 @@ pub fn read_items(
     source: Source<'_>,
 ) -> Result<u32, SourceFault>
     ensures kept { KeepsItems items.old items.new }
-    ensures read { MeansItems target.now source.entry (texts names.old, items_as_read items.old) (texts names.new, items_as_read items.new) result }
+    ensures read { MeansItems target.now source.entry (texts names.old, items_as_read items.old)
+        (texts names.new, items_as_read items.new) result }
 {
     let found = tokens_at(alloc, source.text, source.start)?;
     let mut cursor = beginning(source.text, source.start, &found);
@@ -135,7 +136,8 @@ fn read_alone(
     names: &mut Names,
     cursor: &mut Cursor<'_>,
 ) -> Result<Type, SourceFault>
-    ensures { Reads type_of (alone (type_read most_nested cursor.old (texts names.old))) (texts names.new) result }
+    ensures { Reads type_of (alone (type_read most_nested cursor.old (texts names.old)))
+        (texts names.new) result }
 {
     let ty = crate::reader::types::read_type(alloc, names, cursor, most_nested())?;
     if is_done(cursor) {

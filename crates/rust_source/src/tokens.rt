@@ -93,7 +93,8 @@ fn single_kind(byte: u8) -> Option<TokenKind>
 
 /// The token that the bytes begin with by a character that is no digit and no quote.
 fn other_token(rest: &[u8]) -> Lexed
-    ensures same { result ≡ single_or (kind_of_byte (byte_at rest.now 0)) (prefixed_or (prefixed_token rest.now) (word_token rest.now)) }
+    ensures same { result ≡ single_or (kind_of_byte (byte_at rest.now 0))
+        (prefixed_or (prefixed_token rest.now) (word_token rest.now)) }
     ensures bounded { IfOk result (λ token. token.1 ≤ length rest.now + 4) }
 {
     if let Some(kind) = single_kind(byte_at(rest, 0)) {

@@ -138,7 +138,8 @@ fn keep_unknown(
     unknown: &mut Vec<Symbol>,
     name: &str,
 ) -> Result<(), SourceFault>
-    ensures ok { IfOk result (λ _. (texts names.new, unknown.new.items) ≡ with_unknown name.now (texts names.old, unknown.old.items)) }
+    ensures ok { IfOk result (λ _. (texts names.new, unknown.new.items) ≡ with_unknown name.now
+        (texts names.old, unknown.old.items)) }
     ensures err { IfErr result (λ fault. fault.kind ≡ SourceFaultKind.OutOfMemory) }
 {
     let name = names.add(alloc, name)?;
@@ -176,7 +177,8 @@ fn option_answer(
     name: &str,
     cursor: &mut Cursor<'_>,
 ) -> Result<Option<bool>, SourceFault>
-    ensures { read_as (λ found. (found, cursor.new)) result ≡ option_answer target.now name.now cursor.old }
+    ensures { read_as (λ found. (found, cursor.new)) result
+        ≡ option_answer target.now name.now cursor.old }
 {
     if !take(cursor, b'=') {
         return Ok(has_flag(target, name));

@@ -177,7 +177,8 @@ fn read_own_items(
 fn put_owner(items: &mut Items, path: Path) -> Result<u32, SourceFault>
     ensures kept { KeepsItems items.old items.new }
     ensures number { IfOk result (λ owner. owner ≡ next_owner (items_as_read items.old)) }
-    ensures ok { IfOk result (λ _. items_as_read items.new ≡ with_owner (path_as_read path) (items_as_read items.old)) }
+    ensures ok { IfOk result
+        (λ _. items_as_read items.new ≡ with_owner (path_as_read path) (items_as_read items.old)) }
     ensures err { IfErr result (λ fault. fault.kind ≡ SourceFaultKind.OutOfMemory) }
 {
     let owner = as_place(items.owners.len());

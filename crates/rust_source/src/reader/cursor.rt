@@ -213,7 +213,8 @@ pub(crate) fn is_word(cursor: &Cursor<'_>, keyword: Keyword) -> bool
 /// Passes over the next token where it is this character, and says whether it is.
 pub(crate) fn take(cursor: &mut Cursor<'_>, character: u8) -> bool
     ensures is { result ≡ is_next cursor.old character }
-    ensures passed { cursor.new ≡ (if is_next cursor.old character then passed cursor.old 1 else cursor.old) }
+    ensures passed { cursor.new ≡
+        (if is_next cursor.old character then passed cursor.old 1 else cursor.old) }
 {
     let is = is_next(cursor, character);
     if is {
@@ -225,7 +226,8 @@ pub(crate) fn take(cursor: &mut Cursor<'_>, character: u8) -> bool
 /// Passes over the next two tokens where they are these characters with nothing between, and says whether they are.
 pub(crate) fn take_pair(cursor: &mut Cursor<'_>, first: u8, second: u8) -> bool
     ensures is { result ≡ is_pair cursor.old first second }
-    ensures passed { cursor.new ≡ (if is_pair cursor.old first second then passed cursor.old 2 else cursor.old) }
+    ensures passed { cursor.new ≡
+        (if is_pair cursor.old first second then passed cursor.old 2 else cursor.old) }
 {
     let is = is_pair(cursor, first, second);
     if is {
@@ -237,7 +239,8 @@ pub(crate) fn take_pair(cursor: &mut Cursor<'_>, first: u8, second: u8) -> bool
 /// Passes over the next token where it is this keyword, and says whether it is.
 pub(crate) fn take_word(cursor: &mut Cursor<'_>, keyword: Keyword) -> bool
     ensures is { result ≡ is_keyword_next cursor.old keyword }
-    ensures passed { cursor.new ≡ (if is_keyword_next cursor.old keyword then passed cursor.old 1 else cursor.old) }
+    ensures passed { cursor.new ≡
+        (if is_keyword_next cursor.old keyword then passed cursor.old 1 else cursor.old) }
 {
     let is = is_word(cursor, keyword);
     if is {
@@ -252,8 +255,10 @@ pub(crate) fn expect(
     character: u8,
     kind: SourceFaultKind,
 ) -> Result<(), SourceFault>
-    ensures is { result ≡ (if is_next cursor.old character then Ok tt else Err (fault cursor.old kind)) }
-    ensures passed { cursor.new ≡ (if is_next cursor.old character then passed cursor.old 1 else cursor.old) }
+    ensures is { result ≡
+        (if is_next cursor.old character then Ok tt else Err (fault cursor.old kind)) }
+    ensures passed { cursor.new ≡
+        (if is_next cursor.old character then passed cursor.old 1 else cursor.old) }
 {
     if take(cursor, character) {
         Ok(())
@@ -290,7 +295,8 @@ pub(crate) fn is_group(cursor: &Cursor<'_>, bracket: Bracket) -> bool
 #[tactic(auto, unfolding(crate::specs::Cursor::is_group, crate::specs::Cursor::inside, crate::specs::Cursor::behind_group, crate::specs::Cursor::nth))]
 pub(crate) fn take_group<'a>(cursor: &mut Cursor<'a>, bracket: Bracket) -> Option<Cursor<'a>>
     ensures inside { result ≡ inside cursor.old bracket }
-    ensures passed { cursor.new ≡ (if is_group cursor.old bracket then behind_group cursor.old else cursor.old) }
+    ensures passed { cursor.new ≡
+        (if is_group cursor.old bracket then behind_group cursor.old else cursor.old) }
     ensures moved { cursor.new ≡ group_passed cursor.old result }
 {
     let token = nth(cursor, 0)?;
@@ -356,7 +362,8 @@ pub(crate) fn take_until<'a>(cursor: &mut Cursor<'a>, character: u8) -> Cursor<'
 pub(crate) fn expect_comma(cursor: &mut Cursor<'_>) -> Result<(), SourceFault>
     ensures is { result ≡ (if is_done cursor.old || is_next cursor.old 44 then Ok tt
         else Err (fault cursor.old SourceFaultKind.ExpectedComma)) }
-    ensures passed { cursor.new ≡ (if is_next cursor.old 44 then passed cursor.old 1 else cursor.old) }
+    ensures passed { cursor.new ≡
+        (if is_next cursor.old 44 then passed cursor.old 1 else cursor.old) }
     ensures read { read_as (λ _. cursor.new) result ≡ comma_passed cursor.old }
 {
     if is_done(cursor) || take(cursor, b',') {

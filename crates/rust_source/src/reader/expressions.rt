@@ -50,7 +50,8 @@ pub(crate) fn read_whole(
     cursor: &mut Cursor<'_>,
     room: u32,
 ) -> Result<Expr, SourceFault>
-    ensures { Reads (λ value. (expr_of value, cursor.new)) (whole (readers room) cursor.old (texts names.old)) (texts names.new) result }
+    ensures { Reads (λ value. (expr_of value, cursor.new))
+        (whole (readers room) cursor.old (texts names.old)) (texts names.new) result }
 {
     if is_done(cursor) {
         return Err(fault(cursor, SourceFaultKind::ExpectedExpression));
@@ -86,7 +87,8 @@ fn read_expression(
     cursor: &mut Cursor<'_>,
     room: u32,
 ) -> Result<Expr, SourceFault>
-    ensures { Reads (λ value. (expr_of value, cursor.new)) (expr_read room cursor.old (texts names.old)) (texts names.new) result }
+    ensures { Reads (λ value. (expr_of value, cursor.new))
+        (expr_read room cursor.old (texts names.old)) (texts names.new) result }
 {
     let room = less(cursor, room)?;
     read_joined(alloc, names, cursor, room)
@@ -94,7 +96,8 @@ fn read_expression(
 
 /// Puts an operand behind the others.
 fn push_operand(all: &mut Vec<Expr>, one: Expr) -> Result<(), SourceFault>
-    ensures ok { IfOk result (λ _. operands_of all.new.items ≡ expr_of one ∷ operands_of all.old.items) }
+    ensures ok { IfOk result
+        (λ _. operands_of all.new.items ≡ expr_of one ∷ operands_of all.old.items) }
     ensures err { IfErr result (λ fault. fault.kind ≡ SourceFaultKind.OutOfMemory) }
 {
     all.push(one)?;
@@ -110,7 +113,8 @@ fn read_joined(
     cursor: &mut Cursor<'_>,
     room: u32,
 ) -> Result<Expr, SourceFault>
-    ensures { Reads (λ value. (expr_of value, cursor.new)) (expr_with (readers room) cursor.old (texts names.old)) (texts names.new) result }
+    ensures { Reads (λ value. (expr_of value, cursor.new))
+        (expr_with (readers room) cursor.old (texts names.old)) (texts names.new) result }
 {
     let mut operands = Vec::new(alloc);
     let mut waiting: Vec<Waiting> = Vec::new(alloc);
@@ -167,7 +171,8 @@ fn read_operand(
     cursor: &mut Cursor<'_>,
     room: u32,
 ) -> Result<Expr, SourceFault>
-    ensures { Reads (λ value. (expr_of value, cursor.new)) (operand (readers room) cursor.old (texts names.old)) (texts names.new) result }
+    ensures { Reads (λ value. (expr_of value, cursor.new))
+        (operand (readers room) cursor.old (texts names.old)) (texts names.new) result }
 {
     let signs = take_signs(alloc, cursor)?;
     let first = read_primary(alloc, names, cursor, room)?;
@@ -221,7 +226,8 @@ fn read_in(
     bracket: Bracket,
     room: u32,
 ) -> Result<Expr, SourceFault>
-    ensures { Reads (λ value. (expr_of value, cursor.new)) (bracketed (readers room) bracket cursor.old (texts names.old)) (texts names.new) result }
+    ensures { Reads (λ value. (expr_of value, cursor.new))
+        (bracketed (readers room) bracket cursor.old (texts names.old)) (texts names.new) result }
 {
     let Some(mut inside) = take_group(cursor, bracket) else {
         return Err(fault(cursor, SourceFaultKind::ExpectedExpression));
@@ -244,7 +250,8 @@ fn read_choice(
     at: Place,
     room: u32,
 ) -> Result<Expr, SourceFault>
-    ensures { Reads (λ value. (expr_of value, cursor.new)) (choice_read room at cursor.old (texts names.old)) (texts names.new) result }
+    ensures { Reads (λ value. (expr_of value, cursor.new))
+        (choice_read room at cursor.old (texts names.old)) (texts names.new) result }
 {
     let room = less(cursor, room)?;
     read_tested(alloc, names, cursor, at, room)
@@ -260,7 +267,8 @@ fn read_tested(
     at: Place,
     room: u32,
 ) -> Result<Expr, SourceFault>
-    ensures { Reads (λ value. (expr_of value, cursor.new)) (choice_with (readers room) at cursor.old (texts names.old)) (texts names.new) result }
+    ensures { Reads (λ value. (expr_of value, cursor.new))
+        (choice_with (readers room) at cursor.old (texts names.old)) (texts names.new) result }
 {
     let test = read_expression(alloc, names, cursor, room)?;
     read_branches(alloc, names, cursor, test, at, room)
@@ -268,7 +276,8 @@ fn read_tested(
 
 /// The choice of three expressions, which stands at this place.
 fn choice(alloc: Global, test: Expr, yes: Expr, no: Expr, at: Place) -> Result<Expr, SourceFault>
-    ensures ok { IfOk result (λ whole. expr_of whole ≡ choice (expr_of test) (expr_of yes) (expr_of no) at) }
+    ensures ok { IfOk result
+        (λ whole. expr_of whole ≡ choice (expr_of test) (expr_of yes) (expr_of no) at) }
     ensures err { IfErr result (λ fault. fault.kind ≡ SourceFaultKind.OutOfMemory) }
 {
     let test = Box::new(alloc, test)?;
@@ -306,7 +315,8 @@ fn read_else(
     cursor: &mut Cursor<'_>,
     room: u32,
 ) -> Result<Expr, SourceFault>
-    ensures { Reads (λ value. (expr_of value, cursor.new)) (else_read (readers room) cursor.old (texts names.old)) (texts names.new) result }
+    ensures { Reads (λ value. (expr_of value, cursor.new))
+        (else_read (readers room) cursor.old (texts names.old)) (texts names.new) result }
 {
     let again = place(cursor);
     if take_word(cursor, Keyword::If) {
@@ -324,7 +334,8 @@ fn read_primary(
     cursor: &mut Cursor<'_>,
     room: u32,
 ) -> Result<Expr, SourceFault>
-    ensures { Reads (λ value. (expr_of value, cursor.new)) (primary (readers room) cursor.old (texts names.old)) (texts names.new) result }
+    ensures { Reads (λ value. (expr_of value, cursor.new))
+        (primary (readers room) cursor.old (texts names.old)) (texts names.new) result }
 {
     if is_literal(cursor) {
         return read_literal(cursor);
@@ -354,7 +365,8 @@ fn read_value(
     cursor: &mut Cursor<'_>,
     room: u32,
 ) -> Result<Expr, SourceFault>
-    ensures { Reads (λ value. (expr_of value, cursor.new)) (value (readers room) cursor.old (texts names.old)) (texts names.new) result }
+    ensures { Reads (λ value. (expr_of value, cursor.new))
+        (value (readers room) cursor.old (texts names.old)) (texts names.new) result }
 {
     let at = place(cursor);
     let path = read_path(alloc, names, cursor, false, room)?;
@@ -367,7 +379,8 @@ fn read_value(
 
 /// Puts an expression behind the others.
 fn push_value(all: &mut Vec<Expr>, one: Expr) -> Result<(), SourceFault>
-    ensures ok { IfOk result (λ _. map expr_of all.new.items ≡ map expr_of all.old.items ++ expr_of one ∷ []) }
+    ensures ok { IfOk result
+        (λ _. map expr_of all.new.items ≡ map expr_of all.old.items ++ expr_of one ∷ []) }
     ensures err { IfErr result (λ fault. fault.kind ≡ SourceFaultKind.OutOfMemory) }
 {
     all.push(one)?;
@@ -383,7 +396,8 @@ fn read_values(
     inside: &mut Cursor<'_>,
     room: u32,
 ) -> Result<Vec<Expr>, SourceFault>
-    ensures { Reads (λ all. map expr_of all.items) (expressions_in (readers room) inside.old (texts names.old)) (texts names.new) result }
+    ensures { Reads (λ all. map expr_of all.items)
+        (expressions_in (readers room) inside.old (texts names.old)) (texts names.new) result }
 {
     let mut all = Vec::new(alloc);
     let turns = inside.end.saturating_sub(inside.at);
@@ -412,7 +426,8 @@ pub(crate) fn is_literal(cursor: &Cursor<'_>) -> bool
 
 /// The number that the next token is.
 fn number_literal(cursor: &Cursor<'_>, token: Token) -> Result<Expr, SourceFault>
-    ensures { read_as expr_of result ≡ number_read cursor.now (number_written (token_text cursor.now token)) }
+    ensures { read_as expr_of result ≡ number_read cursor.now
+        (number_written (token_text cursor.now token)) }
 {
     let at = place(cursor);
     match number_of(text_of(cursor, token).as_bytes()) {
@@ -424,7 +439,8 @@ fn number_literal(cursor: &Cursor<'_>, token: Token) -> Result<Expr, SourceFault
 
 /// The character that the next token is.
 fn char_literal(cursor: &Cursor<'_>, token: Token) -> Result<Expr, SourceFault>
-    ensures { read_as expr_of result ≡ char_read cursor.now (char_code (token_text cursor.now token)) }
+    ensures { read_as expr_of result ≡ char_read cursor.now
+        (char_code (token_text cursor.now token)) }
 {
     let at = place(cursor);
     match char_code(text_of(cursor, token).as_bytes()) {
@@ -435,7 +451,8 @@ fn char_literal(cursor: &Cursor<'_>, token: Token) -> Result<Expr, SourceFault>
 
 /// The byte that the next token is.
 fn byte_literal(cursor: &Cursor<'_>, token: Token) -> Result<Expr, SourceFault>
-    ensures { read_as expr_of result ≡ byte_read cursor.now (char_code (drop 1 (token_text cursor.now token))) }
+    ensures { read_as expr_of result ≡ byte_read cursor.now
+        (char_code (drop 1 (token_text cursor.now token))) }
 {
     let at = place(cursor);
     match char_code(after(text_of(cursor, token).as_bytes(), 1)) {

@@ -66,7 +66,8 @@ fn read_field_type(
     name: FieldName,
     at: Place,
 ) -> Result<Field, SourceFault>
-    ensures { Reads (λ field. (field_of field, cursor.new)) (field_typed name at cursor.old (texts names.old)) (texts names.new) result }
+    ensures { Reads (λ field. (field_of field, cursor.new))
+        (field_typed name at cursor.old (texts names.old)) (texts names.new) result }
 {
     let start = place(cursor);
     let ty = read_type(alloc, names, cursor, most_nested())?;
@@ -88,7 +89,8 @@ fn read_field(
     cursor: &mut Cursor<'_>,
     number: Option<u32>,
 ) -> Result<Field, SourceFault>
-    ensures { Reads (λ field. (field_of field, cursor.new)) (field_read number cursor.old (texts names.old)) (texts names.new) result }
+    ensures { Reads (λ field. (field_of field, cursor.new))
+        (field_read number cursor.old (texts names.old)) (texts names.new) result }
 {
     pass_visibility(cursor);
     match number {
@@ -118,7 +120,8 @@ fn next_number(is_tuple: bool, before: &Vec<Field>) -> Option<u32>
 
 /// Puts a field behind the others, where it is there.
 fn push_field(all: &mut Vec<Field>, is_there: bool, one: Field) -> Result<(), SourceFault>
-    ensures ok { IfOk result (λ _. map field_of all.new.items ≡ with_one (map field_of all.old.items) is_there (field_of one)) }
+    ensures ok { IfOk result
+        (λ _. map field_of all.new.items ≡ with_one (map field_of all.old.items) is_there (field_of one)) }
     ensures err { IfErr result (λ fault. fault.kind ≡ SourceFaultKind.OutOfMemory) }
 {
     if is_there {
@@ -225,7 +228,8 @@ pub(crate) fn read_value(
     cursor: &mut Cursor<'_>,
     end: u8,
 ) -> Result<Option<Expr>, SourceFault>
-    ensures { Reads (λ value. (option_map expr_of value, cursor.new)) (value_read end cursor.old (texts names.old)) (texts names.new) result }
+    ensures { Reads (λ value. (option_map expr_of value, cursor.new))
+        (value_read end cursor.old (texts names.old)) (texts names.new) result }
 {
     if !take(cursor, b'=') {
         return Ok(None);
@@ -260,7 +264,8 @@ fn read_variant(
 
 /// Puts a variant behind the others, where it is there.
 fn push_variant(all: &mut Vec<Variant>, is_there: bool, one: Variant) -> Result<(), SourceFault>
-    ensures ok { IfOk result (λ _. map variant_as_read all.new.items ≡ with_one (map variant_as_read all.old.items) is_there (variant_as_read one)) }
+    ensures ok { IfOk result (λ _. map variant_as_read all.new.items ≡ with_one
+        (map variant_as_read all.old.items) is_there (variant_as_read one)) }
     ensures err { IfErr result (λ fault. fault.kind ≡ SourceFaultKind.OutOfMemory) }
 {
     if is_there {

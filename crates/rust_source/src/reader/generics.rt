@@ -45,7 +45,8 @@ fn read_const_default(
     names: &mut Names,
     cursor: &mut Cursor<'_>,
 ) -> Result<Option<Expr>, SourceFault>
-    ensures { Reads (λ value. (option_map expr_of value, cursor.new)) (const_default cursor.old (texts names.old)) (texts names.new) result }
+    ensures { Reads (λ value. (option_map expr_of value, cursor.new))
+        (const_default cursor.old (texts names.old)) (texts names.new) result }
 {
     if !take(cursor, b'=') {
         return Ok(None);
@@ -65,7 +66,8 @@ fn read_const_kind(
     names: &mut Names,
     cursor: &mut Cursor<'_>,
 ) -> Result<ParameterKind, SourceFault>
-    ensures { Reads (λ kind. (parameter_kind_of kind, cursor.new)) (const_kind cursor.old (texts names.old)) (texts names.new) result }
+    ensures { Reads (λ kind. (parameter_kind_of kind, cursor.new))
+        (const_kind cursor.old (texts names.old)) (texts names.new) result }
 {
     let ty = read_type(alloc, names, cursor, most_nested())?;
     let default = read_const_default(alloc, names, cursor)?;
@@ -79,7 +81,8 @@ fn read_const_parameter(
     names: &mut Names,
     cursor: &mut Cursor<'_>,
 ) -> Result<Parameter, SourceFault>
-    ensures { Reads (λ one. (parameter_of one, cursor.new)) (const_parameter cursor.old (texts names.old)) (texts names.new) result }
+    ensures { Reads (λ one. (parameter_of one, cursor.new))
+        (const_parameter cursor.old (texts names.old)) (texts names.new) result }
 {
     let (name, at) = take_name(alloc, names, cursor)?;
     expect(cursor, b':', SourceFaultKind::ExpectedColon)?;
@@ -106,7 +109,8 @@ fn read_type_default(
     names: &mut Names,
     cursor: &mut Cursor<'_>,
 ) -> Result<Option<Type>, SourceFault>
-    ensures { Reads (λ ty. (option_map type_of ty, cursor.new)) (type_default cursor.old (texts names.old)) (texts names.new) result }
+    ensures { Reads (λ ty. (option_map type_of ty, cursor.new))
+        (type_default cursor.old (texts names.old)) (texts names.new) result }
 {
     if take(cursor, b'=') {
         Ok(Some(read_type(alloc, names, cursor, most_nested())?))
@@ -122,7 +126,8 @@ fn read_type_parameter(
     names: &mut Names,
     cursor: &mut Cursor<'_>,
 ) -> Result<Parameter, SourceFault>
-    ensures { Reads (λ one. (parameter_of one, cursor.new)) (type_parameter cursor.old (texts names.old)) (texts names.new) result }
+    ensures { Reads (λ one. (parameter_of one, cursor.new))
+        (type_parameter cursor.old (texts names.old)) (texts names.new) result }
 {
     let (name, at) = take_name(alloc, names, cursor)?;
     let may_be_unsized = pass_asked(cursor);
@@ -151,7 +156,8 @@ fn pass_attributes(cursor: &mut Cursor<'_>)
 
 /// Puts a parameter behind the others.
 fn push_parameter(all: &mut Vec<Parameter>, one: Parameter) -> Result<(), SourceFault>
-    ensures ok { IfOk result (λ _. map parameter_of all.new.items ≡ map parameter_of all.old.items ++ parameter_of one ∷ []) }
+    ensures ok { IfOk result
+        (λ _. map parameter_of all.new.items ≡ map parameter_of all.old.items ++ parameter_of one ∷ []) }
     ensures err { IfErr result (λ fault. fault.kind ≡ SourceFaultKind.OutOfMemory) }
 {
     all.push(one)?;
@@ -213,7 +219,8 @@ pub(crate) fn read_parameters(
     names: &mut Names,
     cursor: &mut Cursor<'_>,
 ) -> Result<Vec<Parameter>, SourceFault>
-    ensures { Reads (λ all. (map parameter_of all.items, cursor.new)) (parameters_read cursor.old (texts names.old)) (texts names.new) result }
+    ensures { Reads (λ all. (map parameter_of all.items, cursor.new))
+        (parameters_read cursor.old (texts names.old)) (texts names.new) result }
 {
     let mut all = Vec::new(alloc);
     if take(cursor, b'<') {
@@ -225,7 +232,8 @@ pub(crate) fn read_parameters(
 
 /// Lets the parameter of this name be unsized.
 fn let_unsized(all: &mut Vec<Parameter>, name: Symbol)
-    ensures { map parameter_of all.new.items ≡ map (let_unsized name) (map parameter_of all.old.items) }
+    ensures { map parameter_of all.new.items ≡ map (let_unsized name)
+        (map parameter_of all.old.items) }
 {
     for parameter in all.iter_mut() {
         if parameter.name == name {

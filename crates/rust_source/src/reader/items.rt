@@ -55,7 +55,8 @@ pub(crate) fn put_item(
     one: Written,
 ) -> Result<(), SourceFault>
     ensures kept { KeepsItems items.old items.new }
-    ensures ok { IfOk result (λ _. items_as_read items.new ≡ with_item (item_of_module «module» said.now (written_of one)) (items_as_read items.old)) }
+    ensures ok { IfOk result (λ _. items_as_read items.new ≡ with_item
+        (item_of_module «module» said.now (written_of one)) (items_as_read items.old)) }
     ensures err { IfErr result (λ fault. fault.kind ≡ SourceFaultKind.OutOfMemory) }
 {
     items.items.push(item_in(module, said, one))?;
@@ -152,7 +153,8 @@ fn is_passed_over(cursor: &Cursor<'_>) -> bool
 #[tactic(auto, unfolding(crate::specs::Modules::over_passed))]
 fn pass_over(names: &Names, items: &mut Items, cursor: &mut Cursor<'_>) -> Result<(), SourceFault>
     ensures kept { KeepsItems items.old items.new }
-    ensures read { Reads (λ _. cursor.new) (over_passed cursor.old (texts names.now, items_as_read items.old)) (texts names.now, items_as_read items.new) result }
+    ensures read { Reads (λ _. cursor.new) (over_passed cursor.old
+        (texts names.now, items_as_read items.old)) (texts names.now, items_as_read items.new) result }
 {
     if !is_passed_over(cursor) {
         return Err(fault(cursor, SourceFaultKind::ExpectedItem));
@@ -209,7 +211,8 @@ fn read_item(
 fn begin_module(items: &mut Items, name: Symbol, parent: Option<u32>) -> Result<u32, SourceFault>
     ensures kept { KeepsItems items.old items.new }
     ensures number { IfOk result (λ number. number ≡ next_module (items_as_read items.old)) }
-    ensures ok { IfOk result (λ _. items_as_read items.new ≡ with_module (record { name = name; parent = parent }) (items_as_read items.old)) }
+    ensures ok { IfOk result (λ _. items_as_read items.new ≡ with_module
+        (record { name = name; parent = parent }) (items_as_read items.old)) }
     ensures err { IfErr result (λ fault. fault.kind ≡ SourceFaultKind.OutOfMemory) }
 {
     let number = as_place(items.modules.len());

@@ -88,7 +88,8 @@ pub(crate) fn take_name(
     names: &mut Names,
     cursor: &mut Cursor<'_>,
 ) -> Result<(Symbol, Place), SourceFault>
-    ensures { Reads (λ found. (found, cursor.new)) (name cursor.old (texts names.old)) (texts names.new) result }
+    ensures { Reads (λ found. (found, cursor.new)) (name cursor.old (texts names.old))
+        (texts names.new) result }
 {
     let Some(token) = name_token(cursor) else {
         return Err(fault(cursor, SourceFaultKind::ExpectedName));
@@ -138,7 +139,8 @@ pub(crate) fn take_path_name(
     names: &mut Names,
     cursor: &mut Cursor<'_>,
 ) -> Result<(Symbol, Place), SourceFault>
-    ensures { Reads (λ found. (found, cursor.new)) (path_name cursor.old (texts names.old)) (texts names.new) result }
+    ensures { Reads (λ found. (found, cursor.new)) (path_name cursor.old (texts names.old))
+        (texts names.new) result }
 {
     match next_path_word(cursor) {
         Some(name) => {

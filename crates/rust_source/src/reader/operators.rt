@@ -117,7 +117,8 @@ pub(crate) struct Waiting {
 
 /// Joins the last two operands by the operator between them.
 fn join(alloc: Global, operands: &mut Vec<Expr>, by: Waiting) -> Result<(), SourceFault>
-    ensures ok { IfOk result (λ _. operands_of operands.new.items ≡ joined (operands_of operands.old.items) by) }
+    ensures ok { IfOk result
+        (λ _. operands_of operands.new.items ≡ joined (operands_of operands.old.items) by) }
     ensures err { IfErr result (λ fault. fault.kind ≡ SourceFaultKind.OutOfMemory) }
 {
     let Some(right) = operands.pop() else {
@@ -180,7 +181,8 @@ fn is_beside(
     waiting: &mut Vec<Waiting>,
     by: Binary,
 ) -> Result<bool, SourceFault>
-    ensures ok { IfOk result (λ beside. beside ≡ stands_beside by (operands_of operands.old.items) (reverse waiting.old.items)) }
+    ensures ok { IfOk result
+        (λ beside. beside ≡ stands_beside by (operands_of operands.old.items) (reverse waiting.old.items)) }
     ensures same { IfOk result (λ _. joined_tighter (tightness by) (operands_of operands.new.items) (reverse waiting.new.items)
         ≡ joined_tighter (tightness by) (operands_of operands.old.items) (reverse waiting.old.items)) }
     ensures err { IfErr result (λ fault. fault.kind ≡ SourceFaultKind.OutOfMemory) }
@@ -221,7 +223,8 @@ pub(crate) fn join_all(
     operands: Vec<Expr>,
     waiting: Vec<Waiting>,
 ) -> Result<Expr, SourceFault>
-    ensures { Yields expr_of (all_joined cursor.now (operands_of operands.items) (reverse waiting.items)) result }
+    ensures { Yields expr_of
+        (all_joined cursor.now (operands_of operands.items) (reverse waiting.items)) result }
 {
     let mut operands = operands;
     let mut waiting = waiting;
@@ -247,7 +250,8 @@ pub(crate) fn with_signs(
     operand: Expr,
     signs: Vec<(Unary, Place)>,
 ) -> Result<Expr, SourceFault>
-    ensures ok { IfOk result (λ whole. expr_of whole ≡ with_operators (expr_of operand) signs.items) }
+    ensures ok { IfOk result
+        (λ whole. expr_of whole ≡ with_operators (expr_of operand) signs.items) }
     ensures err { IfErr result (λ fault. fault.kind ≡ SourceFaultKind.OutOfMemory) }
 {
     let mut signs = signs;

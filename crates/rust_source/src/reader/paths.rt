@@ -26,7 +26,8 @@ use std::alloc::Global;
 
 /// Passes over the `<` of arguments, where they are next. In a type they need no `::` before them.
 fn takes_arguments(cursor: &mut Cursor<'_>, in_type: bool) -> bool
-    ensures found { arguments_begin in_type cursor.old ≡ (if result then Some cursor.new else None) }
+    ensures found { arguments_begin in_type cursor.old ≡
+        (if result then Some cursor.new else None) }
     ensures stays { result ≡ false → cursor.new ≡ cursor.old }
 {
     if is_pair(cursor, b':', b':') && is_nth(cursor, 2, b'<') {
@@ -38,7 +39,8 @@ fn takes_arguments(cursor: &mut Cursor<'_>, in_type: bool) -> bool
 
 /// Puts a segment behind the others.
 fn push_segment(all: &mut Vec<Segment>, one: Segment) -> Result<(), SourceFault>
-    ensures ok { IfOk result (λ _. map segment_of all.new.items ≡ map segment_of all.old.items ++ segment_of one ∷ []) }
+    ensures ok { IfOk result
+        (λ _. map segment_of all.new.items ≡ map segment_of all.old.items ++ segment_of one ∷ []) }
     ensures err { IfErr result (λ fault. fault.kind ≡ SourceFaultKind.OutOfMemory) }
 {
     all.push(one)?;
@@ -65,7 +67,8 @@ pub(crate) fn read_path(
     in_type: bool,
     room: u32,
 ) -> Result<Path, SourceFault>
-    ensures { Reads (λ path. (path_as_read path, cursor.new)) (path_read (readers room) in_type cursor.old (texts names.old)) (texts names.new) result }
+    ensures { Reads (λ path. (path_as_read path, cursor.new))
+        (path_read (readers room) in_type cursor.old (texts names.old)) (texts names.new) result }
 {
     let is_global = take_pair(cursor, b':', b':');
     let mut segments = Vec::new(alloc);
@@ -90,7 +93,8 @@ fn read_segment(
     in_type: bool,
     room: u32,
 ) -> Result<Segment, SourceFault>
-    ensures { Reads (λ one. (segment_of one, cursor.new)) (segment_read (readers room) in_type cursor.old (texts names.old)) (texts names.new) result }
+    ensures { Reads (λ one. (segment_of one, cursor.new))
+        (segment_read (readers room) in_type cursor.old (texts names.old)) (texts names.new) result }
 {
     let (name, at) = take_path_name(alloc, names, cursor)?;
     let arguments = read_name_arguments(alloc, names, cursor, in_type, room)?;
@@ -137,7 +141,8 @@ fn read_arguments(
     cursor: &mut Cursor<'_>,
     room: u32,
 ) -> Result<Vec<Argument>, SourceFault>
-    ensures { Reads (λ all. (map argument_of all.items, cursor.new)) (arguments_read (readers room) cursor.old (texts names.old)) (texts names.new) result }
+    ensures { Reads (λ all. (map argument_of all.items, cursor.new))
+        (arguments_read (readers room) cursor.old (texts names.old)) (texts names.new) result }
 {
     let mut arguments = Vec::new(alloc);
     let turns = cursor.end.saturating_sub(cursor.at);
@@ -217,7 +222,8 @@ pub(crate) fn read_argument(
     cursor: &mut Cursor<'_>,
     room: u32,
 ) -> Result<Argument, SourceFault>
-    ensures { Reads (λ one. (argument_of one, cursor.new)) (argument (readers room) cursor.old (texts names.old)) (texts names.new) result }
+    ensures { Reads (λ one. (argument_of one, cursor.new))
+        (argument (readers room) cursor.old (texts names.old)) (texts names.new) result }
 {
     if let Some(mut inside) = take_group(cursor, Bracket::Curly) {
         let value = read_whole(alloc, names, &mut inside, room)?;

@@ -42,7 +42,8 @@ pub(crate) fn refuse_repeated_fields(alloc: Global, all: &[Field]) -> Result<(),
 
 /// A fault at the first variant that has the name of one before it.
 pub(crate) fn refuse_repeated_variants(alloc: Global, all: &[Variant]) -> Result<(), SourceFault>
-    ensures { Yields (λ done. done) (none_twice (variant_names (map variant_as_read all.now))) result }
+    ensures { Yields (λ done. done)
+        (none_twice (variant_names (map variant_as_read all.now))) result }
 {
     let mut seen = IndexSet::new(alloc);
     for variant in all {
@@ -56,7 +57,8 @@ pub(crate) fn refuse_repeated_parameters(
     alloc: Global,
     all: &[Parameter],
 ) -> Result<(), SourceFault>
-    ensures { Yields (λ done. done) (none_twice (parameter_names (map parameter_of all.now))) result }
+    ensures { Yields (λ done. done)
+        (none_twice (parameter_names (map parameter_of all.now))) result }
 {
     let mut seen = IndexSet::new(alloc);
     for parameter in all {

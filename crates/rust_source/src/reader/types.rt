@@ -241,7 +241,8 @@ pub(crate) fn read_type(
     cursor: &mut Cursor<'_>,
     room: u32,
 ) -> Result<Type, SourceFault>
-    ensures { Reads (λ ty. (type_of ty, cursor.new)) (type_read room cursor.old (texts names.old)) (texts names.new) result }
+    ensures { Reads (λ ty. (type_of ty, cursor.new)) (type_read room cursor.old (texts names.old))
+        (texts names.new) result }
 {
     let room = less(cursor, room)?;
     read_pointed(alloc, names, cursor, room)
@@ -256,7 +257,8 @@ fn read_pointed(
     cursor: &mut Cursor<'_>,
     room: u32,
 ) -> Result<Type, SourceFault>
-    ensures { Reads (λ ty. (type_of ty, cursor.new)) (type_next (readers room) cursor.old (texts names.old)) (texts names.new) result }
+    ensures { Reads (λ ty. (type_of ty, cursor.new))
+        (type_next (readers room) cursor.old (texts names.old)) (texts names.new) result }
 {
     let pointing = take_all_pointing(alloc, cursor)?;
     let target = read_target(alloc, names, cursor, room)?;
@@ -272,7 +274,8 @@ fn read_target(
     cursor: &mut Cursor<'_>,
     room: u32,
 ) -> Result<Type, SourceFault>
-    ensures { Reads (λ ty. (type_of ty, cursor.new)) (pointee_read (readers room) cursor.old (texts names.old)) (texts names.new) result }
+    ensures { Reads (λ ty. (type_of ty, cursor.new))
+        (pointee_read (readers room) cursor.old (texts names.old)) (texts names.new) result }
 {
     if let Some(mut inside) = take_group(cursor, Bracket::Round) {
         return read_tuple(alloc, names, &mut inside, room);
@@ -290,7 +293,8 @@ fn read_target(
 
 /// Whether the first of the types is all that stands in its parentheses.
 fn is_alone(before: &Vec<Type>, inside: &Cursor<'_>) -> bool
-    ensures { result ≡ (if has_none (map type_of before.now.items) then is_done inside.now else false) }
+    ensures { result ≡ (if has_none
+        (map type_of before.now.items) then is_done inside.now else false) }
 {
     before.is_empty() && is_done(inside)
 }
@@ -304,7 +308,8 @@ fn tuple(all: Vec<Type>) -> Type
 
 /// Puts a type behind the others.
 fn push_type(all: &mut Vec<Type>, one: Type) -> Result<(), SourceFault>
-    ensures ok { IfOk result (λ _. map type_of all.new.items ≡ map type_of all.old.items ++ type_of one ∷ []) }
+    ensures ok { IfOk result
+        (λ _. map type_of all.new.items ≡ map type_of all.old.items ++ type_of one ∷ []) }
     ensures err { IfErr result (λ fault. fault.kind ≡ SourceFaultKind.OutOfMemory) }
 {
     all.push(one)?;
@@ -320,7 +325,8 @@ fn read_tuple(
     inside: &mut Cursor<'_>,
     room: u32,
 ) -> Result<Type, SourceFault>
-    ensures { Reads type_of (tuple_read (readers room) inside.old (texts names.old)) (texts names.new) result }
+    ensures { Reads type_of (tuple_read (readers room) inside.old (texts names.old))
+        (texts names.new) result }
 {
     let mut all = Vec::new(alloc);
     let turns = inside.end.saturating_sub(inside.at);
@@ -347,7 +353,8 @@ fn read_list(
     inside: &mut Cursor<'_>,
     room: u32,
 ) -> Result<Type, SourceFault>
-    ensures { Reads type_of (list_read (readers room) inside.old (texts names.old)) (texts names.new) result }
+    ensures { Reads type_of (list_read (readers room) inside.old (texts names.old))
+        (texts names.new) result }
 {
     let element = Box::new(alloc, read_type(alloc, names, inside, room)?)?;
     if is_done(inside) {

@@ -36,7 +36,8 @@ fn read_rename(
     cursor: &mut Cursor<'_>,
     last: Option<Symbol>,
 ) -> Result<Option<Symbol>, SourceFault>
-    ensures { Reads (λ name. (name, cursor.new)) (rename_read last cursor.old (texts names.old)) (texts names.new) result }
+    ensures { Reads (λ name. (name, cursor.new)) (rename_read last cursor.old (texts names.old))
+        (texts names.new) result }
 {
     if !take_word(cursor, Keyword::As) {
         return Ok(last);
@@ -80,7 +81,8 @@ fn without_self(path: &mut Vec<UsedName>)
 
 /// Puts what is brought in behind the others.
 fn put_use(uses: &mut Vec<Use>, one: Use) -> Result<(), SourceFault>
-    ensures ok { IfOk result (λ _. map use_of uses.new.items ≡ map use_of uses.old.items ++ use_of one ∷ []) }
+    ensures ok { IfOk result
+        (λ _. map use_of uses.new.items ≡ map use_of uses.old.items ++ use_of one ∷ []) }
     ensures err { IfErr result (λ fault. fault.kind ≡ SourceFaultKind.OutOfMemory) }
     ensures kept { BeginsWith uses.new.items uses.old.items }
 {
@@ -160,7 +162,8 @@ fn read_names(
 /// Passes over the `::` that the path begins with, if no names stand before its group, and says whether it is there.
 fn takes_global(cursor: &mut Cursor<'_>, before: &[UsedName]) -> bool
     ensures is { result ≡ begins_globally before.now cursor.old }
-    ensures passed { cursor.new ≡ (if begins_globally before.now cursor.old then passed cursor.old 2 else cursor.old) }
+    ensures passed { cursor.new ≡
+        (if begins_globally before.now cursor.old then passed cursor.old 2 else cursor.old) }
 {
     before.is_empty() && take_pair(cursor, b':', b':')
 }

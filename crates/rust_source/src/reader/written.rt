@@ -43,7 +43,8 @@ pub(crate) struct Written {
 /// An item's name and parameters.
 #[tactic(auto, unfolding(crate::specs::Written::head_read))]
 fn read_head(alloc: Global, names: &mut Names, cursor: &mut Cursor<'_>) -> Result<Head, SourceFault>
-    ensures { Reads (λ head. (head_of head, cursor.new)) (head_read cursor.old (texts names.old)) (texts names.new) result }
+    ensures { Reads (λ head. (head_of head, cursor.new)) (head_read cursor.old (texts names.old))
+        (texts names.new) result }
 {
     let (name, at) = take_name(alloc, names, cursor)?;
     let parameters = read_parameters(alloc, names, cursor)?;
@@ -62,7 +63,8 @@ fn ask_where(
     cursor: &mut Cursor<'_>,
     head: &mut Head,
 ) -> Result<(), SourceFault>
-    ensures { Reads (λ _. (head_of head.new, cursor.new)) (where_asked (head_of head.old) cursor.old (texts names.old)) (texts names.new) result }
+    ensures { Reads (λ _. (head_of head.new, cursor.new))
+        (where_asked (head_of head.old) cursor.old (texts names.old)) (texts names.new) result }
 {
     read_where(alloc, names, cursor, &mut head.parameters)
 }
@@ -74,7 +76,8 @@ fn read_head_where(
     names: &mut Names,
     cursor: &mut Cursor<'_>,
 ) -> Result<Head, SourceFault>
-    ensures { Reads (λ head. (head_of head, cursor.new)) (head_where cursor.old (texts names.old)) (texts names.new) result }
+    ensures { Reads (λ head. (head_of head, cursor.new)) (head_where cursor.old (texts names.old))
+        (texts names.new) result }
 {
     let mut head = read_head(alloc, names, cursor)?;
     ask_where(alloc, names, cursor, &mut head)?;
@@ -89,7 +92,8 @@ fn read_tail(
     cursor: &mut Cursor<'_>,
     head: &mut Head,
 ) -> Result<(), SourceFault>
-    ensures { Reads (λ _. (head_of head.new, cursor.new)) (tail_read (head_of head.old) cursor.old (texts names.old)) (texts names.new) result }
+    ensures { Reads (λ _. (head_of head.new, cursor.new))
+        (tail_read (head_of head.old) cursor.old (texts names.old)) (texts names.new) result }
 {
     ask_where(alloc, names, cursor, head)?;
     expect(cursor, b';', SourceFaultKind::ExpectedSemicolon)
@@ -182,7 +186,8 @@ fn read_alias_head(
     names: &mut Names,
     cursor: &mut Cursor<'_>,
 ) -> Result<Head, SourceFault>
-    ensures { Reads (λ head. (head_of head, cursor.new)) (alias_head cursor.old (texts names.old)) (texts names.new) result }
+    ensures { Reads (λ head. (head_of head, cursor.new)) (alias_head cursor.old (texts names.old))
+        (texts names.new) result }
 {
     let mut head = read_head(alloc, names, cursor)?;
     let _ = pass_asked(cursor);
@@ -198,7 +203,8 @@ fn read_alias(
     names: &mut Names,
     cursor: &mut Cursor<'_>,
 ) -> Result<Written, SourceFault>
-    ensures { Reads (λ one. (written_of one, cursor.new)) (alias_read cursor.old (texts names.old)) (texts names.new) result }
+    ensures { Reads (λ one. (written_of one, cursor.new)) (alias_read cursor.old (texts names.old))
+        (texts names.new) result }
 {
     let mut head = read_alias_head(alloc, names, cursor)?;
     let ty = read_type(alloc, names, cursor, most_nested())?;
@@ -215,7 +221,8 @@ fn read_const_typed(
     cursor: &mut Cursor<'_>,
     owner: Option<u32>,
 ) -> Result<Const, SourceFault>
-    ensures { Reads (λ one. (constant_of one, cursor.new)) (const_typed owner cursor.old (texts names.old)) (texts names.new) result }
+    ensures { Reads (λ one. (constant_of one, cursor.new))
+        (const_typed owner cursor.old (texts names.old)) (texts names.new) result }
 {
     let ty = read_type(alloc, names, cursor, most_nested())?;
     let value = read_value(alloc, names, cursor, b';')?;
@@ -231,7 +238,8 @@ pub(crate) fn read_const(
     cursor: &mut Cursor<'_>,
     owner: Option<u32>,
 ) -> Result<Written, SourceFault>
-    ensures { Reads (λ one. (written_of one, cursor.new)) (const_read owner cursor.old (texts names.old)) (texts names.new) result }
+    ensures { Reads (λ one. (written_of one, cursor.new))
+        (const_read owner cursor.old (texts names.old)) (texts names.new) result }
 {
     let head = read_head(alloc, names, cursor)?;
     expect(cursor, b':', SourceFaultKind::ExpectedColon)?;
