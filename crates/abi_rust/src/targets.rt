@@ -1,5 +1,7 @@
 //! Targets: their data layouts, and what `cfg` asks of them.
 
+ghost use Rattle.std.specs.Prelude.{◌≡◌, IfSome, bytes_eq, true};
+
 use rust_source::{CfgTarget, Family};
 
 /// A target of the compiler's, with what its types' layouts depend on (`docs/TARGETS.md`).
@@ -449,12 +451,28 @@ pub static TARGETS: [Target; 36] = [
     },
 ];
 
-/// The target of this triple, of those in `TARGETS`. None for any other text.
-pub fn target_named(triple: &str) -> Option<&'static Target> {
-    for target in &TARGETS {
-        if target.triple == triple {
+/// Whether the target has this triple.
+fn has_triple(target: &Target, triple: &str) -> bool
+    ensures { result ≡ bytes_eq target.now.triple.now triple.now }
+{
+    target.triple == triple
+}
+
+/// The first of these that has this triple.
+fn first_of(targets: &'static [Target], triple: &str) -> Option<&'static Target>
+    ensures { IfSome result (λ target. bytes_eq target.now.triple.now triple.now ≡ true) }
+{
+    for target in targets {
+        if has_triple(target, triple) {
             return Some(target);
         }
     }
     None
+}
+
+/// The target of this triple, of those in `TARGETS`. None for any other text.
+pub fn target_named(triple: &str) -> Option<&'static Target>
+    ensures { IfSome result (λ target. bytes_eq target.now.triple.now triple.now ≡ true) }
+{
+    first_of(&TARGETS, triple)
 }
