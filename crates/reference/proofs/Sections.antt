@@ -28,8 +28,8 @@ module _ (dl : TargetDataLayout) (tree : Tree) where
   RuleIf A P r = IfOk r (λ laid. A → EachIn dl tree P laid)
 
   pub given : {A : Type 0} (P : Tree → Placed → Type 0) (r : Result Laid LayError) → RuleIf A P r → A → Rule P r
-  given P (Ok laid) rule a = rule a
-  given P (Err e) rule a = tt
+  given P (Ok laid) held a = held a
+  given P (Err e) held a = tt
 
   pub properties : (r : Result Laid LayError) → Rule HasPowerAlign r → Rule IsWhole r
       → IfOk r (HasProperties dl tree)
