@@ -36,6 +36,8 @@ pub mod Deep
 pub mod Sums
 -- where sums of sizes tell it, the layout with a niche is the better one
 pub mod Bounds
+-- where they tell it, no layout with a niche is better than one with a tag
+pub mod TagWins
 -- what is promised of each way that a type is laid out
 pub mod Whole
 -- the tag and the variants' fields share no byte
@@ -61,8 +63,6 @@ pub mod OneRange
 pub mod OneEnum
 -- the rules give a struct or an enum an answer
 pub mod SomeEnum
--- where no field has a niche, no tag lies in one
-pub mod NoNiche
 -- the answer to a struct or an enum depends on the fields' layouts alone, not on what lends them
 pub mod SameType
 -- the marks, the view and the niche of a list, of a union, and of a type that is one list

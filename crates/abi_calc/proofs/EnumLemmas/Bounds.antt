@@ -1,5 +1,5 @@
 -- Where sums of sizes tell it, there is a layout with a tag, and the one with a niche is the better one.
-use Rattle.std.proofs.Common.{◌≡◌, ℕ, ◌+◌, ◌*◌, ◌^◌, ◌<◌, ◌≤◌, Bool, true, false, List, [], ◌∷◌, ap, arith, inl, inr, length, map, max, min, refl, subst, sum_by, sym}
+use Rattle.std.proofs.Common.{◌≡◌, ℕ, ◌+◌, ◌*◌, ◌^◌, ◌<◌, ◌≤◌, Bool, true, false, List, [], ◌∷◌, ap, arith, inl, inr, length, map, max, refl, subst, sum_by, sym}
 use Rattle.std.specs.Prelude.{◌==◌, ◌&&◌, ◌||◌, ◌⊎◌, All, None, Some, Ok, is_some, if◌then◌else◌, nat_le, nat_lt, not}
 use Rattle.std.specs.Int.{next_multiple_of}
 use Rattle.std.proofs.Math.Nat.{dvd-add, mod-lt, pow-le-pow_right}
@@ -34,7 +34,7 @@ use Rattle.abi_lists.proofs.Offsets.Rounding.{round_below, round_multiple, round
 use Rattle.abi_lists.proofs.Sorted.Prefixes.{round_lower}
 use Rattle.abi_calc.specs.Enums.Discriminants.{IsTagRange}
 use Rattle.abi_calc.specs.Enums.Sizes.{IsTaggedSize}
-use Rattle.abi_calc.specs.Enums.Bounds.{fits_behind, least_left, most_tag, outdoes, wins}
+use Rattle.abi_calc.specs.Enums.Bounds.{fits_behind, least_left, most_tag, outdoes, room_of_tag, wins}
 use Rattle.abi_calc.specs.Enums.Choice.{IsNicheAnswer, takes_niche}
 use Rattle.abi_calc.specs.Enums.Growth.{grown_tag, start_align}
 use Rattle.abi_calc.specs.Enums.Lists.{AreGoodLists, AreListLayouts, IsFirstListError, IsGoodList, align_with_all, behind_tag, tag_align}
@@ -192,7 +192,7 @@ both_hold true c h = (refl, h)
 both_hold false c h = cc
 
 -- a layout that has as few bytes left is the better one, beside one of a tag that is no smaller and has room there
-better_by : {F V : Type 0} (dl : TargetDataLayout) (asked : Integer) (tagged niche : LayoutData F V) (left width : ℕ) → outdoes dl asked niche left ≡ true → niche.size ≤ tagged.size → integer_size asked ≤ width
+better_by : {F V : Type 0} (dl : TargetDataLayout) (asked : Integer) (tagged niche : LayoutData F V) (left width : ℕ) → outdoes asked left (free_numbers dl niche.largest_niche) ≡ true → niche.size ≤ tagged.size → integer_size asked ≤ width
     → (tagged.size ≤ niche.size → width ≤ left) → free_numbers dl tagged.largest_niche < numbers_of width → takes_niche dl tagged niche ≡ true
 better_by dl asked tagged niche left width won less wide room free =
     taken_if niche.size tagged.size (free_numbers dl tagged.largest_niche) (free_numbers dl niche.largest_niche) (by (cases_lt niche.size tagged.size))
@@ -221,13 +221,13 @@ module _ {F V H : Type 0} (layout_of : H → LayoutData F V) (at : ℕ → F) (i
   vs = map (map layout_of) variants
 
   -- A layout with a niche: the layout is free, and the lists that it comes from are good.
-  record IsBesideNiche (l : LayoutData F V) : Type 0 where
-    free : is_free repr ≡ true
-    lists : List (LayoutData F V)
-    good : AreGoodLists layout_of at (index 0) dl repr AlwaysSized variants lists
-    is : niche_layout (at 0) index dl repr (map (map layout_of) variants) lists ≡ Some l
+  pub record IsBesideNiche (l : LayoutData F V) : Type 0 where
+    pub free : is_free repr ≡ true
+    pub lists : List (LayoutData F V)
+    pub good : AreGoodLists layout_of at (index 0) dl repr AlwaysSized variants lists
+    pub is : niche_layout (at 0) index dl repr (map (map layout_of) variants) lists ≡ Some l
 
-  beside_niche : (l : LayoutData F V) → IsNicheAnswer AreGoodLists layout_of at index dl repr variants (Some l) → IsBesideNiche l
+  pub beside_niche : (l : LayoutData F V) → IsNicheAnswer AreGoodLists layout_of at index dl repr variants (Some l) → IsBesideNiche l
   beside_niche l (inl fixed) = absurd (cc fixed.1)
   beside_niche l (inr (inl none)) = absurd (cc none.3)
   beside_niche l (inr (inr h)) = record { free = h.0; lists = h.1; good = h.2; is = sym h.3 }
@@ -317,25 +317,22 @@ module _ {F V H : Type 0} (layout_of : H → LayoutData F V) (at : ℕ → F) (i
           left_for_tag l.size (integer_size grown) vs (omega (arith, some, length-map variants (map layout_of))) (subst (λ n. All (λ fields. integer_size grown + sum_by (λ f. f.size) fields ≤ n) vs) is room)
 
       -- and no more bytes than those that a tag may have
-      abbrev room_of_tag : ℕ
-      room_of_tag = min (least_left l.size vs) (most_tag asked vs)
-
-      tag_in_room : lists_size dl listed.0 ≤ l.size → integer_size grown ≤ room_of_tag
+      tag_in_room : lists_size dl listed.0 ≤ l.size → integer_size grown ≤ room_of_tag l.size asked vs
       tag_in_room same =
           let most : integer_size grown ≤ most_tag asked vs =
           tag_most layout_of at number (index 0) dl repr (behind_tag dl repr asked vs) (laws 0 (omega arith)) asked variants listed.0 good in
           omega (arith, left_for same, most)
 
-      takes : outdoes dl asked l room_of_tag ≡ true → takes_niche dl tagged l ≡ true
+      takes : outdoes asked (room_of_tag l.size asked vs) (free_numbers dl l.largest_niche) ≡ true → takes_niche dl tagged l ≡ true
       takes won =
-          better_by dl asked tagged l room_of_tag (integer_size grown) won no_smaller (grown_size dl repr asked (start_align number vs listed.0)).no_less tag_in_room (free_of_tag dl (Int grown signed) ranged.0)
+          better_by dl asked tagged l (room_of_tag l.size asked vs) (integer_size grown) won no_smaller (grown_size dl repr asked (start_align number vs listed.0)).no_less tag_in_room (free_of_tag dl (Int grown signed) ranged.0)
 
-      answer : outdoes dl asked l room_of_tag ≡ true → IsBetterAnswer layout_of at number (index 0) dl repr asked signed values variants (Some l) (Ok l)
+      answer : outdoes asked (room_of_tag l.size asked vs) (free_numbers dl l.largest_niche) ≡ true → IsBetterAnswer layout_of at number (index 0) dl repr asked signed values variants (Some l) (Ok l)
       answer won =
           (Ok tagged, (listed.0, listed.1, record { small = below; ranged = (ranged.0, ranged.1, refl) }), rw (takes won) refl)
 
     -- the layout with a niche is the answer where it wins
     pub wins_answer : wins dl asked l (map (map layout_of) variants) ≡ true → IsBetterAnswer layout_of at number (index 0) dl repr asked signed values variants (Some l) (Ok l)
     wins_answer won =
-        let two = both_hold (fits_behind dl asked l) (outdoes dl asked l (min (least_left l.size vs) (most_tag asked vs))) won in
+        let two = both_hold (fits_behind dl asked l) (outdoes asked (room_of_tag l.size asked vs) (free_numbers dl l.largest_niche)) won in
         answer (ltb-true _ (size_bound dl) two.0) two.1

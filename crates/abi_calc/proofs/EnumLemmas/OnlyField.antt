@@ -1,6 +1,6 @@
 -- How far a tag may grow, told by variants of one field.
-use Rattle.std.proofs.Common.{◌≡◌, ℕ, ◌+◌, ◌^◌, ◌<◌, ◌≤◌, Bool, true, false, List, [], ◌∷◌, All, ap, arith, fold, get_or, inl, inr, length, map, max, min, refl, subst, sym, ◌∙◌}
-use Rattle.std.specs.Prelude.{◌==◌, ◌⊎◌, IsPermutation, None, Option, Some, if◌then◌else◌, slice_get, unwrap_or}
+use Rattle.std.proofs.Common.{◌≡◌, ℕ, ◌^◌, ◌<◌, ◌≤◌, Bool, true, false, List, [], ◌∷◌, All, ap, arith, fold, get_or, inl, inr, length, map, max, min, refl, subst, ◌∙◌}
+use Rattle.std.specs.Prelude.{◌==◌, ◌⊎◌, IsPermutation, None, if◌then◌else◌, slice_get, unwrap_or}
 use Rattle.std.proofs.Math.Nat.{pow-le-pow_right}
 use Rattle.std.proofs.lemmas.Bool.{cases_lt, eqb-true}
 use Rattle.std.proofs.lemmas.List.Sorted.{All-permutation, length_permutation}

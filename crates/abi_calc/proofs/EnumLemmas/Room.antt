@@ -156,7 +156,7 @@ module _ {F V H : Type 0} (layout_of : H → LayoutData F V) (at : ℕ → F) (f
   good_at (fields ∷ variants) (l ∷ lists) (suc i) list good is = good_at variants lists i list good.1 is
 
   -- where its niche has enough free numbers, so has one of that variant's fields
-  field_enough : (variants : List (List H)) (lists : List (LayoutData F V)) (i : ℕ) (list : LayoutData F V) (niche : Niche) (count : ℕ) → AreGoodLists layout_of at first dl repr kind variants lists
+  pub field_enough : (variants : List (List H)) (lists : List (LayoutData F V)) (i : ℕ) (list : LayoutData F V) (niche : Niche) (count : ℕ) → AreGoodLists layout_of at first dl repr kind variants lists
       → slice_get lists i ≡ Some list → list.largest_niche ≡ Some niche → count ≤ available_in dl niche → HasFreeNumbers dl count (variant_at (map (map layout_of) variants) i)
   field_enough variants lists i list niche count good is known much =
       let there = good_at variants lists i list good is in

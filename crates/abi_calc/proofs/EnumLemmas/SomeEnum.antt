@@ -184,6 +184,19 @@ some_asked dl repr values =
 
 -- ---- an enum has an answer
 
+-- there is a layout with a niche, or none
+pub some_niche : {F V H : Type 0} (layout_of : H → LayoutData F V) (at : ℕ → F) (index : ℕ → V) (dl : TargetDataLayout) (repr : ReprOptions) (variants : List (List H)) → All (All (λ f. IsLawfulLayout dl (layout_of f))) variants
+    → (found : Option (LayoutData F V)) × IsNicheAnswer AreListLayouts layout_of at index dl repr variants found
+some_niche {F} {V} layout_of at index dl repr variants law = by (is_free repr) refl
+  where
+    listed : is_free repr ≡ true → AreListed layout_of at (index 0) dl repr AlwaysSized variants → (found : Option (LayoutData F V)) × IsNicheAnswer AreListLayouts layout_of at index dl repr variants found
+    listed free (inl (lists, are)) = (niche_layout (at 0) index dl repr (map (map layout_of) variants) lists, inr (inr (free, lists, are, refl)))
+    listed free (inr (error, is, other)) = (None, inr (inl (free, error, is, refl)))
+
+    by : (b : Bool) → is_free repr ≡ b → (found : Option (LayoutData F V)) × IsNicheAnswer AreListLayouts layout_of at index dl repr variants found
+    by false bound = (None, inl (bound, refl))
+    by true free = listed free (some_lists layout_of at (index 0) dl repr AlwaysSized variants law (all_full AlwaysSized variants tt))
+
 module _ {H : Type 0} (layout_of : H → LayoutData ℕ ℕ) (dl : TargetDataLayout) (repr : ReprOptions) (variants : List (List H)) (law : All (All (λ f. IsLawfulLayout dl (layout_of f))) variants) where
   -- an enum with this tag has an answer
   pub some_tagged : (asked : Integer) (signed : Bool) (values : List ℕ) → HasAnswer (IsTaggedAnswer layout_of (λ i. i) (λ i. i) 0 dl repr asked signed values variants)
@@ -201,18 +214,6 @@ module _ {H : Type 0} (layout_of : H → LayoutData ℕ ℕ) (dl : TargetDataLay
         | inr large ↦ (Err calculator.SizeOverflow, inr (inl (lists, are, large, refl)), λ e. cc)
       ]
 
-  -- there is a layout with a niche, or none
-  pub some_niche : (found : Option (LayoutData ℕ ℕ)) × IsNicheAnswer AreListLayouts layout_of (λ i. i) (λ i. i) dl repr variants found
-  some_niche = by (is_free repr) refl
-    where
-      listed : is_free repr ≡ true → AreListed layout_of (λ i. i) 0 dl repr AlwaysSized variants → (found : Option (LayoutData ℕ ℕ)) × IsNicheAnswer AreListLayouts layout_of (λ i. i) (λ i. i) dl repr variants found
-      listed free (inl (lists, are)) = (niche_layout 0 (λ i. i) dl repr (map (map layout_of) variants) lists, inr (inr (free, lists, are, refl)))
-      listed free (inr (error, is, other)) = (None, inr (inl (free, error, is, refl)))
-
-      by : (b : Bool) → is_free repr ≡ b → (found : Option (LayoutData ℕ ℕ)) × IsNicheAnswer AreListLayouts layout_of (λ i. i) (λ i. i) dl repr variants found
-      by false bound = (None, inl (bound, refl))
-      by true free = listed free (some_lists layout_of (λ i. i) 0 dl repr AlwaysSized variants law (all_full AlwaysSized variants tt))
-
   better_made : (tagged : Result (LayoutData ℕ ℕ) (LayoutCalculatorError H)) (niche : Option (LayoutData ℕ ℕ)) → IsMade tagged → IsMade (better_of dl tagged niche)
   better_made (Ok l) niche made = λ e. cc
   better_made (Err e) niche made = made
@@ -229,7 +230,7 @@ module _ {H : Type 0} (layout_of : H → LayoutData ℕ ℕ) (dl : TargetDataLay
     -- so has one that isn't packed, for its discriminants
     pub some_enum : (items : List (ℕ × ℕ)) → HasAnswer (IsEnumAnswer layout_of (λ i. i) (λ i. i) (λ i. i) (λ i. i) dl repr asks variants items)
     some_enum items =
-        let niche = some_niche in
+        let niche = some_niche layout_of (λ i. i) (λ i. i) dl repr variants law in
         let tagged = some_asked_answer (counting_of (λ i. i) repr (map (map layout_of) variants) items) in
         (better_of dl tagged.0 niche.0, inr (niche.0, niche.1, tagged.0, tagged.1, refl), better_made tagged.0 niche.0 tagged.2)
 

@@ -1,5 +1,5 @@
 -- The layout of an enum whose tag lies in a niche of one variant.
-use Rattle.std.specs.Prelude.{ℕ, ◌+◌, ◌-◌, ◌^◌, ◌<◌, ◌≤◌, All, ◌==◌, ◌&&◌, ◌||◌, not, Bool, true, List, [], ◌∷◌, filter, length, map, nat_le, Option, None, Some, is_some, slice_get, if◌then◌else◌}
+use Rattle.std.specs.Prelude.{ℕ, ◌+◌, ◌-◌, ◌^◌, ◌<◌, ◌≤◌, All, ◌==◌, ◌&&◌, ◌||◌, not, Bool, true, List, [], ◌∷◌, filter, length, map, nat_le, Option, None, Some, slice_get, if◌then◌else◌}
 use Rattle.std.specs.Int.{next_multiple_of}
 use Rattle.std.specs.List.{list_all, list_any}
 use Rattle.abi_base.specs.declared.data_layout.TargetDataLayout.{TargetDataLayout}
@@ -135,14 +135,6 @@ layout_in_niche first index dl repr untagged span lists list niche handed varian
   repr_c = is_c repr;
   randomization_seed = seed_with repr.field_shuffle_seed lists;
 }
-
--- some of these fields has a niche
-abbrev pub has_niche : {F V : Type 0} → List (LayoutData F V) → Bool
-has_niche fields = list_any (λ f. is_some f.largest_niche) fields
-
--- some field of some variant has one
-abbrev pub any_niche : {F V : Type 0} → (variants : List (List (LayoutData F V))) → Bool
-any_niche variants = list_any has_niche variants
 
 -- the greatest niche of a list, where it is there
 abbrev pub niche_of_list : {F V : Type 0} → Option (LayoutData F V) → Option Niche

@@ -56,6 +56,13 @@ IsBetterAnswer layout_of at number first dl repr asked signed values variants ni
     (tagged : Result (LayoutData _ _) (LayoutCalculatorError _)) × IsTaggedAnswer layout_of at number first dl repr asked signed values variants tagged
     × (result ≡ better_of dl tagged niche)
 
+-- the same of the layout with a niche that the rules give, if there is one; `index` makes the index of a variant
+abbrev pub IsBestAnswer : {F V H : Type 0} → (layout_of : H → LayoutData F V) → (at : ℕ → F) → (number : F → ℕ) → (index : ℕ → V) → TargetDataLayout → ReprOptions → (asked : Integer) → (signed : Bool)
+    → (values : List ℕ) → (variants : List (List H)) → Result (LayoutData F V) (LayoutCalculatorError H) → Type 0
+IsBestAnswer layout_of at number index dl repr asked signed values variants result =
+    (niche : Option (LayoutData _ _)) × IsNicheAnswer AreListLayouts layout_of at index dl repr variants niche
+    × IsBetterAnswer layout_of at number (index 0) dl repr asked signed values variants niche result
+
 -- the answer to an enum of several variants that isn't packed, memory aside: that with a tag, or the layout with a niche where that
 -- is the better one; `index` makes the index of a variant, and `place` tells its number
 abbrev pub IsEnumAnswer : {F V H : Type 0} → (layout_of : H → LayoutData F V) → (at : ℕ → F) → (number : F → ℕ) → (index : ℕ → V) → (place : V → ℕ) → TargetDataLayout → ReprOptions

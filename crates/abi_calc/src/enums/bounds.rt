@@ -1,18 +1,20 @@
-//! Whether a layout with a niche is the better one, told by sums of sizes before one with a tag is made.
+//! Which of a layout with a tag and one with a niche is the better one, told by sums of sizes before both are made.
 
-ghost use Rattle.std.specs.Prelude.{◌≡◌, ◌-◌, ◌^◌, ◌<◌, ◌≤◌, IfSome, map, nat_le};
+ghost use Rattle.std.specs.Prelude.{◌≡◌, ◌-◌, ◌^◌, ◌<◌, ◌≤◌, All, IfSome, map, nat_le};
 ghost use Rattle.abi_base.specs.DataLayout.{IsLawfulDataLayout};
-ghost use Rattle.abi_scalar.specs.Lawful.{IsLawfulNiche};
+ghost use Rattle.abi_scalar.specs.Lawful.{IsLawfulLayout, IsLawfulNiche};
 ghost use Rattle.abi_scalar.specs.Range.{numbers_of};
 ghost use Rattle.abi_lists.specs.Part.{max_align};
-ghost use Rattle.abi_calc.specs.Enums.Bounds.{fits_behind, left_beside, least_left, least_only, most_tag, only_align, outdoes, wins};
+ghost use Rattle.abi_calc.specs.Enums.Bounds.{fits_behind, greatest_free, greatest_of_all, least_left, least_only, least_whole, left_beside, most_free, most_tag, only_align, outdoes, room_of_tag, tag_first, tag_wins, wins};
 
 use crate::enums::growth::align_at;
+use crate::enums::lists::align_with_all;
+use crate::enums::path::is_free;
 use crate::over_lists::greater_align;
 use abi_base::{Align, Integer, Size, TargetDataLayout};
 use abi_index::{Idx, IndexVec};
 use abi_lists::{free_numbers, rounded};
-use abi_scalar::{LayoutData, LayoutHandle};
+use abi_scalar::{LayoutData, LayoutHandle, ReprOptions};
 
 /// So many bytes without these, none where these are more.
 fn without(whole: Size, part: Size) -> Size
@@ -92,12 +94,32 @@ fn most_tag<FieldIdx: Idx, VariantIdx: Idx, F: LayoutHandle<FieldIdx, VariantIdx
         .max(Size::from_bytes(least_only(variants).bytes()))
 }
 
+/// How many bytes a tag that is asked for as this integer has at most, beside the variants' fields in a whole of this
+/// size.
+fn room_of_tag<FieldIdx: Idx, VariantIdx: Idx, F: LayoutHandle<FieldIdx, VariantIdx>>(
+    whole: Size,
+    asked: Integer,
+    variants: &[IndexVec<FieldIdx, F>],
+) -> Size
+    ensures { result ≡ room_of_tag whole asked (map (map F.layout_of) variants.now) }
+{
+    least_left(whole, variants).min(most_tag(asked, variants))
+}
+
 /// Whether so many bytes have no more numbers than this.
 fn has_no_more(width: Size, numbers: u128) -> bool
     ensures { result ≡ nat_le (numbers_of width) numbers }
 {
     let bytes = width.bytes();
     bytes < 16 && 1u128 << (8 * bytes) <= numbers
+}
+
+/// Whether so many bytes, which are all that a tag may have, have no room for one of this integer, or no more numbers
+/// than a niche leaves free: then no layout with a tag is as good.
+fn outdoes(asked: Integer, left: Size, free: u128) -> bool
+    ensures { result ≡ outdoes asked left free }
+{
+    left < asked.size() || has_no_more(left, free)
 }
 
 /// Whether a tag of this integer and this layout, each rounded up to the greater alignment of both, stay below the bound
@@ -118,20 +140,6 @@ fn fits_behind<FieldIdx: Idx, VariantIdx: Idx>(
     (tag + whole).bytes() < dl.obj_size_bound()
 }
 
-/// Whether so many bytes, no fewer than a tag beside the variants' fields has in this layout's size, have no room for a tag of this integer,
-/// or no more numbers than the layout's niche has left: then no layout with a tag is as good.
-fn outdoes<FieldIdx: Idx, VariantIdx: Idx>(
-    dl: &TargetDataLayout,
-    asked: Integer,
-    layout: &LayoutData<FieldIdx, VariantIdx>,
-    left: Size,
-) -> bool
-    requires { IfSome layout.now.largest_niche (IsLawfulNiche dl.now layout.now.size) }
-    ensures { result ≡ outdoes dl.now asked layout.now left }
-{
-    left < asked.size() || has_no_more(left, free_numbers(dl, layout.size, layout.largest_niche))
-}
-
 /// Whether this layout with a niche is sure to be the better one, and one with a tag of this integer to be there.
 pub(crate) fn wins<FieldIdx: Idx, VariantIdx: Idx, F: LayoutHandle<FieldIdx, VariantIdx>>(
     dl: &TargetDataLayout,
@@ -148,6 +156,107 @@ pub(crate) fn wins<FieldIdx: Idx, VariantIdx: Idx, F: LayoutHandle<FieldIdx, Var
     if !fits_behind(dl, asked, layout) {
         return false;
     }
-    let left = least_left(layout.size, variants).min(most_tag(asked, variants));
-    outdoes(dl, asked, layout, left)
+    let free = free_numbers(dl, layout.size, layout.largest_niche);
+    outdoes(asked, room_of_tag(layout.size, asked, variants), free)
+}
+
+/// The most free numbers that a niche of these fields has, 0 where none has a niche.
+fn greatest_free<FieldIdx: Idx, VariantIdx: Idx, F: LayoutHandle<FieldIdx, VariantIdx>>(
+    dl: &TargetDataLayout,
+    fields: &[F],
+) -> u128
+    requires { All (λ f. IsLawfulLayout dl.now (F.layout_of f)) fields.now }
+    ensures { result ≡ greatest_free dl.now (map F.layout_of fields.now) }
+{
+    let mut most = 0;
+    for field in fields {
+        let layout = field.layout();
+        most = most.max(free_numbers(dl, layout.size, layout.largest_niche));
+    }
+    most
+}
+
+/// The same of all variants.
+fn greatest_of_all<FieldIdx: Idx, VariantIdx: Idx, F: LayoutHandle<FieldIdx, VariantIdx>>(
+    dl: &TargetDataLayout,
+    variants: &[IndexVec<FieldIdx, F>],
+) -> u128
+    requires { All (All (λ f. IsLawfulLayout dl.now (F.layout_of f))) variants.now }
+    ensures { result ≡ greatest_of_all dl.now (map (map F.layout_of) variants.now) }
+{
+    let mut most = 0;
+    for fields in variants {
+        most = most.max(greatest_free(dl, fields.as_slice().as_raw()));
+    }
+    most
+}
+
+/// How many free numbers a layout with a niche has at most: there is none where this is 0.
+pub(crate) fn most_free<FieldIdx: Idx, VariantIdx: Idx, F: LayoutHandle<FieldIdx, VariantIdx>>(
+    dl: &TargetDataLayout,
+    repr: &ReprOptions,
+    variants: &[IndexVec<FieldIdx, F>],
+) -> u128
+    requires { All (All (λ f. IsLawfulLayout dl.now (F.layout_of f))) variants.now }
+    ensures { result ≡ most_free dl.now repr.now (map (map F.layout_of) variants.now) }
+{
+    if is_free(repr) {
+        greatest_of_all(dl, variants)
+    } else {
+        0
+    }
+}
+
+/// How many bytes a layout of these variants has at least: those of the largest one's fields together, rounded up to the
+/// greatest alignment of any field.
+pub(crate) fn least_whole<FieldIdx: Idx, VariantIdx: Idx, F: LayoutHandle<FieldIdx, VariantIdx>>(
+    dl: &TargetDataLayout,
+    variants: &[IndexVec<FieldIdx, F>],
+) -> Size
+    requires data_layout { IsLawfulDataLayout dl.now }
+    requires fields { All (All (λ f. IsLawfulLayout dl.now (F.layout_of f))) variants.now }
+    ensures { result ≡ least_whole dl.now (map (map F.layout_of) variants.now) }
+{
+    let bound = Size::from_bytes(dl.obj_size_bound());
+    let most = without(bound, least_left(bound, variants));
+    rounded(most, align_with_all(Align::ONE, variants))
+}
+
+/// Whether a tag that is asked for as this integer has no more numbers than a niche leaves free, however far it grows: then
+/// the layout with a niche is made first, whatever the sizes.
+pub(crate) fn is_outnumbered<FieldIdx: Idx, VariantIdx: Idx, F: LayoutHandle<FieldIdx, VariantIdx>>(
+    asked: Integer,
+    free: u128,
+    variants: &[IndexVec<FieldIdx, F>],
+) -> bool
+    ensures { result ≡ nat_le (numbers_of (most_tag asked (map (map F.layout_of) variants.now))) free }
+{
+    has_no_more(most_tag(asked, variants), free)
+}
+
+/// Whether the layout with a tag of this integer is made first: where one with a niche of so many bytes and free numbers
+/// isn't sure to be the better one.
+pub(crate) fn tag_first<FieldIdx: Idx, VariantIdx: Idx, F: LayoutHandle<FieldIdx, VariantIdx>>(
+    asked: Integer,
+    least: Size,
+    free: u128,
+    variants: &[IndexVec<FieldIdx, F>],
+) -> bool
+    ensures { result ≡ tag_first asked least free (map (map F.layout_of) variants.now) }
+{
+    !outdoes(asked, room_of_tag(least, asked, variants), free)
+}
+
+/// Whether this layout with a tag is the better one, where one with a niche has at least so many bytes, and at most so
+/// many free numbers.
+pub(crate) fn tag_wins<FieldIdx: Idx, VariantIdx: Idx>(
+    dl: &TargetDataLayout,
+    least: Size,
+    free: u128,
+    layout: &LayoutData<FieldIdx, VariantIdx>,
+) -> bool
+    requires { IfSome layout.now.largest_niche (IsLawfulNiche dl.now layout.now.size) }
+    ensures { result ≡ tag_wins dl.now least free layout.now }
+{
+    layout.size <= least && free <= free_numbers(dl, layout.size, layout.largest_niche)
 }

@@ -11,7 +11,7 @@ ghost use Rattle.abi_scalar.specs.Scalar.{IsLawfulScalar};
 ghost use Rattle.abi_lists.specs.List.{HasLawfulAligns};
 ghost use Rattle.abi_calc.specs.Enums.Choice.{IsNicheAnswer};
 ghost use Rattle.abi_calc.specs.Enums.Lists.{AreGoodLists, AreListLayouts};
-ghost use Rattle.abi_calc.specs.Enums.Niche.{IsRoomy, IsSmallList, any_niche, has_niche, if_placed, niche_layout, niche_of_list, others_empty, room_beside, span_count, variants_from, view_with};
+ghost use Rattle.abi_calc.specs.Enums.Niche.{IsRoomy, IsSmallList, if_placed, niche_layout, niche_of_list, others_empty, room_beside, span_count, variants_from, view_with};
 
 use crate::calculator::LayoutCalculator;
 use crate::enums::niche::{Room, others_empty, placed_variants, span_of, untagged_of, view_with};
@@ -240,34 +240,6 @@ pub(crate) fn niche_of_lists<FieldIdx: Idx, VariantIdx: Idx, F: LayoutHandle<Fie
     layout_in_niche(alloc, dl, repr, among, niche, handed, lists)
 }
 
-/// Whether some of these fields has a niche.
-fn has_niche<FieldIdx: Idx, VariantIdx: Idx, F: LayoutHandle<FieldIdx, VariantIdx>>(
-    fields: &[F],
-) -> bool
-    ensures { result ≡ has_niche (map F.layout_of fields.now) }
-{
-    for field in fields {
-        if field.layout().largest_niche.is_some() {
-            return true;
-        }
-    }
-    false
-}
-
-/// Whether some field of some variant has one.
-fn any_niche<FieldIdx: Idx, VariantIdx: Idx, F: LayoutHandle<FieldIdx, VariantIdx>>(
-    variants: &[IndexVec<FieldIdx, F>],
-) -> bool
-    ensures { result ≡ any_niche (map (map F.layout_of) variants.now) }
-{
-    for fields in variants {
-        if has_niche(fields.as_slice().as_raw()) {
-            return true;
-        }
-    }
-    false
-}
-
 /// Whether memory was refused.
 fn wants_memory<H>(error: &LayoutCalculatorError<H>) -> bool
     ensures { MatchBool result (error.now ≡ LayoutCalculatorError.OutOfMemory)
@@ -277,9 +249,8 @@ fn wants_memory<H>(error: &LayoutCalculatorError<H>) -> bool
 }
 
 impl<Cx: HasDataLayout> LayoutCalculator<Cx> {
-    /// The layout of an enum with a niche, where there is one: none where C or an integer is asked for, where no field
-    /// has a niche, or where some variant's fields have no layout as an always sized list. Only want of memory is an
-    /// error.
+    /// The layout of an enum with a niche, where there is one: none where C or an integer is asked for, or where some
+    /// variant's fields have no layout as an always sized list. Only want of memory is an error.
     pub(crate) fn layout_of_niche<
         FieldIdx: Idx,
         VariantIdx: Idx,
@@ -304,9 +275,6 @@ impl<Cx: HasDataLayout> LayoutCalculator<Cx> {
         ensures memory { IfErr result (λ e. e ≡ LayoutCalculatorError.OutOfMemory) }
     {
         if !is_free(repr) {
-            return Ok(None);
-        }
-        if !any_niche(variants) {
             return Ok(None);
         }
         match self.lists_of_variants(alloc, variants, repr, &StructKind::AlwaysSized) {

@@ -15,7 +15,7 @@ use abi_scalar::{LayoutCalculatorError, LayoutHandle, ReprOptions};
 use std::alloc::Global;
 
 /// The greatest alignment of all variants' fields, and no less than this one.
-fn align_with_all<FieldIdx: Idx, VariantIdx: Idx, F: LayoutHandle<FieldIdx, VariantIdx>>(
+pub(crate) fn align_with_all<FieldIdx: Idx, VariantIdx: Idx, F: LayoutHandle<FieldIdx, VariantIdx>>(
     own: Align,
     variants: &[IndexVec<FieldIdx, F>],
 ) -> Align

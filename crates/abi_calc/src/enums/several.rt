@@ -1,24 +1,25 @@
 //! Enums of several variants: with a tag, or with a niche where that is the better layout.
 
-ghost use Rattle.std.specs.Prelude.{◌≡◌, ◌<◌, ◌≤◌, ◌+◌, ◌⊎◌, All, Err, IfOk, IsTrue, None, Some, length, map};
+ghost use Rattle.std.specs.Prelude.{◌≡◌, ◌<◌, ◌≤◌, ◌+◌, ◌⊎◌, All, Err, IfOk, IfSome, IsTrue, None, Ok, Option, Some, length, map};
 ghost use Rattle.std.specs.Iterator.{IsFinite};
 ghost use Rattle.std.specs.Iterator.Runs.{EachRunFrom, WholeRun};
 ghost use Rattle.abi_base.specs.DataLayout.{IsLawfulDataLayout};
-ghost use Rattle.abi_scalar.specs.Lawful.{IsLawfulLayout};
+ghost use Rattle.abi_scalar.specs.Lawful.{IsLawfulLayout, IsLawfulNiche};
 ghost use Rattle.abi_lists.specs.List.{HasLawfulAligns};
 ghost use Rattle.abi_calc.specs.Enums.Beside.{AreToldApart};
 ghost use Rattle.abi_calc.specs.Enums.Answer.{HasOneEach};
-ghost use Rattle.abi_calc.specs.Enums.Choice.{IsNicheAnswer};
+ghost use Rattle.abi_calc.specs.Enums.Bounds.{least_whole, most_free};
+ghost use Rattle.abi_calc.specs.Enums.Choice.{IsNicheAnswer, better};
 ghost use Rattle.abi_calc.specs.Enums.Discriminants.{counting_of};
-ghost use Rattle.abi_calc.specs.Enums.Lists.{AreGoodLists};
+ghost use Rattle.abi_calc.specs.Enums.Lists.{AreGoodLists, AreListLayouts};
 ghost use Rattle.abi_calc.specs.Enums.Promised.{AreSizedVariants, IsSizedEnum};
-ghost use Rattle.abi_calc.specs.Enums.Several.{AreLawfulTags, HasEnumSize, IsAskedFor, IsBetterAnswer, IsEnumAnswer, IsSeveralAnswer};
+ghost use Rattle.abi_calc.specs.Enums.Several.{AreLawfulTags, HasEnumSize, IsAskedFor, IsBestAnswer, IsBetterAnswer, IsEnumAnswer, IsSeveralAnswer};
 
 use crate::calculator::LayoutCalculator;
-use crate::enums::bounds::wins;
+use crate::enums::bounds::{is_outnumbered, least_whole, most_free, tag_first, tag_wins, wins};
 use crate::enums::choice::better;
 use crate::enums::discriminants::{asked_with, counting_of, listed};
-use abi_base::{HasDataLayout, Integer, TargetDataLayout};
+use abi_base::{HasDataLayout, Integer, Size, TargetDataLayout};
 use abi_index::{Idx, IndexVec};
 use abi_scalar::{
     LayoutCalculatorError, LayoutData, LayoutHandle, RangeFrom, RangeToInclusive, ReprOptions,
@@ -51,7 +52,11 @@ impl<Cx: HasDataLayout> LayoutCalculator<Cx> {
     /// The better of this layout with a niche and of the one with a tag, which is asked for as this integer and holds
     /// these discriminants. Where the one with a tag can't be the better one, it isn't made. Refused as it is, though
     /// there be one with a niche.
-    fn layout_beside<FieldIdx: Idx, VariantIdx: Idx, F: LayoutHandle<FieldIdx, VariantIdx> + Copy>(
+    fn layout_beside_niche<
+        FieldIdx: Idx,
+        VariantIdx: Idx,
+        F: LayoutHandle<FieldIdx, VariantIdx> + Copy,
+    >(
         &self,
         alloc: Global,
         repr: &ReprOptions,
@@ -81,6 +86,154 @@ impl<Cx: HasDataLayout> LayoutCalculator<Cx> {
         match self.layout_of_tagged(alloc, variants, repr, asked.0, asked.1, values) {
             Ok(tagged) => Ok(better(dl, tagged, niche)),
             Err(error) => Err(error),
+        }
+    }
+
+    /// The better of both layouts, where that with a niche is made first, and that with a tag only if it may be better.
+    fn layout_niche_first<
+        FieldIdx: Idx,
+        VariantIdx: Idx,
+        F: LayoutHandle<FieldIdx, VariantIdx> + Copy,
+    >(
+        &self,
+        alloc: Global,
+        repr: &ReprOptions,
+        variants: &[IndexVec<FieldIdx, F>],
+        asked: (Integer, bool),
+        values: &[u128],
+    ) -> Result<LayoutData<FieldIdx, VariantIdx>, LayoutCalculatorError<F>>
+        requires data_layout { IsLawfulDataLayout (Cx.target self.now.cx) }
+        requires fields { All (All (λ f. IsLawfulLayout (Cx.target self.now.cx)
+            (F.layout_of f))) variants.now }
+        requires repr { HasLawfulAligns repr.now }
+        requires unpacked { repr.now.pack ≡ None }
+        requires count { length variants.now ≤ VariantIdx.MAX_INDEX + 1 }
+        requires some { 0 < length variants.now }
+        ensures exact { (result ≡ Err LayoutCalculatorError.OutOfMemory) ⊎ IsBestAnswer F.layout_of
+            FieldIdx.at FieldIdx.number VariantIdx.at (Cx.target self.now.cx) repr.now
+            asked.0 asked.1 values.now variants.now result }
+        ensures within { IfOk result
+            (λ l. All (λ fields. length fields ≤ FieldIdx.MAX_INDEX + 1) variants.now) }
+    {
+        match self.layout_of_niche(alloc, variants, repr) {
+            Ok(Some(niche)) => self.layout_beside_niche(
+                alloc, repr, variants, asked, values, niche,
+            ),
+            Ok(None) => self.layout_of_tagged(alloc, variants, repr, asked.0, asked.1, values),
+            Err(want) => Err(want),
+        }
+    }
+
+    /// The better of this layout with a tag and of the one with a niche, if there is one.
+    fn layout_beside_tag<
+        FieldIdx: Idx,
+        VariantIdx: Idx,
+        F: LayoutHandle<FieldIdx, VariantIdx> + Copy,
+    >(
+        &self,
+        alloc: Global,
+        repr: &ReprOptions,
+        variants: &[IndexVec<FieldIdx, F>],
+        tagged: LayoutData<FieldIdx, VariantIdx>,
+    ) -> Result<LayoutData<FieldIdx, VariantIdx>, LayoutCalculatorError<F>>
+        requires data_layout { IsLawfulDataLayout (Cx.target self.now.cx) }
+        requires fields { All (All (λ f. IsLawfulLayout (Cx.target self.now.cx)
+            (F.layout_of f))) variants.now }
+        requires repr { HasLawfulAligns repr.now }
+        requires count { length variants.now ≤ VariantIdx.MAX_INDEX + 1 }
+        requires niche { IfSome tagged.largest_niche
+            (IsLawfulNiche (Cx.target self.now.cx) tagged.size) }
+        ensures exact { (result ≡ Err LayoutCalculatorError.OutOfMemory) ⊎
+            ((niche : Option (LayoutData FieldIdx VariantIdx)) × IsNicheAnswer AreListLayouts
+            F.layout_of FieldIdx.at VariantIdx.at (Cx.target self.now.cx) repr.now variants.now niche ×
+            (result ≡ Ok (better (Cx.target self.now.cx) tagged niche))) }
+    {
+        match self.layout_of_niche(alloc, variants, repr) {
+            Ok(Some(niche)) => Ok(better(self.cx.data_layout(), tagged, niche)),
+            Ok(None) => Ok(tagged),
+            Err(want) => Err(want),
+        }
+    }
+
+    /// The better of both layouts, where that with a tag is made first, and that with a niche only if it may be better:
+    /// that has at least so many bytes, and at most so many free numbers.
+    fn layout_tag_first<
+        FieldIdx: Idx,
+        VariantIdx: Idx,
+        F: LayoutHandle<FieldIdx, VariantIdx> + Copy,
+    >(
+        &self,
+        alloc: Global,
+        repr: &ReprOptions,
+        variants: &[IndexVec<FieldIdx, F>],
+        asked: (Integer, bool),
+        values: &[u128],
+        bounds: (Size, u128),
+    ) -> Result<LayoutData<FieldIdx, VariantIdx>, LayoutCalculatorError<F>>
+        requires data_layout { IsLawfulDataLayout (Cx.target self.now.cx) }
+        requires fields { All (All (λ f. IsLawfulLayout (Cx.target self.now.cx)
+            (F.layout_of f))) variants.now }
+        requires repr { HasLawfulAligns repr.now }
+        requires unpacked { repr.now.pack ≡ None }
+        requires count { length variants.now ≤ VariantIdx.MAX_INDEX + 1 }
+        requires some { 0 < length variants.now }
+        requires least { bounds.0
+            ≡ least_whole (Cx.target self.now.cx) (map (map F.layout_of) variants.now) }
+        requires free { bounds.1
+            ≡ most_free (Cx.target self.now.cx) repr.now (map (map F.layout_of) variants.now) }
+        ensures exact { (result ≡ Err LayoutCalculatorError.OutOfMemory) ⊎ IsBestAnswer F.layout_of
+            FieldIdx.at FieldIdx.number VariantIdx.at (Cx.target self.now.cx) repr.now
+            asked.0 asked.1 values.now variants.now result }
+        ensures within { IfOk result
+            (λ l. All (λ fields. length fields ≤ FieldIdx.MAX_INDEX + 1) variants.now) }
+    {
+        match self.layout_of_tagged(alloc, variants, repr, asked.0, asked.1, values) {
+            Ok(tagged) => {
+                if tag_wins(self.cx.data_layout(), bounds.0, bounds.1, &tagged) {
+                    return Ok(tagged);
+                }
+                self.layout_beside_tag(alloc, repr, variants, tagged)
+            }
+            Err(refusal) => Err(refusal),
+        }
+    }
+
+    /// The better of the layout with a tag, which is asked for as this integer and holds these discriminants, and of the
+    /// one with a niche, if there is one. Refused as the one with a tag is, though there be one with a niche.
+    fn better_layout<FieldIdx: Idx, VariantIdx: Idx, F: LayoutHandle<FieldIdx, VariantIdx> + Copy>(
+        &self,
+        alloc: Global,
+        repr: &ReprOptions,
+        variants: &[IndexVec<FieldIdx, F>],
+        asked: (Integer, bool),
+        values: &[u128],
+    ) -> Result<LayoutData<FieldIdx, VariantIdx>, LayoutCalculatorError<F>>
+        requires data_layout { IsLawfulDataLayout (Cx.target self.now.cx) }
+        requires fields { All (All (λ f. IsLawfulLayout (Cx.target self.now.cx)
+            (F.layout_of f))) variants.now }
+        requires repr { HasLawfulAligns repr.now }
+        requires unpacked { repr.now.pack ≡ None }
+        requires count { length variants.now ≤ VariantIdx.MAX_INDEX + 1 }
+        requires some { 0 < length variants.now }
+        ensures exact { (result ≡ Err LayoutCalculatorError.OutOfMemory) ⊎ IsBestAnswer F.layout_of
+            FieldIdx.at FieldIdx.number VariantIdx.at (Cx.target self.now.cx) repr.now
+            asked.0 asked.1 values.now variants.now result }
+        ensures within { IfOk result
+            (λ l. All (λ fields. length fields ≤ FieldIdx.MAX_INDEX + 1) variants.now) }
+    {
+        let dl = self.cx.data_layout();
+        let free = most_free(dl, repr, variants);
+        if free == 0 {
+            return self.layout_of_tagged(alloc, variants, repr, asked.0, asked.1, values);
+        }
+        if is_outnumbered(asked.0, free, variants) {
+            return self.layout_niche_first(alloc, repr, variants, asked, values);
+        }
+        let least = least_whole(dl, variants);
+        if tag_first(asked.0, least, free, variants) {
+            self.layout_tag_first(alloc, repr, variants, asked, values, (least, free))
+        } else {
+            self.layout_niche_first(alloc, repr, variants, asked, values)
         }
     }
 
@@ -129,11 +282,7 @@ impl<Cx: HasDataLayout> LayoutCalculator<Cx> {
     {
         let values = counting_of(alloc, repr, variants, discriminants)?;
         let asked = asked_for(self.cx.data_layout(), repr, &values, discr_range_of_repr);
-        match self.layout_of_niche(alloc, variants, repr) {
-            Ok(Some(niche)) => self.layout_beside(alloc, repr, variants, asked, &values, niche),
-            Ok(None) => self.layout_of_tagged(alloc, variants, repr, asked.0, asked.1, &values),
-            Err(want) => Err(want),
-        }
+        self.better_layout(alloc, repr, variants, asked, &values)
     }
 
     /// The layout of an enum of several variants, from the discriminants of all, which the iterator gives. Refused as

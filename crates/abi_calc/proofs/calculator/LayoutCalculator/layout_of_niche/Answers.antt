@@ -1,9 +1,8 @@
--- The lists are those of the variants, and lists that are good can be moved; where no field has a niche, no list has one.
+-- The lists are those of the variants, and lists that are good can be moved.
 use Rattle.std.proofs.Common.{◌≡◌, Bool, false, inl, inr, refl, sym, true, ◌∙◌}
 use Rattle.std.specs.Prelude.{◌⊎◌, IfSome, MatchBool, None, Option, Some}
 use Rattle.abi_calc.proofs.EnumLemmas.Growth.{lists_count}
 use Rattle.abi_calc.proofs.EnumLemmas.InNiche.{small_lists}
-use Rattle.abi_calc.proofs.EnumLemmas.NoNiche.{no_layout}
 use Rattle.abi_calc.proofs.calculator.LayoutCalculator.layout_of_niche.Goals as goal
 
 -- what holds anyway holds of what is found
@@ -29,16 +28,6 @@ niche_of_lists-requires-clause-each g c = lists_count c.args.variants.now c.in-O
 
 pub niche_of_lists-requires-clause-count : goal.niche_of_lists-requires-clause-count
 niche_of_lists-requires-clause-count g c = rw (lists_count c.args.variants.now c.in-Ok.lists c.in-Ok.ensures.lists) c.requires.count
-
-pub returns-then-not-any_niche-clause-exact : goal.returns-then-not-any_niche-clause-exact
-returns-then-not-any_niche-clause-exact g c =
-    (no_layout g.F.LayoutHandle.layout_of g.FieldIdx.Idx.at g.VariantIdx.Idx.at (g.Cx.HasDataLayout.target c.args.self.now.cx) c.args.repr.now c.args.variants.now c.requires.data_layout c.requires.fields c.requires.repr
-    (sym c.is_free.ensures ∙ c.if-not-is_free.false) (sym c.any_niche.ensures ∙ c.if-not-any_niche.true)).0
-
-pub returns-then-not-any_niche-clause-good : goal.returns-then-not-any_niche-clause-good
-returns-then-not-any_niche-clause-good g c =
-    (no_layout g.F.LayoutHandle.layout_of g.FieldIdx.Idx.at g.VariantIdx.Idx.at (g.Cx.HasDataLayout.target c.args.self.now.cx) c.args.repr.now c.args.variants.now c.requires.data_layout c.requires.fields c.requires.repr
-    (sym c.is_free.ensures ∙ c.if-not-is_free.false) (sym c.any_niche.ensures ∙ c.if-not-any_niche.true)).1
 
 pub returns-in-Ok-niche_of_lists-clause-exact : goal.returns-in-Ok-niche_of_lists-clause-exact
 returns-in-Ok-niche_of_lists-clause-exact g c =

@@ -4,7 +4,7 @@ use Rattle.std.specs.Prelude.{Ok, Some}
 use Rattle.abi_calc.specs.Enums.Bounds.{wins}
 use Rattle.abi_calc.proofs.EnumLemmas.Bounds.{niche_small, wins_answer}
 use Rattle.abi_calc.proofs.EnumLemmas.Several.{found_niche}
-use Rattle.abi_calc.proofs.calculator.LayoutCalculator.layout_beside.Goals as goal
+use Rattle.abi_calc.proofs.calculator.LayoutCalculator.layout_beside_niche.Goals as goal
 
 pub wins-requires-clause-niche : goal.wins-requires-clause-niche
 wins-requires-clause-niche g c =
