@@ -1,6 +1,6 @@
 //! What has been read of a type.
 
-ghost use Rattle.std.specs.Prelude.{◌≡◌, ◌∷◌, IfOk, IfErr, OnOk};
+ghost use Rattle.std.specs.Prelude.{◌≡◌, ◌++◌, ◌∷◌, [], IfOk, IfErr, OnOk};
 ghost use Rattle.abi_laid.specs.Tree.{tree_of, vector};
 ghost use Rattle.abi_text.specs.Reading.{begun_by, begun_in, coroutine_with, parts_by, put, put_primitive, put_scalar, state_of, waiting, with_member, with_type};
 
@@ -195,6 +195,17 @@ fn with_type(tree: TypeTree, parts: &mut CoroutineParts) -> Result<(), Fault>
     Ok(())
 }
 
+/// Puts a field behind a variant's others. Room is asked for one at the first, as most variants have few.
+fn with_field(tree: TypeTree, fields: &mut Vec<TypeTree>) -> Result<(), AllocError>
+    ensures { OnOk result (fields.new.items ≡ fields.old.items ++ tree ∷ []) }
+{
+    if fields.is_empty() {
+        fields.reserve_exact(1)?;
+    }
+    fields.push(tree)?;
+    Ok(())
+}
+
 /// Puts one type more into the list of types of one that is begun.
 fn with_member(tree: TypeTree, top: &mut Open) -> Result<(), Fault>
     ensures ok { OnOk result (begun_by top.new ≡ with_member (tree_of tree) (begun_by top.old)) }
@@ -204,7 +215,7 @@ fn with_member(tree: TypeTree, top: &mut Open) -> Result<(), Fault>
         Open::Fields(_, fields) => fields.push(tree)?,
         Open::Ordered(_, _, fields) => fields.push(tree)?,
         Open::Members(_, fields) => fields.push(tree)?,
-        Open::Variant(_, _, _, fields) => fields.push(tree)?,
+        Open::Variant(_, _, _, fields) => with_field(tree, fields)?,
         Open::Coroutine(parts) => with_type(tree, parts)?,
         _ => {}
     }
