@@ -2,106 +2,95 @@
 
 ghost use Rattle.abi_base.specs.DataLayout.{IsLawfulDataLayout};
 
-use crate::line::Line;
-use crate::out::Out;
-use crate::stop::{Clause, Stop};
+use crate::call::{Call, Place};
+use crate::stop::{Clause, OUT_OF_MEMORY, Stop};
 use crate::{
     coroutines, data_layouts, enums, laws, lists, numbers, ranges, registers, sets, types, values,
 };
 use abi_base::{Endian, TargetDataLayout};
 use std::alloc::{AllocError, Global};
 
-/// Answers a call of this name; whether there is one.
-fn answer_call(
-    alloc: Global,
-    dl: &TargetDataLayout,
-    name: &[u8],
-    line: &mut Line<'_>,
-    out: &mut Out,
-) -> bool
+/// Answers the call; whether there is one of this name.
+fn answer_call(dl: &TargetDataLayout, call: &mut Call) -> bool
     requires { IsLawfulDataLayout dl.now }
 {
-    lists::call(alloc, dl, name, line, out)
-        || laws::call(alloc, dl, name, line, out)
-        || enums::call(alloc, dl, name, line, out)
-        || coroutines::call(alloc, dl, name, line, out)
-        || types::call(alloc, dl, name, line, out)
-        || registers::call(alloc, dl, name, line, out)
-        || values::call(alloc, dl, name, line, out)
-        || numbers::call(alloc, dl, name, line, out)
-        || ranges::call(alloc, dl, name, line, out)
-        || data_layouts::call(alloc, name, line, out)
-        || sets::call(alloc, name, line, out)
+    lists::answers(dl, call)
+        || laws::answers(dl, call)
+        || enums::answers(dl, call)
+        || coroutines::answers(dl, call)
+        || types::answers(dl, call)
+        || registers::answers(dl, call)
+        || values::answers(dl, call)
+        || numbers::answers(dl, call)
+        || ranges::answers(dl, call)
+        || data_layouts::answers(call)
+        || sets::answers(call)
 }
 
-/// Answers a call of this name under a data layout, which has to be lawful; whether there is one.
-fn answer_under(
-    alloc: Global,
-    dl: &TargetDataLayout,
-    name: &[u8],
-    line: &mut Line<'_>,
-    out: &mut Out,
-) -> bool {
+/// Answers the call under a data layout, which has to be lawful; whether there is one of this name.
+fn answer_under(dl: &TargetDataLayout, call: &mut Call) -> bool {
     if !dl.is_lawful() {
-        line.stop(Stop::Asks(Clause::DataLayout));
+        call.lacks(Clause::DataLayout);
         return true;
     }
-    answer_call(alloc, dl, name, line, out)
+    answer_call(dl, call)
 }
 
 /// Answers the call of a line, or stops.
-fn answer_words(alloc: Global, line: &mut Line<'_>, out: &mut Out) -> Result<(), Stop> {
-    let text = if line.takes(b"under") {
-        data_layouts::text(line)
+fn answer_words(call: &mut Call) -> Result<(), Stop> {
+    let text = if call.takes(b"under") {
+        call.text()
     } else {
-        ""
+        Place::NOWHERE
     };
-    let name = line.word();
-    line.go_on()?;
-    let named = *line;
-    let mut dl = data_layouts::read(alloc, text)?;
-    if line.takes(b"le") {
+    call.read_name();
+    call.go_on()?;
+    let unknown = Stop::Unreadable(call.count());
+    let mut dl = data_layouts::read(call.alloc, call.text_at(text))?;
+    if call.takes(b"le") {
         dl.endian = Endian::Little;
-    } else if line.takes(b"be") {
+    } else if call.takes(b"be") {
         dl.endian = Endian::Big;
     }
-    if !answer_under(alloc, &dl, name, line, out) {
-        *line = named;
-        line.misfit();
+    if !answer_under(&dl, call) {
+        call.stop(unknown);
     }
-    line.go_on()
+    call.end();
+    call.go_on()
 }
 
 /// Writes why a line has no answer but a refusal.
-fn write_stop(out: &mut Out, stop: Stop) {
+fn write_stop(call: &mut Call, stop: Stop) {
     match stop {
-        Stop::Unreadable(number) => out.put("unreadable word ", number),
+        Stop::Unreadable(number) => call.put("unreadable word ", number),
         Stop::Refused(name) => {
-            out.text("refused ");
-            out.text(name.as_str());
+            call.write("refused ");
+            call.write(name.as_str());
         }
         Stop::Asks(clause) => {
-            out.text("asks ");
-            out.text(clause.as_str());
+            call.write("asks ");
+            call.write(clause.as_str());
         }
-        Stop::OutOfMemory => out.text("refused OutOfMemory"),
-        Stop::Changed => out.text("changed"),
+        Stop::OutOfMemory => call.write(OUT_OF_MEMORY),
+        Stop::Changed => call.write("changed"),
     }
 }
 
-/// The answer to a line.
-fn answer(alloc: Global, text: &[u8]) -> Out {
-    let mut out = Out::new(alloc);
-    if let Err(stop) = answer_words(alloc, &mut Line::new(text), &mut out) {
-        out = Out::new(alloc);
-        write_stop(&mut out, stop);
+/// The call of a line, with its answer.
+fn answered(alloc: Global, line: &[u8]) -> Result<Call, AllocError> {
+    let mut call = Call::new(alloc, line)?;
+    if let Err(stop) = answer_words(&mut call) {
+        call.clear();
+        write_stop(&mut call, stop);
     }
-    out
+    Ok(call)
 }
 
 /// Writes the answer to a line, and ends it.
-pub(crate) fn answer_line(alloc: Global, out: &mut String, text: &[u8]) -> Result<(), AllocError> {
-    let answer = answer(alloc, text);
-    out.push_str(answer.whole().unwrap_or("refused OutOfMemory"))?;
+pub(crate) fn answer_line(alloc: Global, out: &mut String, line: &[u8]) -> Result<(), AllocError> {
+    match answered(alloc, line) {
+        Ok(call) => out.push_str(call.answer())?,
+        Err(_) => out.push_str(OUT_OF_MEMORY)?,
+    }
     out.push_str("\n")
 }

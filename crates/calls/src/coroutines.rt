@@ -7,9 +7,8 @@ ghost use Rattle.abi_scalar.specs.Lawful.{IsLawfulLayout};
 ghost use Rattle.abi_index.specs.Relation.{column_count, row_count};
 ghost use Rattle.rustc_abi.specs.Coroutines.{IsHeld};
 
+use crate::call::Call;
 use crate::layouts::{Layout, MOST_ITEMS, are_lawful, calculated, layouts, lent};
-use crate::line::Line;
-use crate::out::Out;
 use crate::print::{write_made, write_scalar};
 use crate::stop::{Clause, Stop};
 use abi_base::TargetDataLayout;
@@ -163,49 +162,49 @@ fn laid(
 }
 
 /// The numbers between the parentheses that are next.
-fn numbers(alloc: Global, line: &mut Line<'_>) -> Vec<u32>
+fn numbers(call: &mut Call) -> Vec<u32>
     ensures { length result.items ≤ 1_000_000 }
 {
-    line.expect(b"(");
-    let mut all = Vec::new(alloc);
+    call.expect(b"(");
+    let mut all = Vec::new(call.alloc);
     for _ in 0..u64::MAX {
-        if !line.has_more() {
+        if !call.has_more() {
             break;
         }
-        let number = line.short();
-        line.grow(all.push(number));
+        let number = call.short();
+        call.grow(all.push(number));
     }
     if all.len() > MOST_ITEMS {
-        line.lacks(Clause::Count);
-        return Vec::new(alloc);
+        call.lacks(Clause::Count);
+        return Vec::new(call.alloc);
     }
     all
 }
 
 /// The states between the parentheses that are next: for each the locals that it holds.
-fn states(alloc: Global, line: &mut Line<'_>) -> Vec<State> {
-    line.expect(b"(");
-    let mut all = Vec::new(alloc);
+fn states(call: &mut Call) -> Vec<State> {
+    call.expect(b"(");
+    let mut all = Vec::new(call.alloc);
     for _ in 0..u64::MAX {
-        if !line.has_more() {
+        if !call.has_more() {
             break;
         }
-        let item = IndexVec::from_raw(numbers(alloc, line));
-        line.grow(all.push(item));
+        let item = IndexVec::from_raw(numbers(call));
+        call.grow(all.push(item));
     }
     all
 }
 
 /// The pairs of numbers between the parentheses that are next.
-fn pairs(alloc: Global, line: &mut Line<'_>) -> Vec<(u32, u32)> {
-    line.expect(b"(");
-    let mut all = Vec::new(alloc);
+fn pairs(call: &mut Call) -> Vec<(u32, u32)> {
+    call.expect(b"(");
+    let mut all = Vec::new(call.alloc);
     for _ in 0..u64::MAX {
-        if !line.has_more() {
+        if !call.has_more() {
             break;
         }
-        let item = (line.short(), line.short());
-        line.grow(all.push(item));
+        let item = (call.short(), call.short());
+        call.grow(all.push(item));
     }
     all
 }
@@ -231,44 +230,38 @@ fn laid_made(
 }
 
 /// `coroutine ( PREFIX.. ) ( LOCAL.. ) ( ( NUMBER.. ) .. ) ( NUMBER NUMBER .. )`
-fn coroutine_of(alloc: Global, dl: &TargetDataLayout, line: &mut Line<'_>) -> Result<Layout, Stop>
+fn coroutine_of(dl: &TargetDataLayout, call: &mut Call) -> Result<Layout, Stop>
     requires { IsLawfulDataLayout dl.now }
 {
-    let prefix = layouts(alloc, dl, line);
-    let locals = layouts(alloc, dl, line);
-    let states = states(alloc, line);
-    let conflicts = pairs(alloc, line);
-    laid_made(alloc, dl, &prefix, &locals, &states, &conflicts)
+    let prefix = layouts(dl, call);
+    let locals = layouts(dl, call);
+    let states = states(call);
+    let conflicts = pairs(call);
+    laid_made(call.alloc, dl, &prefix, &locals, &states, &conflicts)
 }
 
 /// `state-tag COUNT`: the tag of COUNT states
-fn write_tag(line: &mut Line<'_>, out: &mut Out) {
-    let count = line.number();
-    line.end();
+fn write_tag(call: &mut Call) {
+    let count = call.number();
+    call.end();
     if count == 0 {
-        return line.lacks(Clause::Any);
+        return call.lacks(Clause::Any);
     }
-    write_scalar(out, state_tag(count as usize));
+    write_scalar(call, state_tag(count as usize));
 }
 
-/// Answers a call of this name; whether there is one.
-pub(crate) fn call(
-    alloc: Global,
-    dl: &TargetDataLayout,
-    name: &[u8],
-    line: &mut Line<'_>,
-    out: &mut Out,
-) -> bool
+/// Answers the call; whether it is one of these.
+pub(crate) fn answers(dl: &TargetDataLayout, call: &mut Call) -> bool
     requires { IsLawfulDataLayout dl.now }
 {
-    if name == b"state-tag".as_slice() {
-        write_tag(line, out);
+    if call.is_named(b"state-tag") {
+        write_tag(call);
         return true;
     }
-    if name != b"coroutine".as_slice() {
+    if !call.is_named(b"coroutine") {
         return false;
     }
-    let made = coroutine_of(alloc, dl, line);
-    write_made(alloc, out, line, made);
+    let made = coroutine_of(dl, call);
+    write_made(call, made);
     true
 }

@@ -3,19 +3,12 @@
 ghost use Rattle.std.specs.Prelude.{IsTrue};
 ghost use Rattle.abi_base.specs.DataLayout.{IsPointerWidth, Knows};
 
-use crate::line::{Line, named};
-use crate::out::Out;
+use crate::call::Call;
 use crate::print::write_align;
 use crate::stop::{Clause, Stop, data_layout};
 use abi_base::{AddressSpace, Align, Endian, Size, TargetDataLayout, TargetDataLayoutError};
 use abi_text::read_data_layout;
 use std::alloc::{AllocError, Global};
-
-/// The text of the word that is next.
-pub(crate) fn text<'a>(line: &mut Line<'a>) -> &'a str {
-    let word = line.word();
-    line.fits(str::from_utf8(word).ok(), "")
-}
 
 /// The data layout that a text says.
 pub(crate) fn read(alloc: Global, text: &str) -> Result<TargetDataLayout, Stop> {
@@ -26,19 +19,19 @@ pub(crate) fn read(alloc: Global, text: &str) -> Result<TargetDataLayout, Stop> 
 }
 
 /// Writes alignments, one behind another.
-fn write_aligns(out: &mut Out, aligns: &[Align]) {
+fn write_aligns(call: &mut Call, aligns: &[Align]) {
     let mut between = "";
     for align in aligns {
-        out.text(between);
-        write_align(out, *align);
+        call.write(between);
+        write_align(call, *align);
         between = " ";
     }
 }
 
 /// Writes the alignments of i1 to i128, of f16 to f128 and of lists of fields.
-fn write_all_aligns(out: &mut Out, dl: &TargetDataLayout) {
+fn write_all_aligns(dl: &TargetDataLayout, call: &mut Call) {
     write_aligns(
-        out,
+        call,
         &[
             dl.i1_align,
             dl.i8_align,
@@ -56,17 +49,17 @@ fn write_all_aligns(out: &mut Out, dl: &TargetDataLayout) {
 }
 
 /// Writes a pointer: its size, its alignment and the size of its index.
-fn write_pointer(out: &mut Out, size: Size, align: Align, index: Size) {
-    out.put("size ", size.bytes());
-    out.text(" align ");
-    write_align(out, align);
-    out.put(" index ", index.bytes());
+fn write_pointer(call: &mut Call, size: Size, align: Align, index: Size) {
+    call.put("size ", size.bytes());
+    call.write(" align ");
+    write_align(call, align);
+    call.put(" index ", index.bytes());
 }
 
 /// Writes the pointers into the default space.
-fn write_own_pointer(out: &mut Out, dl: &TargetDataLayout) {
+fn write_own_pointer(dl: &TargetDataLayout, call: &mut Call) {
     write_pointer(
-        out,
+        call,
         dl.pointer_size(),
         dl.pointer_align(),
         dl.pointer_offset(),
@@ -74,35 +67,35 @@ fn write_own_pointer(out: &mut Out, dl: &TargetDataLayout) {
 }
 
 /// Writes the pointers into a space, and whether they are lawful.
-fn write_space(out: &mut Out, dl: &TargetDataLayout, space: AddressSpace) {
+fn write_space(dl: &TargetDataLayout, call: &mut Call, space: AddressSpace) {
     if !dl.knows(space) {
-        return out.text("unknown");
+        return call.write("unknown");
     }
     write_pointer(
-        out,
+        call,
         dl.pointer_size_in(space),
         dl.pointer_align_in(space),
         dl.pointer_offset_in(space),
     );
-    out.tell(" lawful ", dl.has_lawful_pointer(space));
+    call.tell(" lawful ", dl.has_lawful_pointer(space));
 }
 
 /// Writes the vectors whose alignments are listed.
-fn write_vectors(out: &mut Out, dl: &TargetDataLayout) {
+fn write_vectors(dl: &TargetDataLayout, call: &mut Call) {
     let mut between = "";
     for (size, align) in dl.vector_align.as_slice() {
-        out.put(between, size.bytes());
-        out.text(":");
-        write_align(out, *align);
+        call.put(between, size.bytes());
+        call.write(":");
+        write_align(call, *align);
         between = " ";
     }
 }
 
 /// Writes the alignment that is listed of vectors of a size, if one is.
-fn write_listed(out: &mut Out, dl: &TargetDataLayout, size: Size) {
+fn write_listed(dl: &TargetDataLayout, call: &mut Call, size: Size) {
     match dl.vector_align.get(size) {
-        Some(align) => write_align(out, align),
-        None => out.text("none"),
+        Some(align) => write_align(call, align),
+        None => call.write("none"),
     }
 }
 
@@ -115,26 +108,26 @@ fn is_width(size: Size) -> bool
 }
 
 /// Writes the bound of sizes in a space, and the integer that indexes it.
-fn write_bound(line: &mut Line<'_>, out: &mut Out, dl: &TargetDataLayout, space: AddressSpace) {
+fn write_bound(dl: &TargetDataLayout, call: &mut Call, space: AddressSpace) {
     if !dl.knows(space) {
-        return line.lacks(Clause::Known);
+        return call.lacks(Clause::Known);
     }
     if !is_width(dl.pointer_size_in(space)) || !is_width(dl.pointer_offset_in(space)) {
-        return line.lacks(Clause::Width);
+        return call.lacks(Clause::Width);
     }
-    out.number(dl.obj_size_bound_in(space));
-    out.text(" index ");
-    out.text(dl.ptr_sized_integer_in(space).uint_ty_str());
+    call.write_number(dl.obj_size_bound_in(space));
+    call.write(" index ");
+    call.write(dl.ptr_sized_integer_in(space).uint_ty_str());
 }
 
 /// Writes the bound of sizes, and the integer that indexes the default space.
-fn write_own_bound(line: &mut Line<'_>, out: &mut Out, dl: &TargetDataLayout) {
+fn write_own_bound(dl: &TargetDataLayout, call: &mut Call) {
     if !is_width(dl.pointer_size()) || !is_width(dl.pointer_offset()) {
-        return line.lacks(Clause::Width);
+        return call.lacks(Clause::Width);
     }
-    out.number(dl.obj_size_bound());
-    out.text(" index ");
-    out.text(dl.ptr_sized_integer().uint_ty_str());
+    call.write_number(dl.obj_size_bound());
+    call.write(" index ");
+    call.write(dl.ptr_sized_integer().uint_ty_str());
 }
 
 /// Whether a data layout is the default one.
@@ -142,12 +135,18 @@ fn is_default(alloc: Global, dl: &TargetDataLayout) -> Result<bool, AllocError> 
     Ok(*dl == TargetDataLayout::default_in(alloc)?)
 }
 
-/// Writes why a data layout string is refused, or whether it says the default one.
-fn write_read(alloc: Global, out: &mut Out, text: &str) -> Result<(), AllocError> {
-    match read_data_layout(alloc, text) {
-        Ok(dl) => out.tell("default ", is_default(alloc, &dl)?),
-        Err(TargetDataLayoutError::OutOfMemory) => out.cut(),
-        Err(error) => out.debugged(&error),
+/// Writes why the data layout string that is next is refused, or whether it says the default one.
+fn write_read(call: &mut Call) -> Result<(), AllocError> {
+    let place = call.text();
+    let mut text = String::new(call.alloc);
+    text.push_str(call.text_at(place))?;
+    match read_data_layout(call.alloc, &text) {
+        Ok(dl) => {
+            let is_default = is_default(call.alloc, &dl)?;
+            call.tell("default ", is_default);
+        }
+        Err(TargetDataLayoutError::OutOfMemory) => call.cut(),
+        Err(error) => call.write_debugged(&error),
     }
     Ok(())
 }
@@ -183,66 +182,64 @@ const DATA_LAYOUT_CALLS: [(&[u8], DataLayoutCall); 11] = [
 ];
 
 /// What a call has before its data layout: the number of a space, or a size.
-fn given(call: DataLayoutCall, line: &mut Line<'_>) -> (AddressSpace, Size) {
-    match call {
+fn given(call: &mut Call, asked: DataLayoutCall) -> (AddressSpace, Size) {
+    match asked {
         DataLayoutCall::PointerIn | DataLayoutCall::LawfulPointer | DataLayoutCall::BoundIn => {
-            (AddressSpace(line.short()), Size::ZERO)
+            (AddressSpace(call.short()), Size::ZERO)
         }
-        DataLayoutCall::ListedVector => (AddressSpace::ZERO, Size::from_bytes(line.number())),
+        DataLayoutCall::ListedVector => (AddressSpace::ZERO, call.size()),
         _ => (AddressSpace::ZERO, Size::ZERO),
     }
 }
 
 /// Writes the order of the bytes of numbers.
-fn write_endian(out: &mut Out, endian: Endian) {
+fn write_endian(call: &mut Call, endian: Endian) {
     match endian {
-        Endian::Little => out.text("little"),
-        Endian::Big => out.text("big"),
+        Endian::Little => call.write("little"),
+        Endian::Big => call.write("big"),
     }
 }
 
 /// Answers a call on a data layout; the space and the size are what it has before it.
 fn answer(
-    call: DataLayoutCall,
-    (space, size): (AddressSpace, Size),
     dl: &TargetDataLayout,
-    line: &mut Line<'_>,
-    out: &mut Out,
+    call: &mut Call,
+    asked: DataLayoutCall,
+    (space, size): (AddressSpace, Size),
 ) {
-    match call {
-        DataLayoutCall::Lawful => out.truth(dl.is_lawful()),
-        DataLayoutCall::Endian => write_endian(out, dl.endian),
+    match asked {
+        DataLayoutCall::Lawful => call.write_truth(dl.is_lawful()),
+        DataLayoutCall::Endian => write_endian(call, dl.endian),
         DataLayoutCall::InstructionSpace => {
-            out.number(u64::from(dl.instruction_address_space.0));
+            call.write_number(u64::from(dl.instruction_address_space.0));
         }
-        DataLayoutCall::Aligns => write_all_aligns(out, dl),
-        DataLayoutCall::Vectors => write_vectors(out, dl),
-        DataLayoutCall::Pointer => write_own_pointer(out, dl),
-        DataLayoutCall::PointerIn => write_space(out, dl, space),
-        DataLayoutCall::LawfulPointer => out.truth(dl.has_lawful_pointer(space)),
-        DataLayoutCall::Bound => write_own_bound(line, out, dl),
-        DataLayoutCall::BoundIn => write_bound(line, out, dl, space),
-        DataLayoutCall::ListedVector => write_listed(out, dl, size),
+        DataLayoutCall::Aligns => write_all_aligns(dl, call),
+        DataLayoutCall::Vectors => write_vectors(dl, call),
+        DataLayoutCall::Pointer => write_own_pointer(dl, call),
+        DataLayoutCall::PointerIn => write_space(dl, call, space),
+        DataLayoutCall::LawfulPointer => call.write_truth(dl.has_lawful_pointer(space)),
+        DataLayoutCall::Bound => write_own_bound(dl, call),
+        DataLayoutCall::BoundIn => write_bound(dl, call, space),
+        DataLayoutCall::ListedVector => write_listed(dl, call, size),
     }
 }
 
-/// Answers a call of this name; whether there is one.
-pub(crate) fn call(alloc: Global, name: &[u8], line: &mut Line<'_>, out: &mut Out) -> bool {
-    if name == b"read-data-layout".as_slice() {
-        if write_read(alloc, out, text(line)).is_err() {
-            out.cut();
+/// Answers the call; whether it is one of these.
+pub(crate) fn answers(call: &mut Call) -> bool {
+    if call.is_named(b"read-data-layout") {
+        if write_read(call).is_err() {
+            call.cut();
         }
-        line.end();
         return true;
     }
-    let Some(call) = named(&DATA_LAYOUT_CALLS, name) else {
+    let Some(asked) = call.named(&DATA_LAYOUT_CALLS) else {
         return false;
     };
-    let given = given(call, line);
-    match read(alloc, text(line)) {
-        Ok(dl) => answer(call, given, &dl, line, out),
-        Err(stop) => line.stop(stop),
+    let given = given(call, asked);
+    let text = call.text();
+    match read(call.alloc, call.text_at(text)) {
+        Ok(dl) => answer(&dl, call, asked, given),
+        Err(stop) => call.stop(stop),
     }
-    line.end();
     true
 }

@@ -10,10 +10,9 @@ ghost use Rattle.abi_calc.specs.Enums.Path.{has_no_value, variant_at};
 ghost use Rattle.abi_lists.specs.List.{HasLawfulAligns};
 ghost use Rattle.abi_lists.specs.Placement.{source_order};
 
+use crate::call::Call;
 use crate::layouts::{Layout, are_lawful, calculated, layouts, lent};
-use crate::line::{Line, named};
 use crate::lists::has_lawful_aligns;
-use crate::out::Out;
 use crate::print::write_made;
 use crate::stop::{Clause, Stop};
 use abi_base::{Integer, NicheOptimizations, Primitive, Size, TargetDataLayout};
@@ -218,30 +217,38 @@ fn laid(
     ))
 }
 
-/// Whether niches may be used, which they may not behind `hidden`.
-fn niches(line: &mut Line<'_>) -> NicheOptimizations {
-    if line.takes(b"hidden") {
+/// What is asked of a type of this repr, the integer of whose tag is this one; niches may not be used behind `hidden`.
+fn asked(call: &mut Call, repr: StructRepr, is_enum: bool, tag: (Integer, bool)) -> Question {
+    let niches = if call.takes(b"hidden") {
         NicheOptimizations::Disabled
     } else {
         NicheOptimizations::Enabled
+    };
+    Question {
+        repr: repr.repr,
+        is_enum,
+        always_sized: repr.always_sized,
+        niches,
+        integer: tag.0,
+        signed: tag.1,
     }
 }
 
 /// Variants between parentheses: for each its discriminant and its fields.
-fn variants(alloc: Global, dl: &TargetDataLayout, line: &mut Line<'_>) -> Written
+fn variants(dl: &TargetDataLayout, call: &mut Call) -> Written
     requires { IsLawfulDataLayout dl.now }
 {
-    line.expect(b"(");
-    let mut discriminants = Vec::new(alloc);
-    let mut fields = Vec::new(alloc);
+    call.expect(b"(");
+    let mut discriminants = Vec::new(call.alloc);
+    let mut fields = Vec::new(call.alloc);
     for _ in 0..u64::MAX {
-        if !line.has_more() {
+        if !call.has_more() {
             break;
         }
-        let discriminant = line.discriminant();
-        line.grow(discriminants.push(discriminant));
-        let own = layouts(alloc, dl, line);
-        line.grow(fields.push(own));
+        let discriminant = call.discriminant();
+        call.grow(discriminants.push(discriminant));
+        let own = layouts(dl, call);
+        call.grow(fields.push(own));
     }
     Written {
         discriminants,
@@ -250,11 +257,11 @@ fn variants(alloc: Global, dl: &TargetDataLayout, line: &mut Line<'_>) -> Writte
 }
 
 /// The integer that the next words write, and whether it is signed.
-fn integer(alloc: Global, dl: &TargetDataLayout, line: &mut Line<'_>) -> (Integer, bool) {
-    match line.primitive(alloc, dl) {
+fn integer(dl: &TargetDataLayout, call: &mut Call) -> (Integer, bool) {
+    match call.primitive(dl) {
         Primitive::Int(integer, signed) => (integer, signed),
         _ => {
-            line.misfit();
+            call.misfit();
             (Integer::I8, false)
         }
     }
@@ -274,21 +281,13 @@ fn laid_written(
 }
 
 /// `enum INTEGER REPR ( DISCRIMINANT ( LAYOUT.. ) .. )`, and `hidden` where niches may not be used
-fn enum_of(alloc: Global, dl: &TargetDataLayout, line: &mut Line<'_>) -> Result<Layout, Stop>
+fn enum_of(dl: &TargetDataLayout, call: &mut Call) -> Result<Layout, Stop>
     requires { IsLawfulDataLayout dl.now }
 {
-    let (integer, signed) = integer(alloc, dl, line);
-    let StructRepr { repr, always_sized } = line.repr();
-    let written = variants(alloc, dl, line);
-    let question = Question {
-        repr,
-        is_enum: true,
-        always_sized,
-        niches: niches(line),
-        integer,
-        signed,
-    };
-    laid_written(alloc, dl, &question, &written)
+    let (tag, repr) = (integer(dl, call), call.repr());
+    let written = variants(dl, call);
+    let question = asked(call, repr, true, tag);
+    laid_written(call.alloc, dl, &question, &written)
 }
 
 /// The layout of a struct of these fields.
@@ -305,20 +304,13 @@ fn laid_made(
 }
 
 /// `struct REPR ( LAYOUT.. )`, and `hidden` where niches may not be used
-fn struct_of(alloc: Global, dl: &TargetDataLayout, line: &mut Line<'_>) -> Result<Layout, Stop>
+fn struct_of(dl: &TargetDataLayout, call: &mut Call) -> Result<Layout, Stop>
     requires { IsLawfulDataLayout dl.now }
 {
-    let StructRepr { repr, always_sized } = line.repr();
-    let made = layouts(alloc, dl, line);
-    let question = Question {
-        repr,
-        is_enum: false,
-        always_sized,
-        niches: niches(line),
-        integer: Integer::I8,
-        signed: false,
-    };
-    laid_made(alloc, dl, &question, &made)
+    let repr = call.repr();
+    let made = layouts(dl, call);
+    let question = asked(call, repr, false, (Integer::I8, false));
+    laid_made(call.alloc, dl, &question, &made)
 }
 
 /// Calls of the calculator.
@@ -333,21 +325,15 @@ const ENUM_CALLS: [(&[u8], EnumCall); 2] = [
     (b"struct", EnumCall::Struct),
 ];
 
-/// Answers a call of this name; whether there is one.
-pub(crate) fn call(
-    alloc: Global,
-    dl: &TargetDataLayout,
-    name: &[u8],
-    line: &mut Line<'_>,
-    out: &mut Out,
-) -> bool
+/// Answers the call; whether it is one of these.
+pub(crate) fn answers(dl: &TargetDataLayout, call: &mut Call) -> bool
     requires { IsLawfulDataLayout dl.now }
 {
-    let made = match named(&ENUM_CALLS, name) {
-        Some(EnumCall::Enum) => enum_of(alloc, dl, line),
-        Some(EnumCall::Struct) => struct_of(alloc, dl, line),
+    let made = match call.named(&ENUM_CALLS) {
+        Some(EnumCall::Enum) => enum_of(dl, call),
+        Some(EnumCall::Struct) => struct_of(dl, call),
         None => return false,
     };
-    write_made(alloc, out, line, made);
+    write_made(call, made);
     true
 }

@@ -3,13 +3,12 @@
 
 ghost use Rattle.abi_base.specs.DataLayout.{IsLawfulDataLayout};
 
+use crate::call::Call;
 use crate::layouts::{Layout, layout};
-use crate::line::{Line, named};
-use crate::out::Out;
 use crate::print::write_made;
 use crate::stop::{Clause, Stop, calculator};
 use crate::types::handle::variant_of;
-use abi_base::{Align, Size, TargetDataLayout};
+use abi_base::{Align, NumScalableVectors, Size, TargetDataLayout};
 use abi_index::{FieldIdx, IndexList, TryClone};
 use abi_scalar::{BackendLaneCount, BackendRepr, Scalar, TagEncoding, Variants};
 use std::alloc::{AllocError, Global};
@@ -20,21 +19,28 @@ pub(crate) fn beyond() -> Align {
 }
 
 /// The view of two scalars, the second at an offset.
-pub(crate) fn pair(alloc: Global, dl: &TargetDataLayout, line: &mut Line<'_>) -> BackendRepr {
-    let a = line.scalar(alloc, dl);
-    let b = line.scalar(alloc, dl);
-    let b_offset = Size::from_bytes(line.number());
+pub(crate) fn pair(dl: &TargetDataLayout, call: &mut Call) -> BackendRepr {
+    let a = call.scalar(dl);
+    let b = call.scalar(dl);
+    let b_offset = call.size();
     BackendRepr::ScalarPair { a, b, b_offset }
 }
 
-/// The view of the vector that is next: its lanes, and what they are.
-pub(crate) fn lanes(alloc: Global, dl: &TargetDataLayout, line: &mut Line<'_>) -> BackendRepr {
-    let lanes = line.number();
-    let element = line.scalar(alloc, dl);
+/// The view of the vectors that are next: how many lanes each has, how many they are, if they are scalable, and what the
+/// lanes are.
+pub(crate) fn lanes(dl: &TargetDataLayout, call: &mut Call, is_scalable: bool) -> BackendRepr {
+    let lanes = call.number();
+    let vectors = if is_scalable { call.byte() } else { 0 };
+    let element = call.scalar(dl);
     match BackendLaneCount::new(lanes) {
+        Ok(count) if is_scalable => BackendRepr::SimdScalableVector {
+            element,
+            count,
+            number_of_vectors: NumScalableVectors(vectors),
+        },
         Ok(count) => BackendRepr::SimdVector { element, count },
         Err(error) => {
-            line.stop(calculator::<()>(error));
+            call.stop(calculator::<()>(error));
             BackendRepr::Scalar(element)
         }
     }
@@ -85,45 +91,42 @@ const LAYOUT_CALLS: [(&[u8], LayoutCall); 4] = [
 
 /// Answers a call on a layout; the index is what it has before it.
 fn answer(
-    alloc: Global,
     dl: &TargetDataLayout,
-    call: LayoutCall,
+    call: &mut Call,
+    asked: LayoutCall,
     index: u64,
     layout: &Layout,
-    line: &mut Line<'_>,
-    out: &mut Out,
 ) -> Result<(), Stop>
     requires { IsLawfulDataLayout dl.now }
 {
-    match call {
-        LayoutCall::Lawful => out.truth(layout.is_lawful(dl)),
-        LayoutCall::Copy => out.truth(is_copied(alloc, layout)?),
-        LayoutCall::Debug => out.debugged(layout),
-        LayoutCall::Variant => write_made(alloc, out, line, variant(alloc, layout, index)),
+    match asked {
+        LayoutCall::Lawful => call.write_truth(layout.is_lawful(dl)),
+        LayoutCall::Copy => {
+            let is_copied = is_copied(call.alloc, layout)?;
+            call.write_truth(is_copied);
+        }
+        LayoutCall::Debug => call.write_debugged(layout),
+        LayoutCall::Variant => {
+            let variant = variant(call.alloc, layout, index);
+            write_made(call, variant);
+        }
     }
     Ok(())
 }
 
-/// Answers a call of this name; whether there is one.
-pub(crate) fn call(
-    alloc: Global,
-    dl: &TargetDataLayout,
-    name: &[u8],
-    line: &mut Line<'_>,
-    out: &mut Out,
-) -> bool
+/// Answers the call; whether it is one of these.
+pub(crate) fn answers(dl: &TargetDataLayout, call: &mut Call) -> bool
     requires { IsLawfulDataLayout dl.now }
 {
-    let Some(call) = named(&LAYOUT_CALLS, name) else {
+    let Some(asked) = call.named(&LAYOUT_CALLS) else {
         return false;
     };
-    let index = match call {
-        LayoutCall::Variant => line.number(),
+    let index = match asked {
+        LayoutCall::Variant => call.number(),
         _ => 0,
     };
-    let layout = layout(alloc, dl, line);
-    let done = answer(alloc, dl, call, index, &layout, line, out);
-    line.keep(done);
-    line.end();
+    let layout = layout(dl, call);
+    let done = answer(dl, call, asked, index, &layout);
+    call.keep(done);
     true
 }

@@ -4,14 +4,14 @@ ghost use Rattle.std.specs.Prelude.{◌≤◌, All, IfOk, IfSome, IsTrue, length
 ghost use Rattle.abi_base.specs.DataLayout.{IsLawfulDataLayout};
 ghost use Rattle.abi_scalar.specs.Lawful.{IsLawfulLayout};
 
+use crate::call::Call;
 use crate::laws::{beyond, lanes, pair, put_tag};
-use crate::line::Line;
 use crate::stop::{Clause, Stop, calculator};
-use abi_base::{AbiAlign, Align, NumScalableVectors, Size, TargetDataLayout};
+use abi_base::{AbiAlign, Align, Size, TargetDataLayout};
 use abi_calc::LayoutCalculator;
 use abi_index::{FieldIdx, Hash64, TryClone, VariantIdx};
 use abi_laid::{Laid, TypeTree};
-use abi_scalar::{BackendLaneCount, BackendRepr, LayoutCalculatorError, LayoutData, Niche, Scalar};
+use abi_scalar::{BackendRepr, LayoutCalculatorError, LayoutData, Niche, Scalar};
 use rustc_abi::lay_out;
 use std::alloc::{AllocError, Global};
 
@@ -34,13 +34,9 @@ pub(crate) fn laid_tree(
 }
 
 /// The type that the next words write, laid out.
-pub(crate) fn laid_type(
-    alloc: Global,
-    dl: &TargetDataLayout,
-    line: &mut Line<'_>,
-) -> Result<Laid, Stop> {
-    let tree = line.tree(alloc, dl)?;
-    laid_tree(alloc, dl, &tree)
+pub(crate) fn laid_type(dl: &TargetDataLayout, call: &mut Call) -> Result<Laid, Stop> {
+    let tree = call.tree(dl)?;
+    laid_tree(call.alloc, dl, &tree)
 }
 
 /// The layout of a type, copied.
@@ -52,9 +48,9 @@ fn copied(alloc: Global, laid: &Laid) -> Result<Layout, Stop> {
 }
 
 /// The layout of the type that the next words write.
-fn type_layout(alloc: Global, dl: &TargetDataLayout, line: &mut Line<'_>) -> Result<Layout, Stop> {
-    let laid = laid_type(alloc, dl, line)?;
-    copied(alloc, &laid)
+fn type_layout(dl: &TargetDataLayout, call: &mut Call) -> Result<Layout, Stop> {
+    let laid = laid_type(dl, call)?;
+    copied(call.alloc, &laid)
 }
 
 /// The layout that the calculator answers, or its refusal.
@@ -82,66 +78,42 @@ pub(crate) fn array_of(
 }
 
 /// The layout that is made; of a line that stops, since there is none, that of the unit type.
-fn or_unit(
-    alloc: Global,
-    dl: &TargetDataLayout,
-    line: &mut Line<'_>,
-    made: Result<Layout, Stop>,
-) -> Layout {
+fn or_unit(dl: &TargetDataLayout, call: &mut Call, made: Result<Layout, Stop>) -> Layout {
     match made {
         Ok(layout) => layout,
         Err(stop) => {
-            line.stop(stop);
-            Layout::unit(alloc, dl, true)
+            call.stop(stop);
+            Layout::unit(call.alloc, dl, true)
         }
     }
 }
 
 /// The layout of the slice of the type that the next words write.
-fn slice_layout(alloc: Global, dl: &TargetDataLayout, line: &mut Line<'_>) -> Result<Layout, Stop>
+fn slice_layout(dl: &TargetDataLayout, call: &mut Call) -> Result<Layout, Stop>
     requires { IsLawfulDataLayout dl.now }
 {
-    let element = type_layout(alloc, dl, line)?;
+    let element = type_layout(dl, call)?;
     array_of(dl, &element, None)
 }
 
 /// The view of the type that the next words write.
-fn view_of_type(alloc: Global, dl: &TargetDataLayout, line: &mut Line<'_>) -> BackendRepr {
-    let made = type_layout(alloc, dl, line);
-    or_unit(alloc, dl, line, made).backend_repr
-}
-
-/// The view of the scalable vectors that are next: how many lanes each has, and how many they are.
-fn scalable(alloc: Global, dl: &TargetDataLayout, line: &mut Line<'_>) -> BackendRepr {
-    let lanes = line.number();
-    let number_of_vectors = NumScalableVectors(line.byte());
-    let element = line.scalar(alloc, dl);
-    match BackendLaneCount::new(lanes) {
-        Ok(count) => BackendRepr::SimdScalableVector {
-            element,
-            count,
-            number_of_vectors,
-        },
-        Err(error) => {
-            line.stop(calculator::<()>(error));
-            BackendRepr::Scalar(element)
-        }
-    }
+fn view_of_type(dl: &TargetDataLayout, call: &mut Call) -> BackendRepr {
+    let made = type_layout(dl, call);
+    or_unit(dl, call, made).backend_repr
 }
 
 /// The niche of a scalar at a place.
-fn niche(alloc: Global, dl: &TargetDataLayout, line: &mut Line<'_>) -> Option<Niche> {
-    let offset = Size::from_bytes(line.number());
-    let mut before = *line;
-    match line.scalar(alloc, dl) {
+fn niche(dl: &TargetDataLayout, call: &mut Call) -> Option<Niche> {
+    let offset = call.size();
+    let before = call.count();
+    match call.scalar(dl) {
         Scalar::Initialized { value, valid_range } => Some(Niche {
             offset,
             value,
             valid_range,
         }),
         Scalar::Union { .. } => {
-            before.misfit();
-            line.keep(before.go_on());
+            call.stop(Stop::Unreadable(before));
             None
         }
     }
@@ -192,60 +164,60 @@ const CHANGE_WORDS: [(&[u8], ChangeWord); 18] = [
 ];
 
 /// Changes what the next words tell of a layout.
-fn change(alloc: Global, dl: &TargetDataLayout, line: &mut Line<'_>, layout: &mut Layout) {
-    match line.one_of(&CHANGE_WORDS, ChangeWord::Uninhabited) {
-        ChangeWord::Size => layout.size = Size::from_bytes(line.number()),
-        ChangeWord::Align => layout.align = AbiAlign::new(line.align()),
+fn change(dl: &TargetDataLayout, call: &mut Call, layout: &mut Layout) {
+    match call.one_of(&CHANGE_WORDS, ChangeWord::Uninhabited) {
+        ChangeWord::Size => layout.size = call.size(),
+        ChangeWord::Align => layout.align = AbiAlign::new(call.align()),
         ChangeWord::Beyond => layout.align = AbiAlign::new(beyond()),
-        ChangeWord::Unadjusted => layout.unadjusted_abi_align = line.align(),
-        ChangeWord::MaxReprAlign => layout.max_repr_align = Some(line.align()),
+        ChangeWord::Unadjusted => layout.unadjusted_abi_align = call.align(),
+        ChangeWord::MaxReprAlign => layout.max_repr_align = Some(call.align()),
         ChangeWord::Uninhabited => layout.uninhabited = true,
         ChangeWord::ReprC => layout.repr_c = true,
-        ChangeWord::Seed => layout.randomization_seed = Hash64::new(line.number()),
+        ChangeWord::Seed => layout.randomization_seed = Hash64::new(call.number()),
         ChangeWord::Memory => layout.backend_repr = BackendRepr::Memory { sized: true },
         ChangeWord::Unsized => layout.backend_repr = BackendRepr::Memory { sized: false },
-        ChangeWord::SeenAs => layout.backend_repr = view_of_type(alloc, dl, line),
-        ChangeWord::Scalar => layout.backend_repr = BackendRepr::Scalar(line.scalar(alloc, dl)),
-        ChangeWord::Pair => layout.backend_repr = pair(alloc, dl, line),
-        ChangeWord::Lanes => layout.backend_repr = lanes(alloc, dl, line),
-        ChangeWord::Scalable => layout.backend_repr = scalable(alloc, dl, line),
-        ChangeWord::Niche => layout.largest_niche = niche(alloc, dl, line),
+        ChangeWord::SeenAs => layout.backend_repr = view_of_type(dl, call),
+        ChangeWord::Scalar => layout.backend_repr = BackendRepr::Scalar(call.scalar(dl)),
+        ChangeWord::Pair => layout.backend_repr = pair(dl, call),
+        ChangeWord::Lanes => layout.backend_repr = lanes(dl, call, false),
+        ChangeWord::Scalable => layout.backend_repr = lanes(dl, call, true),
+        ChangeWord::Niche => layout.largest_niche = niche(dl, call),
         ChangeWord::NoNiche => layout.largest_niche = None,
-        ChangeWord::Tag => put_tag(alloc, line.scalar(alloc, dl), layout),
+        ChangeWord::Tag => put_tag(call.alloc, call.scalar(dl), layout),
     }
 }
 
 /// The layout that the next words tell: that of a type, or of a slice of it, changed where `but` follows.
-pub(crate) fn layout(alloc: Global, dl: &TargetDataLayout, line: &mut Line<'_>) -> Layout
+pub(crate) fn layout(dl: &TargetDataLayout, call: &mut Call) -> Layout
     requires { IsLawfulDataLayout dl.now }
 {
-    let made = if line.takes(b"slice") {
-        slice_layout(alloc, dl, line)
+    let made = if call.takes(b"slice") {
+        slice_layout(dl, call)
     } else {
-        type_layout(alloc, dl, line)
+        type_layout(dl, call)
     };
-    let mut layout = or_unit(alloc, dl, line, made);
+    let mut layout = or_unit(dl, call, made);
     for _ in 0..u64::MAX {
-        if !line.takes(b"but") {
+        if !call.takes(b"but") {
             break;
         }
-        change(alloc, dl, line, &mut layout);
+        change(dl, call, &mut layout);
     }
     layout
 }
 
 /// The layouts between the parentheses that are next.
-pub(crate) fn layouts(alloc: Global, dl: &TargetDataLayout, line: &mut Line<'_>) -> Vec<Layout>
+pub(crate) fn layouts(dl: &TargetDataLayout, call: &mut Call) -> Vec<Layout>
     requires { IsLawfulDataLayout dl.now }
 {
-    line.expect(b"(");
-    let mut all = Vec::new(alloc);
+    call.expect(b"(");
+    let mut all = Vec::new(call.alloc);
     for _ in 0..u64::MAX {
-        if !line.has_more() {
+        if !call.has_more() {
             break;
         }
-        let item = layout(alloc, dl, line);
-        line.grow(all.push(item));
+        let item = layout(dl, call);
+        call.grow(all.push(item));
     }
     all
 }

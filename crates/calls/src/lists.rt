@@ -6,17 +6,16 @@ ghost use Rattle.abi_scalar.specs.Lawful.{IsLawfulLayout};
 ghost use Rattle.abi_lists.specs.List.{HasLawfulAligns};
 ghost use Rattle.abi_lists.specs.Placement.{IsLawfulPrefix, IsNonEmptyIfUnsized};
 
+use crate::call::Call;
 use crate::in_order::univariant_in_order;
 use crate::layouts::{
     Layout, MOST_ITEMS, are_lawful, array_of, calculated, is_lawful_align, layout, layouts, lent,
 };
-use crate::line::{Line, named};
-use crate::out::Out;
 use crate::print::write_made;
 use crate::stop::{Clause, Stop};
 use abi_base::{Align, NumScalableVectors, Size, StructKind, TargetDataLayout};
 use abi_calc::LayoutCalculator;
-use abi_index::{IndexSlice, IndexVec};
+use abi_index::{FieldIdx, IndexSlice, IndexVec};
 use abi_scalar::ReprOptions;
 use std::alloc::Global;
 
@@ -35,13 +34,13 @@ const KIND_WORDS: [(&[u8], KindWord); 3] = [
 ];
 
 /// What is known of a list beside its fields.
-pub(crate) fn kind(line: &mut Line<'_>) -> StructKind {
-    match line.one_of(&KIND_WORDS, KindWord::AlwaysSized) {
+pub(crate) fn kind(call: &mut Call) -> StructKind {
+    match call.one_of(&KIND_WORDS, KindWord::AlwaysSized) {
         KindWord::AlwaysSized => StructKind::AlwaysSized,
         KindWord::MaybeUnsized => StructKind::MaybeUnsized,
         KindWord::Prefixed => {
-            let size = Size::from_bytes(line.number());
-            StructKind::Prefixed(size, line.align())
+            let size = call.size();
+            StructKind::Prefixed(size, call.align())
         }
     }
 }
@@ -77,7 +76,7 @@ pub(crate) fn has_lawful_aligns(repr: &ReprOptions) -> bool
 }
 
 /// Whether these fields may be handed in as a list, or which clause says that they may not.
-pub(crate) fn check_list(
+fn check_list(
     dl: &TargetDataLayout,
     fields: &[&Layout],
     repr: &ReprOptions,
@@ -108,47 +107,52 @@ pub(crate) fn check_list(
     Ok(())
 }
 
-/// The list of these fields, as the calculator has it.
+/// The list of these fields, in this order where there is one, as the calculator has it.
 fn list_of(
     alloc: Global,
     dl: &TargetDataLayout,
     fields: &[&Layout],
     repr: &ReprOptions,
     kind: &StructKind,
+    order: Option<&[FieldIdx]>,
 ) -> Result<Layout, Stop>
     requires { IsLawfulDataLayout dl.now }
 {
     check_list(dl, fields, repr, kind)?;
-    calculated(LayoutCalculator::new(dl).layout_of_univariant(
-        alloc,
-        IndexSlice::new(fields),
-        repr,
-        *kind,
-    ))
+    let laying = LayoutCalculator::new(dl);
+    let fields = IndexSlice::new(fields);
+    let Some(order) = order else {
+        return calculated(laying.layout_of_univariant(alloc, fields, repr, *kind));
+    };
+    if !repr.can_randomize_type_layout() {
+        return Err(Stop::Asks(Clause::Random));
+    }
+    calculated(laying.layout_of_univariant_in_order(alloc, fields, repr, *kind, order))
 }
 
-/// The list of these, as the calculator has it.
-fn list_made(
+/// The list of these, in this order where there is one, as the calculator has it.
+pub(crate) fn list_made(
     alloc: Global,
     dl: &TargetDataLayout,
     made: &[Layout],
     repr: &ReprOptions,
     kind: &StructKind,
+    order: Option<&[FieldIdx]>,
 ) -> Result<Layout, Stop>
     requires { IsLawfulDataLayout dl.now }
 {
     let fields = lent(alloc, made)?;
-    list_of(alloc, dl, &fields, repr, kind)
+    list_of(alloc, dl, &fields, repr, kind, order)
 }
 
 /// `univariant REPR KIND ( LAYOUT.. )`
-fn univariant(alloc: Global, dl: &TargetDataLayout, line: &mut Line<'_>) -> Result<Layout, Stop>
+fn univariant(dl: &TargetDataLayout, call: &mut Call) -> Result<Layout, Stop>
     requires { IsLawfulDataLayout dl.now }
 {
-    let repr = line.repr().repr;
-    let kind = kind(line);
-    let made = layouts(alloc, dl, line);
-    list_made(alloc, dl, &made, &repr, &kind)
+    let repr = call.repr().repr;
+    let kind = kind(call);
+    let made = layouts(dl, call);
+    list_made(call.alloc, dl, &made, &repr, &kind, None)
 }
 
 /// The union of these, as the calculator has it.
@@ -172,87 +176,77 @@ fn union_made(
 }
 
 /// `union REPR ( LAYOUT.. )`
-fn union_of(alloc: Global, dl: &TargetDataLayout, line: &mut Line<'_>) -> Result<Layout, Stop>
+fn union_of(dl: &TargetDataLayout, call: &mut Call) -> Result<Layout, Stop>
     requires { IsLawfulDataLayout dl.now }
 {
-    let repr = line.repr().repr;
-    let made = layouts(alloc, dl, line);
-    union_made(alloc, dl, &made, &repr)
+    let repr = call.repr().repr;
+    let made = layouts(dl, call);
+    union_made(call.alloc, dl, &made, &repr)
 }
 
 /// `array COUNT LAYOUT`
-fn array(alloc: Global, dl: &TargetDataLayout, line: &mut Line<'_>) -> Result<Layout, Stop>
+fn array(dl: &TargetDataLayout, call: &mut Call) -> Result<Layout, Stop>
     requires { IsLawfulDataLayout dl.now }
 {
-    let count = line.number();
-    let element = layout(alloc, dl, line);
+    let count = call.number();
+    let element = layout(dl, call);
     array_of(dl, &element, Some(count))
 }
 
 /// `slice LAYOUT`
-fn slice(alloc: Global, dl: &TargetDataLayout, line: &mut Line<'_>) -> Result<Layout, Stop>
+fn slice(dl: &TargetDataLayout, call: &mut Call) -> Result<Layout, Stop>
     requires { IsLawfulDataLayout dl.now }
 {
-    let element = layout(alloc, dl, line);
+    let element = layout(dl, call);
     array_of(dl, &element, None)
 }
 
-/// The vector of `lanes` of these.
-fn vector_of(
+/// Which vectors are asked for: a sized one, a packed one, or so many scalable ones.
+#[derive(Clone, Copy)]
+enum VectorKind {
+    Sized,
+    Packed,
+    Scalable(NumScalableVectors),
+}
+
+/// The vectors of `lanes` of these each.
+fn vectors_of(
     alloc: Global,
     dl: &TargetDataLayout,
     element: &Layout,
     lanes: u64,
-    is_packed: bool,
+    vectors: VectorKind,
 ) -> Result<Layout, Stop>
     requires { IsLawfulDataLayout dl.now }
 {
     if !element.is_lawful(dl) {
         return Err(Stop::Asks(Clause::Element));
     }
-    calculated(LayoutCalculator::new(dl).layout_of_simd_type(alloc, element, lanes, is_packed))
+    let laying = LayoutCalculator::new(dl);
+    calculated(match vectors {
+        VectorKind::Sized => laying.layout_of_simd_type(alloc, element, lanes, false),
+        VectorKind::Packed => laying.layout_of_simd_type(alloc, element, lanes, true),
+        VectorKind::Scalable(count) => {
+            laying.layout_of_scalable_vector_type(alloc, element, lanes, count)
+        }
+    })
 }
 
-/// `simd LANES LAYOUT`, or of a packed one `psimd LANES LAYOUT`
-fn simd(
-    alloc: Global,
-    dl: &TargetDataLayout,
-    line: &mut Line<'_>,
-    is_packed: bool,
-) -> Result<Layout, Stop>
+/// `simd LANES LAYOUT`, of a packed one `psimd LANES LAYOUT`, and `scalable VECTORS LANES LAYOUT` from the lanes on
+fn vectors(dl: &TargetDataLayout, call: &mut Call, vectors: VectorKind) -> Result<Layout, Stop>
     requires { IsLawfulDataLayout dl.now }
 {
-    let lanes = line.number();
-    let element = layout(alloc, dl, line);
-    vector_of(alloc, dl, &element, lanes, is_packed)
-}
-
-/// Scalable vectors, `vectors` of them, each of `lanes` of these.
-fn scalable_of(
-    alloc: Global,
-    dl: &TargetDataLayout,
-    element: &Layout,
-    lanes: u64,
-    vectors: NumScalableVectors,
-) -> Result<Layout, Stop>
-    requires { IsLawfulDataLayout dl.now }
-{
-    if !element.is_lawful(dl) {
-        return Err(Stop::Asks(Clause::Element));
-    }
-    calculated(LayoutCalculator::new(dl).layout_of_scalable_vector_type(
-        alloc, element, lanes, vectors,
-    ))
+    let lanes = call.number();
+    let element = layout(dl, call);
+    vectors_of(call.alloc, dl, &element, lanes, vectors)
 }
 
 /// `scalable VECTORS LANES LAYOUT`
-fn scalable(alloc: Global, dl: &TargetDataLayout, line: &mut Line<'_>) -> Result<Layout, Stop>
+fn scalable(dl: &TargetDataLayout, call: &mut Call) -> Result<Layout, Stop>
     requires { IsLawfulDataLayout dl.now }
 {
-    let vectors = NumScalableVectors(line.byte());
-    let lanes = line.number();
-    let element = layout(alloc, dl, line);
-    scalable_of(alloc, dl, &element, lanes, vectors)
+    let count = NumScalableVectors(call.byte());
+    vectors(dl, call, VectorKind::Scalable(count))
 }
 
 /// Calls of the calculator.
@@ -280,40 +274,29 @@ const LIST_CALLS: [(&[u8], ListCall); 8] = [
 ];
 
 /// The answer to a call.
-fn answer(
-    alloc: Global,
-    dl: &TargetDataLayout,
-    call: ListCall,
-    line: &mut Line<'_>,
-) -> Result<Layout, Stop>
+fn answer(dl: &TargetDataLayout, call: &mut Call, asked: ListCall) -> Result<Layout, Stop>
     requires { IsLawfulDataLayout dl.now }
 {
-    match call {
-        ListCall::Univariant => univariant(alloc, dl, line),
-        ListCall::UnivariantInOrder => univariant_in_order(alloc, dl, line),
-        ListCall::Union => union_of(alloc, dl, line),
-        ListCall::Array => array(alloc, dl, line),
-        ListCall::Slice => slice(alloc, dl, line),
-        ListCall::Simd => simd(alloc, dl, line, false),
-        ListCall::Psimd => simd(alloc, dl, line, true),
-        ListCall::Scalable => scalable(alloc, dl, line),
+    match asked {
+        ListCall::Univariant => univariant(dl, call),
+        ListCall::UnivariantInOrder => univariant_in_order(dl, call),
+        ListCall::Union => union_of(dl, call),
+        ListCall::Array => array(dl, call),
+        ListCall::Slice => slice(dl, call),
+        ListCall::Simd => vectors(dl, call, VectorKind::Sized),
+        ListCall::Psimd => vectors(dl, call, VectorKind::Packed),
+        ListCall::Scalable => scalable(dl, call),
     }
 }
 
-/// Answers a call of this name; whether there is one.
-pub(crate) fn call(
-    alloc: Global,
-    dl: &TargetDataLayout,
-    name: &[u8],
-    line: &mut Line<'_>,
-    out: &mut Out,
-) -> bool
+/// Answers the call; whether it is one of these.
+pub(crate) fn answers(dl: &TargetDataLayout, call: &mut Call) -> bool
     requires { IsLawfulDataLayout dl.now }
 {
-    let Some(call) = named(&LIST_CALLS, name) else {
+    let Some(asked) = call.named(&LIST_CALLS) else {
         return false;
     };
-    let made = answer(alloc, dl, call, line);
-    write_made(alloc, out, line, made);
+    let made = answer(dl, call, asked);
+    write_made(call, made);
     true
 }

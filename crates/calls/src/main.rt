@@ -3,16 +3,15 @@
 #![tactic(auto)]
 
 mod answer;
+mod call;
 mod coroutines;
 mod data_layouts;
 mod enums;
 mod in_order;
 mod laws;
 mod layouts;
-mod line;
 mod lists;
 mod numbers;
-mod out;
 mod print;
 mod ranges;
 mod registers;

@@ -5,10 +5,9 @@ ghost use Rattle.abi_scalar.specs.Niche.{IsReadableNiche};
 ghost use Rattle.abi_scalar.specs.Range.{AreWithin, numbers_of};
 ghost use Rattle.abi_scalar.specs.Scalar.{IsReadable};
 
-use crate::line::{Line, named};
+use crate::call::Call;
 use crate::numbers::integers::knows;
 use crate::numbers::sizes::width;
-use crate::out::Out;
 use crate::print::{write_align, write_niche, write_range, write_scalar, write_true};
 use crate::stop::{Clause, Stop};
 use abi_base::{Size, TargetDataLayout};
@@ -16,14 +15,14 @@ use abi_scalar::{Niche, RangeFull, Scalar, WrappingRange};
 use std::alloc::{AllocError, Global};
 
 /// The range that is next, of numbers of `size` bytes.
-fn range(line: &mut Line<'_>, size: Size) -> WrappingRange
+fn range(call: &mut Call, size: Size) -> WrappingRange
     requires some { 1 ≤ size }
     requires most { size ≤ 16 }
     ensures { AreWithin size result }
 {
-    let (start, end) = (line.wide(), line.wide());
+    let (start, end) = (call.wide(), call.wide());
     let most = size.unsigned_int_max();
-    line.asks(start <= most && end <= most, Clause::Within);
+    call.asks(start <= most && end <= most, Clause::Within);
     WrappingRange {
         start: start.min(most),
         end: end.min(most),
@@ -54,13 +53,13 @@ fn are_within(numbers: &[u128], size: Size) -> bool
 }
 
 /// The numbers that are next, up to the end.
-fn numbers(alloc: Global, line: &mut Line<'_>) -> Result<Vec<u128>, AllocError> {
-    let mut all = Vec::new(alloc);
+fn numbers(call: &mut Call) -> Result<Vec<u128>, AllocError> {
+    let mut all = Vec::new(call.alloc);
     for _ in 0..u64::MAX {
-        if line.peek().is_none() {
+        if !call.has_word() {
             break;
         }
-        all.push(line.wide())?;
+        all.push(call.wide())?;
     }
     Ok(all)
 }
@@ -77,47 +76,47 @@ fn least_range(alloc: Global, size: Size, all: Vec<u128>) -> Result<Option<Wrapp
 }
 
 /// Writes the least range of the numbers that are next, behind the bytes that each has.
-fn write_least(alloc: Global, line: &mut Line<'_>, out: &mut Out) -> Result<(), Stop> {
-    let size = width(line);
-    let all = numbers(alloc, line)?;
-    match least_range(alloc, size, all)? {
-        Some(range) => write_range(out, range),
-        None => out.text("none"),
+fn write_least(call: &mut Call) -> Result<(), Stop> {
+    let size = width(call);
+    let all = numbers(call)?;
+    match least_range(call.alloc, size, all)? {
+        Some(range) => write_range(call, range),
+        None => call.write("none"),
     }
     Ok(())
 }
 
 /// Writes whether the second range that is next lies in the first.
-fn write_contained(line: &mut Line<'_>, out: &mut Out) {
-    let size = width(line);
-    let first = range(line, size);
-    out.truth(first.contains_range(range(line, size), size));
+fn write_contained(call: &mut Call) {
+    let size = width(call);
+    let (first, second) = (range(call, size), range(call, size));
+    call.write_truth(first.contains_range(second, size));
 }
 
 /// Writes whether the number that is next lies in the range before it.
-fn write_contains(line: &mut Line<'_>, out: &mut Out) {
-    let (start, end) = (line.wide(), line.wide());
-    out.truth(WrappingRange { start, end }.contains(line.wide()));
+fn write_contains(call: &mut Call) {
+    let (start, end, number) = (call.wide(), call.wide(), call.wide());
+    call.write_truth(WrappingRange { start, end }.contains(number));
 }
 
 /// Writes an answer that a full range doesn't have.
-fn write_wraps(out: &mut Out, name: &str, answer: Result<bool, RangeFull>) {
+fn write_wraps(call: &mut Call, name: &str, answer: Result<bool, RangeFull>) {
     match answer {
-        Ok(holds) => out.tell(name, holds),
+        Ok(holds) => call.tell(name, holds),
         Err(RangeFull) => {
-            out.text(name);
-            out.text("full");
+            call.write(name);
+            call.write("full");
         }
     }
 }
 
 /// Writes whether the range that is next is full, and how it wraps round.
-fn write_wrapping(line: &mut Line<'_>, out: &mut Out) {
-    let size = width(line);
-    let range = range(line, size);
-    out.tell("full ", range.is_full_for(size));
-    write_wraps(out, " unsigned ", range.no_unsigned_wraparound(size));
-    write_wraps(out, " signed ", range.no_signed_wraparound(size));
+fn write_wrapping(call: &mut Call) {
+    let size = width(call);
+    let range = range(call, size);
+    call.tell("full ", range.is_full_for(size));
+    write_wraps(call, " unsigned ", range.no_unsigned_wraparound(size));
+    write_wraps(call, " signed ", range.no_signed_wraparound(size));
 }
 
 /// Calls on ranges.
@@ -138,16 +137,19 @@ const RANGE_CALLS: [(&[u8], RangeCall); 5] = [
     (b"least-range", RangeCall::LeastRange),
 ];
 
-/// Answers a call on ranges of this name; whether there is one.
-fn call_on_ranges(alloc: Global, name: &[u8], line: &mut Line<'_>, out: &mut Out) -> bool {
-    match named(&RANGE_CALLS, name) {
-        Some(RangeCall::Contains) => write_contains(line, out),
-        Some(RangeCall::ContainsRange) => write_contained(line, out),
-        Some(RangeCall::Wraps) => write_wrapping(line, out),
-        Some(RangeCall::FullRange) => write_range(out, WrappingRange::full(width(line))),
+/// Answers a call on ranges; whether it is one.
+fn call_on_ranges(call: &mut Call) -> bool {
+    match call.named(&RANGE_CALLS) {
+        Some(RangeCall::Contains) => write_contains(call),
+        Some(RangeCall::ContainsRange) => write_contained(call),
+        Some(RangeCall::Wraps) => write_wrapping(call),
+        Some(RangeCall::FullRange) => {
+            let size = width(call);
+            write_range(call, WrappingRange::full(size));
+        }
         Some(RangeCall::LeastRange) => {
-            let done = write_least(alloc, line, out);
-            line.keep(done);
+            let done = write_least(call);
+            call.keep(done);
         }
         None => return false,
     }
@@ -178,9 +180,9 @@ fn is_readable(dl: &TargetDataLayout, scalar: Scalar) -> bool
 }
 
 /// The scalar that is next: a primitive, and the ends of its range.
-fn ranged(alloc: Global, dl: &TargetDataLayout, line: &mut Line<'_>) -> Scalar {
-    let value = line.primitive(alloc, dl);
-    let (start, end) = (line.wide(), line.wide());
+fn ranged(dl: &TargetDataLayout, call: &mut Call) -> Scalar {
+    let value = call.primitive(dl);
+    let (start, end) = (call.wide(), call.wide());
     let valid_range = WrappingRange { start, end };
     Scalar::Initialized { value, valid_range }
 }
@@ -199,108 +201,69 @@ fn niche(dl: &TargetDataLayout, scalar: Scalar) -> Option<Niche>
     }
 }
 
-/// Writes how many numbers the scalar has free.
-fn write_available(line: &mut Line<'_>, out: &mut Out, dl: &TargetDataLayout, scalar: Scalar) {
+/// Writes how many numbers the scalar that is next has free.
+fn write_available(dl: &TargetDataLayout, call: &mut Call) {
+    let scalar = ranged(dl, call);
     match niche(dl, scalar) {
-        Some(niche) => out.wide(niche.available(dl)),
-        None => line.lacks(Clause::Readable),
+        Some(niche) => call.write_wide(niche.available(dl)),
+        None => call.lacks(Clause::Readable),
     }
 }
 
 /// Writes the first of the numbers that are handed out, and the range then.
-fn write_reserved(out: &mut Out, reserved: Option<(u128, Scalar)>) {
+fn write_reserved(call: &mut Call, reserved: Option<(u128, Scalar)>) {
     match reserved {
         Some((start, Scalar::Initialized { valid_range, .. })) => {
-            out.text("start ");
-            out.wide(start);
-            out.text(" range ");
-            write_range(out, valid_range);
+            call.write("start ");
+            call.write_wide(start);
+            call.write(" range ");
+            write_range(call, valid_range);
         }
-        _ => out.text("none"),
+        _ => call.write("none"),
     }
 }
 
-/// Writes what is handed out of the free numbers of the scalar, where `count` are asked for.
-fn write_reserve(
-    line: &mut Line<'_>,
-    out: &mut Out,
-    dl: &TargetDataLayout,
-    scalar: Scalar,
-    count: u128,
-) {
+/// Writes what is handed out of the free numbers of the scalar that is next, where as many as follow are asked for.
+fn write_reserve(dl: &TargetDataLayout, call: &mut Call) {
+    let scalar = ranged(dl, call);
+    let count = call.wide();
     let Some(niche) = niche(dl, scalar) else {
-        return line.lacks(Clause::Readable);
+        return call.lacks(Clause::Readable);
     };
     if count < 1 {
-        return line.lacks(Clause::Any);
+        return call.lacks(Clause::Any);
     }
-    write_reserved(out, niche.reserve(dl, count));
+    write_reserved(call, niche.reserve(dl, count));
 }
 
 /// Writes the niche of the scalar that is next, at the place before it.
-fn write_from_scalar(alloc: Global, dl: &TargetDataLayout, line: &mut Line<'_>, out: &mut Out) {
-    let offset = Size::from_bytes(line.number());
-    let scalar = line.scalar(alloc, dl);
+fn write_from_scalar(dl: &TargetDataLayout, call: &mut Call) {
+    let offset = call.size();
+    let scalar = call.scalar(dl);
     if is_readable(dl, scalar) {
-        write_niche(out, Niche::from_scalar(dl, offset, scalar));
+        write_niche(call, Niche::from_scalar(dl, offset, scalar));
     } else {
-        line.lacks(Clause::Readable);
+        call.lacks(Clause::Readable);
     }
 }
 
-/// Calls on niches.
-#[derive(Clone, Copy)]
-enum NicheCall {
-    Available,
-    Reserve,
-    NicheFromScalar,
-}
-
-const NICHE_CALLS: [(&[u8], NicheCall); 3] = [
-    (b"available", NicheCall::Available),
-    (b"reserve", NicheCall::Reserve),
-    (b"niche-from-scalar", NicheCall::NicheFromScalar),
-];
-
-/// Answers a call on niches of this name; whether there is one.
-fn call_on_niches(
-    alloc: Global,
-    dl: &TargetDataLayout,
-    name: &[u8],
-    line: &mut Line<'_>,
-    out: &mut Out,
-) -> bool {
-    match named(&NICHE_CALLS, name) {
-        Some(NicheCall::Available) => {
-            let scalar = ranged(alloc, dl, line);
-            write_available(line, out, dl, scalar);
-        }
-        Some(NicheCall::Reserve) => {
-            let scalar = ranged(alloc, dl, line);
-            let count = line.wide();
-            write_reserve(line, out, dl, scalar, count);
-        }
-        Some(NicheCall::NicheFromScalar) => write_from_scalar(alloc, dl, line, out),
-        None => return false,
-    }
-    true
-}
-
-/// Writes all that a scalar tells.
-fn write_told(line: &mut Line<'_>, out: &mut Out, dl: &TargetDataLayout, scalar: Scalar) {
+/// Writes all that the scalar that is next tells.
+fn write_told(dl: &TargetDataLayout, call: &mut Call) {
+    let scalar = call.scalar(dl);
+    call.end();
     if !is_readable(dl, scalar) {
-        return line.lacks(Clause::Readable);
+        return call.lacks(Clause::Readable);
     }
-    out.put("size ", scalar.size(dl).bytes());
-    out.text(" range ");
-    write_range(out, scalar.valid_range(dl));
-    out.text(" align ");
-    write_align(out, scalar.default_align(dl));
-    out.text(" union ");
-    write_scalar(out, scalar.to_union());
-    out.text(" is ");
+    call.put("size ", scalar.size(dl).bytes());
+    call.write(" range ");
+    write_range(call, scalar.valid_range(dl));
+    call.write(" align ");
+    write_align(call, scalar.default_align(dl));
+    call.write(" union ");
+    write_scalar(call, scalar.to_union());
+    call.write(" is ");
     write_true(
-        out,
+        call,
         &[
             ("bool", scalar.is_bool()),
             ("signed", scalar.is_signed()),
@@ -310,24 +273,35 @@ fn write_told(line: &mut Line<'_>, out: &mut Out, dl: &TargetDataLayout, scalar:
     );
 }
 
-/// Answers a call of this name; whether there is one.
-pub(crate) fn call(
-    alloc: Global,
-    dl: &TargetDataLayout,
-    name: &[u8],
-    line: &mut Line<'_>,
-    out: &mut Out,
-) -> bool {
-    if name == b"scalar".as_slice() {
-        let scalar = line.scalar(alloc, dl);
-        line.end();
-        write_told(line, out, dl, scalar);
-        return true;
+/// Calls on scalars and niches.
+#[derive(Clone, Copy)]
+enum ScalarCall {
+    Scalar,
+    Available,
+    Reserve,
+    NicheFromScalar,
+}
+
+const SCALAR_CALLS: [(&[u8], ScalarCall); 4] = [
+    (b"scalar", ScalarCall::Scalar),
+    (b"available", ScalarCall::Available),
+    (b"reserve", ScalarCall::Reserve),
+    (b"niche-from-scalar", ScalarCall::NicheFromScalar),
+];
+
+/// Answers a call on scalars and niches; whether it is one.
+fn call_on_scalars(dl: &TargetDataLayout, call: &mut Call) -> bool {
+    match call.named(&SCALAR_CALLS) {
+        Some(ScalarCall::Scalar) => write_told(dl, call),
+        Some(ScalarCall::Available) => write_available(dl, call),
+        Some(ScalarCall::Reserve) => write_reserve(dl, call),
+        Some(ScalarCall::NicheFromScalar) => write_from_scalar(dl, call),
+        None => return false,
     }
-    let is_known = call_on_ranges(alloc, name, line, out)
-        || call_on_niches(alloc, dl, name, line, out);
-    if is_known {
-        line.end();
-    }
-    is_known
+    true
+}
+
+/// Answers the call; whether it is one of these.
+pub(crate) fn answers(dl: &TargetDataLayout, call: &mut Call) -> bool {
+    call_on_ranges(call) || call_on_scalars(dl, call)
 }

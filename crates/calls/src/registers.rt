@@ -3,9 +3,7 @@
 ghost use Rattle.std.specs.Prelude.{IsTrue};
 ghost use Rattle.abi_types.specs.Reg.{HasAlign};
 
-use crate::data_layouts::text;
-use crate::line::{Line, named};
-use crate::out::Out;
+use crate::call::Call;
 use crate::print::{write_align, write_true};
 use crate::stop::{Clause, Name, Stop};
 use abi_base::{Integer, Numeric, Primitive, RegKind, Size, TargetDataLayout};
@@ -13,12 +11,12 @@ use abi_types::{CVariadicStatus, ExternAbi, Reg, all_names};
 use std::alloc::{AllocError, Global};
 
 /// Writes a register: its kind and its size in bytes.
-pub(crate) fn write_reg(out: &mut Out, reg: Reg) {
-    out.text(kind_name(reg.kind));
-    out.put(" ", reg.size.bytes());
+pub(crate) fn write_reg(call: &mut Call, reg: Reg) {
+    call.write(kind_name(reg.kind));
+    call.put(" ", reg.size.bytes());
     if let RegKind::Vector { hint_vector_elem } = reg.kind {
-        out.text(" of ");
-        out.primitive(hint_vector_elem);
+        call.write(" of ");
+        call.write_primitive(hint_vector_elem);
     }
 }
 
@@ -48,14 +46,14 @@ fn has_align(dl: &TargetDataLayout, reg: Reg) -> bool
 }
 
 /// Writes the alignment of the register of the kind and the size that are next.
-fn write_reg_align(line: &mut Line<'_>, out: &mut Out, dl: &TargetDataLayout) {
-    let kind = line.one_of(&KINDS, RegKind::Integer);
-    let size = Size::from_bytes(line.number());
+fn write_reg_align(dl: &TargetDataLayout, call: &mut Call) {
+    let kind = call.one_of(&KINDS, RegKind::Integer);
+    let size = call.size();
     let reg = Reg { kind, size };
     if has_align(dl, reg) {
-        write_align(out, reg.align(dl));
+        write_align(call, reg.align(dl));
     } else {
-        line.lacks(Clause::Align);
+        call.lacks(Clause::Align);
     }
 }
 
@@ -88,8 +86,8 @@ const REG_WORDS: [(&[u8], RegWord); 10] = [
 ];
 
 /// The register of the name that is next.
-fn reg_named(line: &mut Line<'_>) -> Reg {
-    match line.one_of(&REG_WORDS, RegWord::I8) {
+fn reg_named(call: &mut Call) -> Reg {
+    match call.one_of(&REG_WORDS, RegWord::I8) {
         RegWord::I8 => Reg::i8(),
         RegWord::I16 => Reg::i16(),
         RegWord::I32 => Reg::i32(),
@@ -99,7 +97,7 @@ fn reg_named(line: &mut Line<'_>) -> Reg {
         RegWord::F32 => Reg::f32(),
         RegWord::F64 => Reg::f64(),
         RegWord::F128 => Reg::f128(),
-        RegWord::OpaqueVector => Reg::opaque_vector(Size::from_bytes(line.number())),
+        RegWord::OpaqueVector => Reg::opaque_vector(call.size()),
     }
 }
 
@@ -113,38 +111,39 @@ fn kind_name(kind: RegKind) -> &'static str {
     }
 }
 
-/// Writes the kind of register that the numeric is passed in.
-fn write_numeric_kind(line: &mut Line<'_>, out: &mut Out, primitive: Primitive) {
-    let numeric = match primitive {
+/// Writes the kind of register that the numeric that is next is passed in.
+fn write_numeric_kind(dl: &TargetDataLayout, call: &mut Call) {
+    let numeric = match call.primitive(dl) {
         Primitive::Int(integer, signed) => Numeric::Int(integer, signed),
         Primitive::Float(float) => Numeric::Float(float),
-        Primitive::Pointer(_) => return line.misfit(),
+        Primitive::Pointer(_) => return call.misfit(),
     };
-    out.text(kind_name(numeric.reg_kind()));
+    call.write(kind_name(numeric.reg_kind()));
 }
 
 /// The convention of the name that is next.
-fn convention(line: &mut Line<'_>) -> ExternAbi {
-    match text(line).parse::<ExternAbi>() {
+fn convention(call: &mut Call) -> ExternAbi {
+    let name = call.text();
+    match call.text_at(name).parse::<ExternAbi>() {
         Ok(abi) => abi,
         Err(_) => {
-            line.stop(Stop::Refused(Name::Unknown));
+            call.stop(Stop::Refused(Name::Unknown));
             ExternAbi::Rust
         }
     }
 }
 
 /// Writes a convention's number and name, and what it is fit for.
-fn write_convention(out: &mut Out, abi: ExternAbi) {
-    out.put("", u64::from(abi.as_packed()));
-    out.text(" ");
-    out.text(abi.as_str());
-    out.text(" ");
-    out.shown(&abi);
-    out.text(" ");
+fn write_convention(call: &mut Call, abi: ExternAbi) {
+    call.put("", u64::from(abi.as_packed()));
+    call.write(" ");
+    call.write(abi.as_str());
+    call.write(" ");
+    call.write_shown(&abi);
+    call.write(" ");
     let variadic = abi.supports_c_variadic();
     write_true(
-        out,
+        call,
         &[
             ("rustic", abi.is_rustic_abi()),
             ("variadic", variadic == CVariadicStatus::Stable),
@@ -155,12 +154,12 @@ fn write_convention(out: &mut Out, abi: ExternAbi) {
 }
 
 /// Writes the convention of the number that is next.
-fn write_numbered(line: &mut Line<'_>, out: &mut Out) {
-    let number = line.byte();
+fn write_numbered(call: &mut Call) {
+    let number = call.byte();
     if number < 40 {
-        write_convention(out, ExternAbi::from_packed(number));
+        write_convention(call, ExternAbi::from_packed(number));
     } else {
-        line.lacks(Clause::Number);
+        call.lacks(Clause::Number);
     }
 }
 
@@ -191,25 +190,19 @@ const REG_CALLS: [(&[u8], RegCall); 4] = [
     (b"numeric-reg-kind", RegCall::NumericRegKind),
 ];
 
-/// Answers a call on registers of this name; whether there is one.
-fn call_on_registers(
-    alloc: Global,
-    dl: &TargetDataLayout,
-    name: &[u8],
-    line: &mut Line<'_>,
-    out: &mut Out,
-) -> bool {
-    match named(&REG_CALLS, name) {
-        Some(RegCall::RegAlign) => write_reg_align(line, out, dl),
-        Some(RegCall::Reg) => write_reg(out, reg_named(line)),
+/// Answers a call on registers; whether it is one.
+fn call_on_registers(dl: &TargetDataLayout, call: &mut Call) -> bool {
+    match call.named(&REG_CALLS) {
+        Some(RegCall::RegAlign) => write_reg_align(dl, call),
+        Some(RegCall::Reg) => {
+            let reg = reg_named(call);
+            write_reg(call, reg);
+        }
         Some(RegCall::RegKind) => {
-            let primitive = line.primitive(alloc, dl);
-            out.text(kind_name(RegKind::from_primitive(primitive)));
+            let primitive = call.primitive(dl);
+            call.write(kind_name(RegKind::from_primitive(primitive)));
         }
-        Some(RegCall::NumericRegKind) => {
-            let primitive = line.primitive(alloc, dl);
-            write_numeric_kind(line, out, primitive);
-        }
+        Some(RegCall::NumericRegKind) => write_numeric_kind(dl, call),
         None => return false,
     }
     true
@@ -232,29 +225,32 @@ const CONVENTION_CALLS: [(&[u8], ConventionCall); 4] = [
 ];
 
 /// Writes the names of all conventions.
-fn write_names(alloc: Global, out: &mut Out) -> Result<(), AllocError> {
-    let names = all_names(alloc)?;
+fn write_names(call: &mut Call) -> Result<(), AllocError> {
+    let names = all_names(call.alloc)?;
     let mut between = "";
     for name in &names {
-        out.text(between);
-        out.text(*name);
+        call.write(between);
+        call.write(*name);
         between = " ";
     }
     Ok(())
 }
 
-/// Answers a call on conventions of this name; whether there is one.
-fn call_on_conventions(alloc: Global, name: &[u8], line: &mut Line<'_>, out: &mut Out) -> bool {
-    match named(&CONVENTION_CALLS, name) {
-        Some(ConventionCall::Convention) => write_convention(out, convention(line)),
-        Some(ConventionCall::ConventionNumber) => write_numbered(line, out),
+/// Answers a call on conventions; whether it is one.
+fn call_on_conventions(call: &mut Call) -> bool {
+    match call.named(&CONVENTION_CALLS) {
+        Some(ConventionCall::Convention) => {
+            let abi = convention(call);
+            write_convention(call, abi);
+        }
+        Some(ConventionCall::ConventionNumber) => write_numbered(call),
         Some(ConventionCall::ConventionOrder) => {
-            let first = convention(line);
-            out.text(order(first, convention(line)));
+            let (first, second) = (convention(call), convention(call));
+            call.write(order(first, second));
         }
         Some(ConventionCall::ConventionNames) => {
-            if write_names(alloc, out).is_err() {
-                out.cut();
+            if write_names(call).is_err() {
+                call.cut();
             }
         }
         None => return false,
@@ -262,18 +258,7 @@ fn call_on_conventions(alloc: Global, name: &[u8], line: &mut Line<'_>, out: &mu
     true
 }
 
-/// Answers a call of this name; whether there is one.
-pub(crate) fn call(
-    alloc: Global,
-    dl: &TargetDataLayout,
-    name: &[u8],
-    line: &mut Line<'_>,
-    out: &mut Out,
-) -> bool {
-    let is_known = call_on_registers(alloc, dl, name, line, out)
-        || call_on_conventions(alloc, name, line, out);
-    if is_known {
-        line.end();
-    }
-    is_known
+/// Answers the call; whether it is one of these.
+pub(crate) fn answers(dl: &TargetDataLayout, call: &mut Call) -> bool {
+    call_on_registers(dl, call) || call_on_conventions(call)
 }

@@ -5,8 +5,7 @@ ghost use Rattle.std.specs.Prelude.{◌≡◌, ◌≤◌, ◌<◌};
 ghost use Rattle.abi_index.specs.BitSet.{domain_size};
 ghost use Rattle.abi_index.specs.Relation.{column_count, row_count};
 
-use crate::line::{Line, named};
-use crate::out::Out;
+use crate::call::Call;
 use crate::print::write_runs;
 use crate::stop::{Clause, Stop};
 use abi_index::{BitMatrix, DenseBitSet, IndexVec, RangeSet, TryClone};
@@ -25,96 +24,103 @@ fn add(alloc: Global, bytes: &mut RangeSet, offset: u32, size: u32) -> Result<()
 }
 
 /// The set of bytes that the runs between the next parentheses make, each an offset and a size, one after another.
-fn bytes(alloc: Global, line: &mut Line<'_>) -> RangeSet {
-    let mut bytes = RangeSet::new(alloc);
-    line.expect(b"(");
+fn bytes(call: &mut Call) -> RangeSet {
+    let mut bytes = RangeSet::new(call.alloc);
+    call.expect(b"(");
     for _ in 0..u64::MAX {
-        if !line.has_more() {
+        if !call.has_more() {
             break;
         }
-        let (offset, size) = (line.short(), line.short());
-        line.keep(add(alloc, &mut bytes, offset, size));
+        let (offset, size) = (call.short(), call.short());
+        let added = add(call.alloc, &mut bytes, offset, size);
+        call.keep(added);
     }
     bytes
 }
 
+/// `range-set ( OFFSET SIZE .. )`: the bytes of a set
+fn range_set(call: &mut Call) {
+    let bytes = bytes(call);
+    write_runs(call, &bytes);
+}
+
 /// `difference ( OFFSET SIZE .. ) ( OFFSET SIZE .. )`: the bytes of a set that are in no other
-fn difference(alloc: Global, line: &mut Line<'_>, out: &mut Out) {
-    let all = bytes(alloc, line);
-    let cuts = bytes(alloc, line);
-    match all.difference(alloc, &cuts) {
-        Ok(left) => write_runs(out, &left),
-        Err(_) => out.cut(),
+fn difference(call: &mut Call) {
+    let all = bytes(call);
+    let cuts = bytes(call);
+    match all.difference(call.alloc, &cuts) {
+        Ok(left) => write_runs(call, &left),
+        Err(_) => call.cut(),
     }
 }
 
 /// How many indices a set is over.
-fn domain(line: &mut Line<'_>) -> usize
+fn domain(call: &mut Call) -> usize
     ensures { result ≤ 4096 }
 {
-    let count = line.number();
-    line.asks(count <= MOST_INDICES, Clause::Count);
+    let count = call.number();
+    call.asks(count <= MOST_INDICES, Clause::Count);
     count.min(MOST_INDICES) as usize
 }
 
 /// Puts the indices between the next parentheses into a set, and writes which were new.
-fn insert_each(line: &mut Line<'_>, out: &mut Out, set: &mut DenseBitSet<u32>, count: usize)
+fn insert_each(call: &mut Call, set: &mut DenseBitSet<u32>, count: usize)
     requires { domain_size set.old ≡ count }
 {
-    line.expect(b"(");
-    out.text("new");
+    call.expect(b"(");
+    call.write("new");
     for _step in 0..u64::MAX {
-        if !line.has_more() {
+        if !call.has_more() {
             break;
         }
-        let index = line.short();
+        let index = call.short();
         if (index as usize) < count {
-            out.tell(" ", set.insert(index));
+            call.tell(" ", set.insert(index));
         } else {
-            line.lacks(Clause::Within);
+            call.lacks(Clause::Within);
         }
     }
 }
 
 /// Writes the members of a set.
-fn write_members(out: &mut Out, set: &DenseBitSet<u32>) {
-    out.text(" members");
+fn write_members(call: &mut Call, set: &DenseBitSet<u32>) {
+    call.write(" members");
     for index in set.iter() {
-        out.put(" ", u64::from(index));
+        call.put(" ", u64::from(index));
     }
-    out.put(" count ", set.count() as u64);
+    call.put(" count ", set.count() as u64);
 }
 
 /// `bit-set COUNT ( INDEX.. )`: which were new when they were put in, and the members
-fn bit_set(alloc: Global, line: &mut Line<'_>, out: &mut Out) -> Result<(), Stop> {
-    let count = domain(line);
-    let mut set: DenseBitSet<u32> = DenseBitSet::new_empty(alloc, count)?;
-    insert_each(line, out, &mut set, count);
-    write_members(out, &set);
+fn bit_set(call: &mut Call) -> Result<(), Stop> {
+    let count = domain(call);
+    let mut set: DenseBitSet<u32> = DenseBitSet::new_empty(call.alloc, count)?;
+    insert_each(call, &mut set, count);
+    write_members(call, &set);
     set.insert_all();
-    out.put(" of ", set.count() as u64);
+    call.put(" of ", set.count() as u64);
     Ok(())
 }
 
 /// Writes the columns of each of `rows` rows.
-fn write_rows(out: &mut Out, relation: &BitMatrix<u32, u32>, rows: usize)
+fn write_rows(call: &mut Call, relation: &BitMatrix<u32, u32>, rows: usize)
     requires rows { row_count relation.now ≡ rows }
     requires few { rows ≤ 4096 }
 {
     for row in 0..rows {
-        write_row(out, relation, row as u32);
+        write_row(call, relation, row as u32);
     }
 }
 
 /// Writes the columns of a row.
-fn write_row(out: &mut Out, relation: &BitMatrix<u32, u32>, row: u32)
+fn write_row(call: &mut Call, relation: &BitMatrix<u32, u32>, row: u32)
     requires { row < row_count relation.now }
 {
-    out.put("; row ", u64::from(row));
-    out.put(" count ", relation.count(row) as u64);
-    out.text(" has");
+    call.put("; row ", u64::from(row));
+    call.put(" count ", relation.count(row) as u64);
+    call.write(" has");
     for column in relation.iter(row) {
-        out.put(" ", u64::from(column));
+        call.put(" ", u64::from(column));
     }
 }
 
@@ -143,8 +149,7 @@ fn relate(
 
 /// Relates the pairs between the next parentheses, and writes which were new.
 fn relate_each(
-    line: &mut Line<'_>,
-    out: &mut Out,
+    call: &mut Call,
     relation: &mut BitMatrix<u32, u32>,
     before: &mut BitMatrix<u32, u32>,
     rows: usize,
@@ -156,28 +161,28 @@ fn relate_each(
     requires columns_before { column_count before.old ≡ columns }
     ensures { row_count relation.new ≡ rows }
 {
-    line.expect(b"(");
-    out.text("new");
+    call.expect(b"(");
+    call.write("new");
     for _step in 0..u64::MAX {
-        if !line.has_more() {
+        if !call.has_more() {
             break;
         }
-        let (row, column) = (line.short(), line.short());
+        let (row, column) = (call.short(), call.short());
         if row as usize >= rows || column as usize >= columns {
             return Err(Stop::Asks(Clause::Within));
         }
-        out.tell(" ", relate(relation, before, row, column)?);
+        call.tell(" ", relate(relation, before, row, column)?);
     }
     Ok(())
 }
 
 /// `relation ROWS COLUMNS ( ROW COLUMN .. )`: which were new when they were put in, and the columns of each row
-fn relation(alloc: Global, line: &mut Line<'_>, out: &mut Out) -> Result<(), Stop> {
-    let (rows, columns) = (domain(line), domain(line));
-    let mut relation = BitMatrix::new(alloc, rows, columns)?;
-    let mut before = BitMatrix::new(alloc, rows, columns)?;
-    relate_each(line, out, &mut relation, &mut before, rows, columns)?;
-    write_rows(out, &relation, rows);
+fn relation(call: &mut Call) -> Result<(), Stop> {
+    let (rows, columns) = (domain(call), domain(call));
+    let mut relation = BitMatrix::new(call.alloc, rows, columns)?;
+    let mut before = BitMatrix::new(call.alloc, rows, columns)?;
+    relate_each(call, &mut relation, &mut before, rows, columns)?;
+    write_rows(call, &relation, rows);
     Ok(())
 }
 
@@ -194,31 +199,28 @@ fn push(alloc: Global, list: &mut IndexVec<u32, u64>, item: u64) -> Result<u32, 
 }
 
 /// Puts the items between the next parentheses behind a list, and writes each behind its index.
-fn push_each(
-    alloc: Global,
-    line: &mut Line<'_>,
-    out: &mut Out,
-    list: &mut IndexVec<u32, u64>,
-) -> Result<(), Stop> {
-    line.expect(b"(");
+fn push_each(call: &mut Call, list: &mut IndexVec<u32, u64>) -> Result<(), Stop> {
+    call.expect(b"(");
     for _step in 0..u64::MAX {
-        if !line.has_more() {
+        if !call.has_more() {
             break;
         }
-        let item = line.number();
-        out.put("", u64::from(push(alloc, list, item)?));
-        out.put(":", item);
-        out.text(" ");
+        let item = call.number();
+        let index = push(call.alloc, list, item)?;
+        call.put("", u64::from(index));
+        call.put(":", item);
+        call.write(" ");
     }
     Ok(())
 }
 
 /// `index-list ( ITEM .. )`: each item behind its index, how many there are, and whether a copy is the same
-fn index_list(alloc: Global, line: &mut Line<'_>, out: &mut Out) -> Result<(), Stop> {
-    let mut list = IndexVec::new(alloc);
-    push_each(alloc, line, out, &mut list)?;
-    out.put("count ", list.len() as u64);
-    out.tell(" copied ", list.try_clone(alloc)? == list);
+fn index_list(call: &mut Call) -> Result<(), Stop> {
+    let mut list = IndexVec::new(call.alloc);
+    push_each(call, &mut list)?;
+    call.put("count ", list.len() as u64);
+    let copy = list.try_clone(call.alloc)?;
+    call.tell(" copied ", copy == list);
     Ok(())
 }
 
@@ -241,24 +243,23 @@ const SET_CALLS: [(&[u8], SetCall); 5] = [
 ];
 
 /// Answers a call.
-fn answer(alloc: Global, call: SetCall, line: &mut Line<'_>, out: &mut Out) -> Result<(), Stop> {
-    match call {
-        SetCall::RangeSet => write_runs(out, &bytes(alloc, line)),
-        SetCall::Difference => difference(alloc, line, out),
-        SetCall::BitSet => return bit_set(alloc, line, out),
-        SetCall::Relation => return relation(alloc, line, out),
-        SetCall::IndexList => return index_list(alloc, line, out),
+fn answer(call: &mut Call, asked: SetCall) -> Result<(), Stop> {
+    match asked {
+        SetCall::RangeSet => range_set(call),
+        SetCall::Difference => difference(call),
+        SetCall::BitSet => return bit_set(call),
+        SetCall::Relation => return relation(call),
+        SetCall::IndexList => return index_list(call),
     }
     Ok(())
 }
 
-/// Answers a call of this name; whether there is one.
-pub(crate) fn call(alloc: Global, name: &[u8], line: &mut Line<'_>, out: &mut Out) -> bool {
-    let Some(call) = named(&SET_CALLS, name) else {
+/// Answers the call; whether it is one of these.
+pub(crate) fn answers(call: &mut Call) -> bool {
+    let Some(asked) = call.named(&SET_CALLS) else {
         return false;
     };
-    let done = answer(alloc, call, line, out);
-    line.keep(done);
-    line.end();
+    let done = answer(call, asked);
+    call.keep(done);
     true
 }

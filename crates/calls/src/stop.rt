@@ -6,6 +6,9 @@ use abi_text::error_name;
 use rustc_abi::LayError;
 use std::alloc::{AllocError, AllocFailed};
 
+/// What is answered where a growth of memory was refused.
+pub(crate) const OUT_OF_MEMORY: &str = "refused OutOfMemory";
+
 /// The name of a refusal.
 #[derive(Clone, Copy)]
 pub(crate) enum Name {

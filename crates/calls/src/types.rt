@@ -6,9 +6,8 @@ ghost use Rattle.std.specs.Prelude.{IsTrue};
 ghost use Rattle.abi_laid.specs.Handles.{IsHandle};
 ghost use Rattle.abi_types.specs.Ty.Runs.{IsVariantIndex};
 
+use crate::call::Call;
 use crate::layouts::{Layout, laid_type};
-use crate::line::{Line, named};
-use crate::out::Out;
 use crate::print::{write_layout, write_runs, write_true};
 use crate::registers::write_reg;
 use crate::stop::{Clause, Stop};
@@ -21,11 +20,11 @@ use abi_types::{Heterogeneous, HomogeneousAggregate};
 use std::alloc::{AllocError, Global};
 
 /// Writes what a type tells that it is.
-fn write_marks(out: &mut Out, it: Handle<'_>)
+fn write_marks(call: &mut Call, it: Handle<'_>)
     requires { IsHandle it }
 {
     write_true(
-        out,
+        call,
         &[
             ("adt", it.is_adt::<()>()),
             ("enum", it.is_enum::<()>()),
@@ -62,17 +61,17 @@ fn only_of_bytes(it: Handle<'_>) -> Option<u32>
 }
 
 /// Writes an index, or that there is none.
-fn write_index(out: &mut Out, index: Option<u32>) {
+fn write_index(call: &mut Call, index: Option<u32>) {
     match index {
-        Some(index) => out.number(u64::from(index)),
-        None => out.text("none"),
+        Some(index) => call.write_number(u64::from(index)),
+        None => call.write("none"),
     }
 }
 
 /// Writes what a layout tells of itself.
-fn write_facts(out: &mut Out, layout: &Layout) {
+fn write_facts(call: &mut Call, layout: &Layout) {
     write_true(
-        out,
+        call,
         &[
             ("aggregate", layout.is_aggregate()),
             ("zst", layout.is_zst()),
@@ -88,13 +87,13 @@ fn write_facts(out: &mut Out, layout: &Layout) {
 }
 
 /// Writes the register that a type is uniform with.
-fn write_uniform(out: &mut Out, it: Handle<'_>)
+fn write_uniform(call: &mut Call, it: Handle<'_>)
     requires { IsHandle it }
 {
     match it.homogeneous_aggregate(&()) {
-        Ok(HomogeneousAggregate::Homogeneous(reg)) => write_reg(out, reg),
-        Ok(HomogeneousAggregate::NoData) => out.text("NoData"),
-        Err(Heterogeneous) => out.text("Heterogeneous"),
+        Ok(HomogeneousAggregate::Homogeneous(reg)) => write_reg(call, reg),
+        Ok(HomogeneousAggregate::NoData) => call.write("NoData"),
+        Err(Heterogeneous) => call.write("Heterogeneous"),
     }
 }
 
@@ -114,43 +113,43 @@ fn is_variant(layout: &Layout, index: VariantIdx) -> bool
 }
 
 /// Writes the padding of a type, by any of its variants.
-fn write_padding(alloc: Global, out: &mut Out, it: Handle<'_>) -> Result<(), Stop>
+fn write_padding(call: &mut Call, it: Handle<'_>) -> Result<(), Stop>
     requires { IsHandle it }
 {
     if it.data().is_unsized() {
         return Err(Stop::Asks(Clause::Sized));
     }
-    let padding = it.variant_independent_padding_ranges(alloc, &())?;
-    write_runs(out, &padding);
+    let padding = it.variant_independent_padding_ranges(call.alloc, &())?;
+    write_runs(call, &padding);
     Ok(())
 }
 
 /// Writes the bytes that other variants of a type use, and this one doesn't.
-fn write_unused(alloc: Global, out: &mut Out, it: Handle<'_>, index: u64) -> Result<(), Stop>
+fn write_unused(call: &mut Call, it: Handle<'_>, index: u64) -> Result<(), Stop>
     requires { IsHandle it }
 {
     let index = variant_of(index)?;
     if !is_variant(it.data(), index) {
         return Err(Stop::Asks(Clause::Variant));
     }
-    let unused = it.variant_dependent_padding_ranges(alloc, &(), index)?;
-    write_runs(out, &unused);
+    let unused = it.variant_dependent_padding_ranges(call.alloc, &(), index)?;
+    write_runs(call, &unused);
     Ok(())
 }
 
 /// Writes whether a type is passed as one vector of `bytes` bytes.
-fn write_single(out: &mut Out, it: Handle<'_>, bytes: u64)
+fn write_single(call: &mut Call, it: Handle<'_>, bytes: u64)
     requires { IsHandle it }
 {
-    out.truth(it.is_single_vector_element(&(), Size::from_bytes(bytes)));
+    call.write_truth(it.is_single_vector_element(&(), Size::from_bytes(bytes)));
 }
 
 /// Writes the layout of what a type is within its transparent wrappers.
-fn write_peeled(alloc: Global, out: &mut Out, it: Handle<'_>)
+fn write_peeled(call: &mut Call, it: Handle<'_>)
     requires { IsHandle it }
 {
     let peeled = it.peel_transparent_wrappers_from_non_1zst(&());
-    write_layout(alloc, out, peeled.data());
+    write_layout(call, peeled.data());
 }
 
 /// Calls on types.
@@ -184,43 +183,30 @@ const TYPE_CALLS: [(&[u8], TypeCall); 11] = [
 ];
 
 /// Answers a call on a handle; the number is what it has before its type.
-fn answer(
-    alloc: Global,
-    call: TypeCall,
-    number: u64,
-    it: Handle<'_>,
-    out: &mut Out,
-) -> Result<(), Stop>
+fn answer(call: &mut Call, asked: TypeCall, number: u64, it: Handle<'_>) -> Result<(), Stop>
     requires { IsHandle it }
 {
-    match call {
-        TypeCall::Layout => write_layout(alloc, out, it.data()),
-        TypeCall::Seed => out.number(it.data().randomization_seed.as_u64()),
-        TypeCall::Facts => write_facts(out, it.data()),
-        TypeCall::Marks => write_marks(out, it),
-        TypeCall::Non1ZstField => write_index(out, only_field(it)),
-        TypeCall::NonZstField => write_index(out, only_of_bytes(it)),
-        TypeCall::Peel => write_peeled(alloc, out, it),
-        TypeCall::SingleVector => write_single(out, it, number),
-        TypeCall::Uniform => write_uniform(out, it),
-        TypeCall::Padding => return write_padding(alloc, out, it),
-        TypeCall::Unused => return write_unused(alloc, out, it, number),
+    match asked {
+        TypeCall::Layout => write_layout(call, it.data()),
+        TypeCall::Seed => call.write_number(it.data().randomization_seed.as_u64()),
+        TypeCall::Facts => write_facts(call, it.data()),
+        TypeCall::Marks => write_marks(call, it),
+        TypeCall::Non1ZstField => write_index(call, only_field(it)),
+        TypeCall::NonZstField => write_index(call, only_of_bytes(it)),
+        TypeCall::Peel => write_peeled(call, it),
+        TypeCall::SingleVector => write_single(call, it, number),
+        TypeCall::Uniform => write_uniform(call, it),
+        TypeCall::Padding => return write_padding(call, it),
+        TypeCall::Unused => return write_unused(call, it, number),
     }
     Ok(())
 }
 
 /// Answers a call on the handle that the next words lead to, from a laid-out type on.
-fn answer_part(
-    alloc: Global,
-    call: TypeCall,
-    number: u64,
-    laid: &Laid,
-    line: &mut Line<'_>,
-    out: &mut Out,
-) -> Result<(), Stop> {
-    let it = handle(line, laid.root())?;
-    line.end();
-    answer(alloc, call, number, it, out)
+fn answer_part(call: &mut Call, asked: TypeCall, number: u64, laid: &Laid) -> Result<(), Stop> {
+    let it = handle(call, laid.root())?;
+    call.end();
+    answer(call, asked, number, it)
 }
 
 /// Calls on a laid-out type as a whole.
@@ -236,71 +222,48 @@ const LAID_CALLS: [(&[u8], LaidCall); 2] = [
 ];
 
 /// Answers a call on a laid-out type.
-fn answer_laid(
-    alloc: Global,
-    call: LaidCall,
-    laid: &Laid,
-    out: &mut Out,
-) -> Result<(), AllocError> {
+fn answer_laid(call: &mut Call, asked: LaidCall, laid: &Laid) -> Result<(), AllocError> {
     let count = laid.node_count() as u64;
-    match call {
-        LaidCall::NodeCount => out.number(count),
+    match asked {
+        LaidCall::NodeCount => call.write_number(count),
         LaidCall::Padding => {
-            let (padding, visits) = laid.padding(alloc)?;
-            write_runs(out, &padding);
-            out.put(" reads ", visits as u64);
-            out.put(" of ", count);
+            let (padding, visits) = laid.padding(call.alloc)?;
+            write_runs(call, &padding);
+            call.put(" reads ", visits as u64);
+            call.put(" of ", count);
         }
     }
     Ok(())
 }
 
 /// Whether a call has a number before its type.
-fn has_number(call: TypeCall) -> bool {
-    matches!(call, TypeCall::SingleVector | TypeCall::Unused)
+fn has_number(asked: TypeCall) -> bool {
+    matches!(asked, TypeCall::SingleVector | TypeCall::Unused)
 }
 
 /// Answers a call on the type that is next, as a whole.
-fn call_on_laid(
-    alloc: Global,
-    dl: &TargetDataLayout,
-    call: LaidCall,
-    line: &mut Line<'_>,
-    out: &mut Out,
-) -> Result<(), Stop> {
-    let laid = laid_type(alloc, dl, line)?;
-    line.end();
-    Ok(answer_laid(alloc, call, &laid, out)?)
+fn call_on_laid(dl: &TargetDataLayout, call: &mut Call, asked: LaidCall) -> Result<(), Stop> {
+    let laid = laid_type(dl, call)?;
+    call.end();
+    Ok(answer_laid(call, asked, &laid)?)
 }
 
 /// Answers a call on the type that is next, or on a part of it.
-fn call_on_part(
-    alloc: Global,
-    dl: &TargetDataLayout,
-    call: TypeCall,
-    line: &mut Line<'_>,
-    out: &mut Out,
-) -> Result<(), Stop> {
-    let number = if has_number(call) { line.number() } else { 0 };
-    let laid = laid_type(alloc, dl, line)?;
-    answer_part(alloc, call, number, &laid, line, out)
+fn call_on_part(dl: &TargetDataLayout, call: &mut Call, asked: TypeCall) -> Result<(), Stop> {
+    let number = if has_number(asked) { call.number() } else { 0 };
+    let laid = laid_type(dl, call)?;
+    answer_part(call, asked, number, &laid)
 }
 
-/// Answers a call of this name; whether there is one.
-pub(crate) fn call(
-    alloc: Global,
-    dl: &TargetDataLayout,
-    name: &[u8],
-    line: &mut Line<'_>,
-    out: &mut Out,
-) -> bool {
-    let done = if let Some(call) = named(&LAID_CALLS, name) {
-        call_on_laid(alloc, dl, call, line, out)
-    } else if let Some(call) = named(&TYPE_CALLS, name) {
-        call_on_part(alloc, dl, call, line, out)
+/// Answers the call; whether it is one of these.
+pub(crate) fn answers(dl: &TargetDataLayout, call: &mut Call) -> bool {
+    let done = if let Some(asked) = call.named(&LAID_CALLS) {
+        call_on_laid(dl, call, asked)
+    } else if let Some(asked) = call.named(&TYPE_CALLS) {
+        call_on_part(dl, call, asked)
     } else {
         return false;
     };
-    line.keep(done);
+    call.keep(done);
     true
 }

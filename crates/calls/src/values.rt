@@ -4,9 +4,8 @@ mod deciders;
 mod print;
 mod told;
 
+use crate::call::Call;
 use crate::layouts::laid_type;
-use crate::line::{Line, named};
-use crate::out::Out;
 use crate::stop::{Clause, Name, Stop};
 use crate::values::deciders::{MOST_BYTES, write_deciders};
 use crate::values::print::{write_bytes, write_meant};
@@ -16,71 +15,66 @@ use rustc_abi::{Laid, Value, ValueError, read_value, write_value};
 use std::alloc::{AllocError, Global};
 
 /// Writes the bytes of a value.
-fn write_written(alloc: Global, laid: &Laid, value: &Value, out: &mut Out) -> Result<(), Stop> {
-    match write_value(alloc, laid, value) {
-        Ok(bytes) => write_bytes(out, &bytes),
+fn write_written(call: &mut Call, laid: &Laid, value: &Value) -> Result<(), Stop> {
+    match write_value(call.alloc, laid, value) {
+        Ok(bytes) => write_bytes(call, &bytes),
         Err(ValueError::NotAValue) => return Err(Stop::Refused(Name::NotAValue)),
-        Err(ValueError::OutOfMemory) => out.cut(),
+        Err(ValueError::OutOfMemory) => call.cut(),
     }
     Ok(())
 }
 
 /// `write TYPE VALUE`
-fn write(alloc: Global, laid: &Laid, line: &mut Line<'_>, out: &mut Out) -> Result<(), Stop> {
-    let value = value(alloc, line);
-    line.end();
-    write_written(alloc, laid, &value, out)
+fn write(call: &mut Call, laid: &Laid) -> Result<(), Stop> {
+    let value = value(call);
+    call.end();
+    write_written(call, laid, &value)
 }
 
 /// Writes the value that bytes hold, if they hold one.
-fn write_held(alloc: Global, laid: &Laid, bytes: &[u8], out: &mut Out) -> Result<(), AllocError> {
-    match read_value(alloc, laid, bytes)? {
-        Some(value) => write_meant(out, &value),
-        None => out.text("none"),
+fn write_held(call: &mut Call, laid: &Laid, bytes: &[u8]) -> Result<(), AllocError> {
+    match read_value(call.alloc, laid, bytes)? {
+        Some(value) => write_meant(call, &value),
+        None => call.write("none"),
     }
     Ok(())
 }
 
 /// `read TYPE BYTE..`
-fn read(alloc: Global, laid: &Laid, line: &mut Line<'_>, out: &mut Out) -> Result<(), Stop> {
-    let bytes = bytes(alloc, line);
-    line.end();
-    Ok(write_held(alloc, laid, &bytes, out)?)
+fn read(call: &mut Call, laid: &Laid) -> Result<(), Stop> {
+    let bytes = bytes(call);
+    call.end();
+    Ok(write_held(call, laid, &bytes)?)
 }
 
 /// `decides TYPE`
-fn decides(alloc: Global, laid: &Laid, line: &mut Line<'_>, out: &mut Out) -> Result<(), Stop> {
-    line.end();
+fn decides(call: &mut Call, laid: &Laid) -> Result<(), Stop> {
+    call.end();
     if laid.layout().size.bytes() > MOST_BYTES {
         return Err(Stop::Asks(Clause::Size));
     }
-    Ok(write_deciders(alloc, out, laid)?)
+    Ok(write_deciders(call, laid)?)
 }
 
 /// `decider TYPE PLACE`
-fn decider(
-    alloc: Global,
-    laid: &Laid,
-    line: &mut Line<'_>,
-    out: &mut Out,
-) -> Result<(), AllocError> {
-    let place = line.number();
-    line.end();
-    match laid.decider(alloc, place)? {
+fn decider(call: &mut Call, laid: &Laid) -> Result<(), AllocError> {
+    let place = call.number();
+    call.end();
+    match laid.decider(call.alloc, place)? {
         Some((a, b)) => {
-            write_bytes(out, &a);
-            out.text(" | ");
-            write_bytes(out, &b);
+            write_bytes(call, &a);
+            call.write(" | ");
+            write_bytes(call, &b);
         }
-        None => out.text("none"),
+        None => call.write("none"),
     }
     Ok(())
 }
 
 /// `all-inhabited TYPE`
-fn all_inhabited(laid: &Laid, line: &mut Line<'_>, out: &mut Out) {
-    line.end();
-    out.truth(laid.all_inhabited());
+fn all_inhabited(call: &mut Call, laid: &Laid) {
+    call.end();
+    call.write_truth(laid.all_inhabited());
 }
 
 /// Calls on values.
@@ -102,49 +96,31 @@ const VALUE_CALLS: [(&[u8], ValueCall); 5] = [
 ];
 
 /// Answers a call on a laid-out type.
-fn answer(
-    alloc: Global,
-    call: ValueCall,
-    laid: &Laid,
-    line: &mut Line<'_>,
-    out: &mut Out,
-) -> Result<(), Stop> {
-    match call {
-        ValueCall::Write => write(alloc, laid, line, out),
-        ValueCall::Read => read(alloc, laid, line, out),
-        ValueCall::Decider => Ok(decider(alloc, laid, line, out)?),
-        ValueCall::Decides => decides(alloc, laid, line, out),
+fn answer(call: &mut Call, asked: ValueCall, laid: &Laid) -> Result<(), Stop> {
+    match asked {
+        ValueCall::Write => write(call, laid),
+        ValueCall::Read => read(call, laid),
+        ValueCall::Decider => Ok(decider(call, laid)?),
+        ValueCall::Decides => decides(call, laid),
         ValueCall::AllInhabited => {
-            all_inhabited(laid, line, out);
+            all_inhabited(call, laid);
             Ok(())
         }
     }
 }
 
 /// Answers a call on the type that is next.
-fn call_on_type(
-    alloc: Global,
-    dl: &TargetDataLayout,
-    call: ValueCall,
-    line: &mut Line<'_>,
-    out: &mut Out,
-) -> Result<(), Stop> {
-    let laid = laid_type(alloc, dl, line)?;
-    answer(alloc, call, &laid, line, out)
+fn call_on_type(dl: &TargetDataLayout, call: &mut Call, asked: ValueCall) -> Result<(), Stop> {
+    let laid = laid_type(dl, call)?;
+    answer(call, asked, &laid)
 }
 
-/// Answers a call of this name; whether there is one.
-pub(crate) fn call(
-    alloc: Global,
-    dl: &TargetDataLayout,
-    name: &[u8],
-    line: &mut Line<'_>,
-    out: &mut Out,
-) -> bool {
-    let Some(call) = named(&VALUE_CALLS, name) else {
+/// Answers the call; whether it is one of these.
+pub(crate) fn answers(dl: &TargetDataLayout, call: &mut Call) -> bool {
+    let Some(asked) = call.named(&VALUE_CALLS) else {
         return false;
     };
-    let done = call_on_type(alloc, dl, call, line, out);
-    line.keep(done);
+    let done = call_on_type(dl, call, asked);
+    call.keep(done);
     true
 }

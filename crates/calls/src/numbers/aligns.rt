@@ -3,46 +3,48 @@
 ghost use Rattle.std.specs.Prelude.{◌≤◌};
 ghost use Rattle.abi_base.specs.DataLayout.{IsLawfulDataLayout};
 
-use crate::line::{Line, named};
-use crate::out::Out;
+use crate::call::Call;
 use crate::print::write_align;
 use crate::stop::Clause;
 use abi_base::{AbiAlign, Align, AlignFromBytesError, Size, TargetDataLayout};
 
 /// An alignment within the limit.
-fn within(line: &mut Line<'_>) -> Align
+fn within(call: &mut Call) -> Align
     ensures { result ≤ 29 }
 {
-    let align = line.align();
-    line.asks(align <= Align::MAX, Clause::Limit);
+    let align = call.align();
+    call.asks(align <= Align::MAX, Clause::Limit);
     align.min(Align::MAX)
 }
 
+/// The two alignments that are next.
+fn pair(call: &mut Call) -> (AbiAlign, AbiAlign) {
+    (AbiAlign::new(call.align()), AbiAlign::new(call.align()))
+}
+
 /// Writes an alignment in bytes, or why there is none.
-fn write_made(out: &mut Out, made: Result<Align, AlignFromBytesError>) {
+fn write_made(call: &mut Call, made: Result<Align, AlignFromBytesError>) {
     match made {
-        Ok(align) => write_align(out, align),
-        Err(error) => {
-            out.text("refused ");
-            out.shown(&error);
-        }
+        Ok(align) => write_align(call, align),
+        Err(error) => { call.refuse(&error) }
     }
 }
 
 /// Writes the size, rounded up to the alignment.
 #[tactic(auto, using(abi_lists::proofs::Offsets::Rounding::round_below))]
-fn write_rounded(out: &mut Out, size: u32, align: Align)
+fn write_rounded(call: &mut Call, size: u32, align: Align)
     requires { align ≤ 29 }
 {
-    out.number(Size::from_bytes(u64::from(size)).align_to(align).bytes());
+    call.write_number(Size::from_bytes(u64::from(size)).align_to(align).bytes());
 }
 
-/// Writes the alignment of a vector of `size` bytes.
-fn write_vector_align(line: &mut Line<'_>, out: &mut Out, dl: &TargetDataLayout, size: Size) {
+/// Writes the alignment of a vector of the size that is next.
+fn write_vector_align(dl: &TargetDataLayout, call: &mut Call) {
+    let size = call.size();
     if dl.vector_align.get(size).is_some() || size.bytes() <= 1 << 29 {
-        write_align(out, dl.rust_vector_align(size));
+        write_align(call, dl.rust_vector_align(size));
     } else {
-        line.lacks(Clause::Size);
+        call.lacks(Clause::Size);
     }
 }
 
@@ -65,28 +67,27 @@ const PAIR_CALLS: [(&[u8], PairCall); 5] = [
 ];
 
 /// Answers a call that compares two.
-fn call_on_two(name: &[u8], line: &mut Line<'_>, out: &mut Out) -> bool {
-    match named(&PAIR_CALLS, name) {
+fn call_on_two(call: &mut Call) -> bool {
+    match call.named(&PAIR_CALLS) {
         Some(PairCall::AlignMax) => {
-            let first = AbiAlign::new(line.align());
-            write_align(out, first.max(AbiAlign::new(line.align())).abi);
+            let (first, second) = pair(call);
+            write_align(call, first.max(second).abi);
         }
         Some(PairCall::AlignMin) => {
-            let first = AbiAlign::new(line.align());
-            write_align(out, first.min(AbiAlign::new(line.align())).abi);
+            let (first, second) = pair(call);
+            write_align(call, first.min(second).abi);
         }
         Some(PairCall::RestrictForOffset) => {
-            let align = line.align();
-            let offset = Size::from_bytes(line.number());
-            write_align(out, align.restrict_for_offset(offset));
+            let (align, offset) = (call.align(), call.size());
+            write_align(call, align.restrict_for_offset(offset));
         }
         Some(PairCall::AlignTo) => {
-            let size = line.short();
-            write_rounded(out, size, within(line));
+            let (size, align) = (call.short(), within(call));
+            write_rounded(call, size, align);
         }
         Some(PairCall::IsAligned) => {
-            let size = Size::from_bytes(line.number());
-            out.truth(size.is_aligned(within(line)));
+            let (size, align) = (call.size(), within(call));
+            call.write_truth(size.is_aligned(align));
         }
         None => return false,
     }
@@ -113,24 +114,30 @@ const ALIGN_CALLS: [(&[u8], AlignCall); 6] = [
     (b"vector-align", AlignCall::VectorAlign),
 ];
 
-/// Answers a call of this name; whether there is one.
-pub(crate) fn call(dl: &TargetDataLayout, name: &[u8], line: &mut Line<'_>, out: &mut Out) -> bool
+/// Answers the call; whether it is one of these.
+pub(crate) fn answers(dl: &TargetDataLayout, call: &mut Call) -> bool
     requires { IsLawfulDataLayout dl.now }
 {
-    match named(&ALIGN_CALLS, name) {
-        Some(AlignCall::AlignFromBytes) => write_made(out, Align::from_bytes(line.number())),
-        Some(AlignCall::AlignFromBits) => write_made(out, Align::from_bits(line.number())),
-        Some(AlignCall::AlignBits) => out.number(within(line).bits()),
+    match call.named(&ALIGN_CALLS) {
+        Some(AlignCall::AlignFromBytes) => {
+            let bytes = call.number();
+            write_made(call, Align::from_bytes(bytes));
+        }
+        Some(AlignCall::AlignFromBits) => {
+            let bits = call.number();
+            write_made(call, Align::from_bits(bits));
+        }
+        Some(AlignCall::AlignBits) => {
+            let align = within(call);
+            call.write_number(align.bits());
+        }
         Some(AlignCall::MaxAlignedFactor) => {
-            let size = Size::from_bytes(line.number());
-            write_align(out, Align::max_aligned_factor(size));
+            let size = call.size();
+            write_align(call, Align::max_aligned_factor(size));
         }
-        Some(AlignCall::MaxForTarget) => write_align(out, Align::max_for_target(dl)),
-        Some(AlignCall::VectorAlign) => {
-            let size = Size::from_bytes(line.number());
-            write_vector_align(line, out, dl, size);
-        }
-        None => return call_on_two(name, line, out),
+        Some(AlignCall::MaxForTarget) => write_align(call, Align::max_for_target(dl)),
+        Some(AlignCall::VectorAlign) => write_vector_align(dl, call),
+        None => return call_on_two(call),
     }
     true
 }

@@ -4,9 +4,8 @@ ghost use Rattle.std.specs.Prelude.{◌≤◌, IsTrue};
 ghost use Rattle.abi_base.specs.DataLayout.{IsLawfulDataLayout};
 ghost use Rattle.abi_base.specs.Primitive.{KnowsPrimitive};
 
-use crate::line::{Line, named};
+use crate::call::Call;
 use crate::numbers::sizes::small;
-use crate::out::Out;
 use crate::print::write_align;
 use crate::stop::{Clause, calculator};
 use abi_base::{Float, Integer, NumScalableVectors, Numeric, Primitive, Size, TargetDataLayout};
@@ -25,67 +24,63 @@ pub(crate) fn knows(dl: &TargetDataLayout, value: Primitive) -> bool
 }
 
 /// Writes all that an integer tells.
-fn write_integer(out: &mut Out, dl: &TargetDataLayout, integer: Integer) {
-    out.text(integer.int_ty_str());
-    out.text(" ");
-    out.text(integer.uint_ty_str());
-    out.put(" size ", integer.size().bytes());
-    out.text(" ");
-    out.signed(integer.signed_min());
-    out.text("..=");
-    out.signed(integer.signed_max());
-    out.text(" align ");
-    write_align(out, integer.align(dl));
+fn write_integer(dl: &TargetDataLayout, call: &mut Call, integer: Integer) {
+    call.write(integer.int_ty_str());
+    call.write(" ");
+    call.write(integer.uint_ty_str());
+    call.put(" size ", integer.size().bytes());
+    call.write(" ");
+    call.write_signed(integer.signed_min());
+    call.write("..=");
+    call.write_signed(integer.signed_max());
+    call.write(" align ");
+    write_align(call, integer.align(dl));
 }
 
 /// Writes all that a float tells.
-fn write_float(out: &mut Out, dl: &TargetDataLayout, float: Float) {
-    out.text(float.ty_str());
-    out.put(" size ", float.size().bytes());
-    out.put(" numeric ", Numeric::Float(float).size().bytes());
-    out.tell(" ieee ", float.is_ieee());
-    out.text(" align ");
-    write_align(out, float.align(dl));
+fn write_float(dl: &TargetDataLayout, call: &mut Call, float: Float) {
+    call.write(float.ty_str());
+    call.put(" size ", float.size().bytes());
+    call.put(" numeric ", Numeric::Float(float).size().bytes());
+    call.tell(" ieee ", float.is_ieee());
+    call.write(" align ");
+    write_align(call, float.align(dl));
 }
 
 /// Writes all that a primitive tells.
-fn write_told(line: &mut Line<'_>, out: &mut Out, dl: &TargetDataLayout, value: Primitive) {
+fn write_told(dl: &TargetDataLayout, call: &mut Call, value: Primitive) {
     if !knows(dl, value) {
-        return line.lacks(Clause::Known);
+        return call.lacks(Clause::Known);
     }
-    out.put("size ", value.size(dl).bytes());
-    out.text(" align ");
-    write_align(out, value.default_align(dl));
+    call.put("size ", value.size(dl).bytes());
+    call.write(" align ");
+    write_align(call, value.default_align(dl));
 }
 
 /// Writes the name of an integer, or that there is none.
-fn write_name(out: &mut Out, integer: Option<Integer>) {
+fn write_name(call: &mut Call, integer: Option<Integer>) {
     match integer {
-        Some(integer) => out.text(integer.uint_ty_str()),
-        None => out.text("none"),
+        Some(integer) => call.write(integer.uint_ty_str()),
+        None => call.write("none"),
     }
 }
 
-/// Writes the name of the integer of a size, or why there is none.
-fn write_sized(out: &mut Out, bytes: u64)
-    requires { bytes ≤ 2_305_843_009_213_693_951 }
-{
+/// Writes the name of the integer of the size that is next, or why there is none.
+fn write_sized(call: &mut Call) {
+    let bytes = small(call);
     match Integer::from_size(Size::from_bytes(bytes)) {
-        Ok(integer) => out.text(integer.uint_ty_str()),
-        Err(error) => {
-            out.text("refused ");
-            out.shown(&error);
-        }
+        Ok(integer) => call.write(integer.uint_ty_str()),
+        Err(error) => { call.refuse(&error) }
     }
 }
 
 /// Writes the name of the integer that the words of a repr ask for.
-fn write_attr(line: &mut Line<'_>, out: &mut Out, dl: &TargetDataLayout)
+fn write_attr(dl: &TargetDataLayout, call: &mut Call)
     requires { IsLawfulDataLayout dl.now }
 {
-    let named = line.repr().repr.discr_type();
-    write_name(out, Some(Integer::from_attr(dl, named)));
-    out.tell(" signed ", named.is_signed());
+    let named = call.repr().repr.discr_type();
+    write_name(call, Some(Integer::from_attr(dl, named)));
+    call.tell(" signed ", named.is_signed());
 }
 
 /// Calls that find an integer.
@@ -109,42 +104,49 @@ const FIND_CALLS: [(&[u8], FindCall); 6] = [
 ];
 
 /// Answers a call that finds an integer.
-fn call_to_find(dl: &TargetDataLayout, name: &[u8], line: &mut Line<'_>, out: &mut Out) -> bool
+fn call_to_find(dl: &TargetDataLayout, call: &mut Call) -> bool
     requires { IsLawfulDataLayout dl.now }
 {
-    match named(&FIND_CALLS, name) {
+    match call.named(&FIND_CALLS) {
         Some(FindCall::FitSigned) => {
-            let number = Size::from_bytes(16).sign_extend(line.discriminant());
-            write_name(out, Some(Integer::fit_signed(number)));
+            let number = Size::from_bytes(16).sign_extend(call.discriminant());
+            write_name(call, Some(Integer::fit_signed(number)));
         }
-        Some(FindCall::FitUnsigned) => write_name(out, Some(Integer::fit_unsigned(line.wide()))),
-        Some(FindCall::ForAlign) => write_name(out, Integer::for_align(dl, line.align())),
+        Some(FindCall::FitUnsigned) => {
+            let number = call.wide();
+            write_name(call, Some(Integer::fit_unsigned(number)));
+        }
+        Some(FindCall::ForAlign) => {
+            let align = call.align();
+            write_name(call, Integer::for_align(dl, align));
+        }
         Some(FindCall::ApproximateAlign) => {
-            write_name(out, Some(Integer::approximate_align(dl, line.align())));
+            let align = call.align();
+            write_name(call, Some(Integer::approximate_align(dl, align)));
         }
-        Some(FindCall::IntegerFromSize) => write_sized(out, small(line)),
-        Some(FindCall::FromAttr) => write_attr(line, out, dl),
+        Some(FindCall::IntegerFromSize) => write_sized(call),
+        Some(FindCall::FromAttr) => write_attr(dl, call),
         None => return false,
     }
     true
 }
 
 /// Writes a count of lanes, and whether it is a power of two.
-fn write_lanes(line: &mut Line<'_>, out: &mut Out) {
-    match BackendLaneCount::new(line.number()) {
+fn write_lanes(call: &mut Call) {
+    match BackendLaneCount::new(call.number()) {
         Ok(lanes) => {
-            out.number(lanes.as_u64());
-            out.tell(" power-of-two ", lanes.is_power_of_two());
+            call.write_number(lanes.as_u64());
+            call.tell(" power-of-two ", lanes.is_power_of_two());
         }
-        Err(error) => line.stop(calculator::<()>(error)),
+        Err(error) => call.stop(calculator::<()>(error)),
     }
 }
 
-/// Writes how many vectors a number of fields makes, if it makes any.
-fn write_vectors(out: &mut Out, fields: u64) {
-    match NumScalableVectors::from_field_count(fields as usize) {
-        Some(vectors) => out.number(u64::from(vectors.0)),
-        None => out.text("none"),
+/// Writes how many vectors the number of fields that is next makes, if it makes any.
+fn write_vectors(call: &mut Call) {
+    match NumScalableVectors::from_field_count(call.number() as usize) {
+        Some(vectors) => call.write_number(u64::from(vectors.0)),
+        None => call.write("none"),
     }
 }
 
@@ -161,10 +163,10 @@ const COUNT_CALLS: [(&[u8], CountCall); 2] = [
 ];
 
 /// Answers a call on counts.
-fn call_on_counts(name: &[u8], line: &mut Line<'_>, out: &mut Out) -> bool {
-    match named(&COUNT_CALLS, name) {
-        Some(CountCall::Lanes) => write_lanes(line, out),
-        Some(CountCall::ScalableVectors) => write_vectors(out, line.number()),
+fn call_on_counts(call: &mut Call) -> bool {
+    match call.named(&COUNT_CALLS) {
+        Some(CountCall::Lanes) => write_lanes(call),
+        Some(CountCall::ScalableVectors) => write_vectors(call),
         None => return false,
     }
     true
@@ -184,24 +186,18 @@ const INTEGER_CALLS: [(&[u8], IntegerCall); 3] = [
     (b"primitive", IntegerCall::Primitive),
 ];
 
-/// Answers a call of this name; whether there is one.
-pub(crate) fn call(
-    alloc: Global,
-    dl: &TargetDataLayout,
-    name: &[u8],
-    line: &mut Line<'_>,
-    out: &mut Out,
-) -> bool
+/// Answers the call; whether it is one of these.
+pub(crate) fn answers(dl: &TargetDataLayout, call: &mut Call) -> bool
     requires { IsLawfulDataLayout dl.now }
 {
-    let Some(call) = named(&INTEGER_CALLS, name) else {
-        return call_to_find(dl, name, line, out) || call_on_counts(name, line, out);
+    let Some(asked) = call.named(&INTEGER_CALLS) else {
+        return call_to_find(dl, call) || call_on_counts(call);
     };
-    match (call, line.primitive(alloc, dl)) {
-        (IntegerCall::Integer, Primitive::Int(integer, _)) => write_integer(out, dl, integer),
-        (IntegerCall::Float, Primitive::Float(float)) => write_float(out, dl, float),
-        (IntegerCall::Primitive, value) => write_told(line, out, dl, value),
-        _ => line.misfit(),
+    match (asked, call.primitive(dl)) {
+        (IntegerCall::Integer, Primitive::Int(integer, _)) => write_integer(dl, call, integer),
+        (IntegerCall::Float, Primitive::Float(float)) => write_float(dl, call, float),
+        (IntegerCall::Primitive, value) => write_told(dl, call, value),
+        _ => call.misfit(),
     }
     true
 }

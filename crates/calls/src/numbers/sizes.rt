@@ -3,29 +3,28 @@
 ghost use Rattle.std.specs.Prelude.{◌≤◌};
 ghost use Rattle.abi_base.specs.DataLayout.{IsLawfulDataLayout};
 
-use crate::line::{Line, named};
-use crate::out::Out;
+use crate::call::Call;
 use crate::stop::Clause;
 use abi_base::{Size, TargetDataLayout};
 use abi_index::FieldIdx;
 use abi_scalar::FieldsShape;
 
 /// The width of a number, in bytes: 1 to 16.
-pub(crate) fn width(line: &mut Line<'_>) -> Size
+pub(crate) fn width(call: &mut Call) -> Size
     ensures some { 1 ≤ result }
     ensures most { result ≤ 16 }
 {
-    let bytes = line.number();
-    line.asks(bytes >= 1 && bytes <= 16, Clause::Width);
+    let bytes = call.number();
+    call.asks(bytes >= 1 && bytes <= 16, Clause::Width);
     Size::from_bytes(bytes.clamp(1, 16))
 }
 
 /// The width of a number, in bytes: none to 16.
-fn width_or_none(line: &mut Line<'_>) -> Size
+fn width_or_none(call: &mut Call) -> Size
     ensures { result ≤ 16 }
 {
-    let bytes = line.number();
-    line.asks(bytes <= 16, Clause::Width);
+    let bytes = call.number();
+    call.asks(bytes <= 16, Clause::Width);
     Size::from_bytes(bytes.min(16))
 }
 
@@ -33,32 +32,30 @@ fn width_or_none(line: &mut Line<'_>) -> Size
 const MOST_SMALL: u64 = 2_305_843_009_213_693_951;
 
 /// A size in bytes that is no number of bits beyond 64 bits.
-pub(crate) fn small(line: &mut Line<'_>) -> u64
+pub(crate) fn small(call: &mut Call) -> u64
     ensures { result ≤ 2_305_843_009_213_693_951 }
 {
-    let bytes = line.number();
-    line.asks(bytes <= MOST_SMALL, Clause::Fits);
+    let bytes = call.number();
+    call.asks(bytes <= MOST_SMALL, Clause::Fits);
     bytes.min(MOST_SMALL)
 }
 
 /// Writes a size in bytes, or that there is none.
-fn write_size(out: &mut Out, size: Option<Size>) {
+fn write_size(call: &mut Call, size: Option<Size>) {
     match size {
-        Some(size) => out.number(size.bytes()),
-        None => out.text("none"),
+        Some(size) => call.write_number(size.bytes()),
+        None => call.write("none"),
     }
 }
 
-/// Writes the limits of numbers of a width.
-fn write_limits(out: &mut Out, size: Size)
-    requires some { 1 ≤ size }
-    requires most { size ≤ 16 }
-{
-    out.signed(size.signed_int_min());
-    out.text("..=");
-    out.signed(size.signed_int_max());
-    out.text(" unsigned ");
-    out.wide(size.unsigned_int_max());
+/// Writes the limits of numbers of the width that is next.
+fn write_limits(call: &mut Call) {
+    let size = width(call);
+    call.write_signed(size.signed_int_min());
+    call.write("..=");
+    call.write_signed(size.signed_int_max());
+    call.write(" unsigned ");
+    call.write_wide(size.unsigned_int_max());
 }
 
 /// Calls on a number of a width.
@@ -76,17 +73,17 @@ const WIDTH_CALLS: [(&[u8], WidthCall); 3] = [
 ];
 
 /// Answers a call on a number of a width.
-fn call_on_width(name: &[u8], line: &mut Line<'_>, out: &mut Out) -> bool {
-    match named(&WIDTH_CALLS, name) {
+fn call_on_width(call: &mut Call) -> bool {
+    match call.named(&WIDTH_CALLS) {
         Some(WidthCall::Truncate) => {
-            let size = width_or_none(line);
-            out.wide(size.truncate(line.discriminant()));
+            let (size, number) = (width_or_none(call), call.discriminant());
+            call.write_wide(size.truncate(number));
         }
         Some(WidthCall::SignExtend) => {
-            let size = width_or_none(line);
-            out.signed(size.sign_extend(line.discriminant()));
+            let (size, number) = (width_or_none(call), call.discriminant());
+            call.write_signed(size.sign_extend(number));
         }
-        Some(WidthCall::Limits) => write_limits(out, width(line)),
+        Some(WidthCall::Limits) => write_limits(call),
         None => return false,
     }
     true
@@ -107,12 +104,12 @@ const SUM_CALLS: [(&[u8], SumCall); 3] = [
 ];
 
 /// The sum, difference or product of sizes below 2^32 bytes.
-fn combined(call: SumCall, first: u32, second: u32) -> Option<Size> {
+fn combined(asked: SumCall, first: u32, second: u32) -> Option<Size> {
     let (a, b) = (
         Size::from_bytes(u64::from(first)),
         Size::from_bytes(u64::from(second)),
     );
-    match call {
+    match asked {
         SumCall::Add => Some(a + b),
         SumCall::Mul => Some(a * u64::from(second)),
         SumCall::Sub if second <= first => Some(a - b),
@@ -121,29 +118,29 @@ fn combined(call: SumCall, first: u32, second: u32) -> Option<Size> {
 }
 
 /// Answers a call on two sizes.
-fn call_on_two(name: &[u8], line: &mut Line<'_>, out: &mut Out) -> bool {
-    let Some(call) = named(&SUM_CALLS, name) else {
+fn call_on_two(call: &mut Call) -> bool {
+    let Some(asked) = call.named(&SUM_CALLS) else {
         return false;
     };
-    let (first, second) = (line.short(), line.short());
-    let size = combined(call, first, second);
-    line.asks(size.is_some(), Clause::Fits);
-    write_size(out, size);
+    let (first, second) = (call.short(), call.short());
+    let size = combined(asked, first, second);
+    call.asks(size.is_some(), Clause::Fits);
+    write_size(call, size);
     true
 }
 
 /// `element-offset STRIDE COUNT INDEX`: where an element of an array begins
-fn write_element_offset(line: &mut Line<'_>, out: &mut Out) {
-    let (stride, count, index) = (line.number(), line.number(), line.number());
+fn write_element_offset(call: &mut Call) {
+    let (stride, count, index) = (call.number(), call.number(), call.number());
     if index >= count {
-        return line.lacks(Clause::Within);
+        return call.lacks(Clause::Within);
     }
     if stride.checked_mul(index).is_none() {
-        return line.lacks(Clause::Fits);
+        return call.lacks(Clause::Fits);
     }
     let stride = Size::from_bytes(stride);
     let shape: FieldsShape<FieldIdx> = FieldsShape::Array { stride, count };
-    out.number(shape.offset(index as usize).bytes());
+    call.write_number(shape.offset(index as usize).bytes());
 }
 
 /// Calls on sizes.
@@ -164,23 +161,29 @@ const SIZE_CALLS: [(&[u8], SizeCall); 5] = [
     (b"element-offset", SizeCall::ElementOffset),
 ];
 
-/// Answers a call of this name; whether there is one.
-pub(crate) fn call(dl: &TargetDataLayout, name: &[u8], line: &mut Line<'_>, out: &mut Out) -> bool
+/// Answers the call; whether it is one of these.
+pub(crate) fn answers(dl: &TargetDataLayout, call: &mut Call) -> bool
     requires { IsLawfulDataLayout dl.now }
 {
-    match named(&SIZE_CALLS, name) {
-        Some(SizeCall::SizeFromBits) => out.number(Size::from_bits(line.number()).bytes()),
-        Some(SizeCall::SizeBits) => out.number(Size::from_bytes(small(line)).bits()),
+    match call.named(&SIZE_CALLS) {
+        Some(SizeCall::SizeFromBits) => {
+            let bits = call.number();
+            call.write_number(Size::from_bits(bits).bytes());
+        }
+        Some(SizeCall::SizeBits) => {
+            let bytes = small(call);
+            call.write_number(Size::from_bytes(bytes).bits());
+        }
         Some(SizeCall::CheckedAdd) => {
-            let size = Size::from_bytes(line.number());
-            write_size(out, size.checked_add(Size::from_bytes(line.number()), dl));
+            let (first, second) = (call.size(), call.size());
+            write_size(call, first.checked_add(second, dl));
         }
         Some(SizeCall::CheckedMul) => {
-            let size = Size::from_bytes(line.number());
-            write_size(out, size.checked_mul(line.number(), dl));
+            let (size, count) = (call.size(), call.number());
+            write_size(call, size.checked_mul(count, dl));
         }
-        Some(SizeCall::ElementOffset) => write_element_offset(line, out),
-        None => return call_on_two(name, line, out) || call_on_width(name, line, out),
+        Some(SizeCall::ElementOffset) => write_element_offset(call),
+        None => return call_on_two(call) || call_on_width(call),
     }
     true
 }

@@ -5,8 +5,8 @@ ghost use Rattle.abi_index.specs.Idx.{greatest_place};
 ghost use Rattle.abi_laid.specs.Handles.{IsHandle};
 ghost use Rattle.abi_types.specs.Ty.Lawful.{NamesVariant};
 
+use crate::call::Call;
 use crate::layouts::Layout;
-use crate::line::Line;
 use crate::stop::{Clause, Stop};
 use abi_index::VariantIdx;
 use abi_scalar::Variants;
@@ -59,16 +59,16 @@ fn at_field<'a>(it: Handle<'a>, index: u64) -> Result<Handle<'a>, Stop>
 }
 
 /// The handle that `variant N` and `field N`, one behind another, lead to from this one.
-pub(crate) fn handle<'a>(line: &mut Line<'_>, root: Handle<'a>) -> Result<Handle<'a>, Stop>
+pub(crate) fn handle<'a>(call: &mut Call, root: Handle<'a>) -> Result<Handle<'a>, Stop>
     requires { IsHandle root }
     ensures { IfOk result IsHandle }
 {
     let mut it = root;
     for _step in 0..u64::MAX {
-        if line.takes(b"variant") {
-            it = at_variant(it, line.number())?;
-        } else if line.takes(b"field") {
-            it = at_field(it, line.number())?;
+        if call.takes(b"variant") {
+            it = at_variant(it, call.number())?;
+        } else if call.takes(b"field") {
+            it = at_field(it, call.number())?;
         } else {
             break;
         }

@@ -1,6 +1,6 @@
 //! Which bytes of a type decide.
 
-use crate::out::Out;
+use crate::call::Call;
 use rustc_abi::Laid;
 use std::alloc::{AllocError, Global};
 
@@ -39,7 +39,7 @@ struct Runs {
 }
 
 /// Goes on to a place: a run begins there, or the open one ends and is written.
-fn go_on(out: &mut Out, runs: Runs, decides: bool, place: u64) -> Runs {
+fn go_on(call: &mut Call, runs: Runs, decides: bool, place: u64) -> Runs {
     let between = runs.between;
     match (runs.start, decides) {
         (None, true) => Runs {
@@ -47,8 +47,8 @@ fn go_on(out: &mut Out, runs: Runs, decides: bool, place: u64) -> Runs {
             start: Some(place),
         },
         (Some(first), false) => {
-            out.put(between, first);
-            out.put("..", place);
+            call.put(between, first);
+            call.put("..", place);
             Runs {
                 between: " ",
                 start: None,
@@ -60,22 +60,22 @@ fn go_on(out: &mut Out, runs: Runs, decides: bool, place: u64) -> Runs {
 
 /// Writes the runs of places at which a pair decides, of those up to the one behind the type, as far as no pair is
 /// wrong.
-pub(crate) fn write_deciders(alloc: Global, out: &mut Out, laid: &Laid) -> Result<(), AllocError> {
+pub(crate) fn write_deciders(call: &mut Call, laid: &Laid) -> Result<(), AllocError> {
     let mut runs = Runs {
         between: "",
         start: None,
     };
     for place in 0..=laid.layout().size.bytes() {
-        let verdict = decided(alloc, laid, place)?;
+        let verdict = decided(call.alloc, laid, place)?;
         if verdict == "wrong" {
-            out.text(runs.between);
-            out.put("wrong ", place);
+            call.write(runs.between);
+            call.put("wrong ", place);
             return Ok(());
         }
-        runs = go_on(out, runs, verdict == "pair", place);
+        runs = go_on(call, runs, verdict == "pair", place);
     }
     if runs.between.is_empty() {
-        out.text("none");
+        call.write("none");
     }
     Ok(())
 }

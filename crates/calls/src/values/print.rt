@@ -1,6 +1,6 @@
 //! How values and their bytes are written.
 
-use crate::out::Out;
+use crate::call::Call;
 use rustc_abi::Value;
 
 /// The digits of bytes.
@@ -9,62 +9,62 @@ const DIGITS: [&str; 16] = [
 ];
 
 /// Writes bytes, each by two hexadecimal digits, or that there are none.
-pub(crate) fn write_bytes(out: &mut Out, bytes: &[u8]) {
+pub(crate) fn write_bytes(call: &mut Call, bytes: &[u8]) {
     let mut between = "";
     for byte in bytes {
-        out.text(between);
-        out.text(DIGITS[usize::from(*byte >> 4)]);
-        out.text(DIGITS[usize::from(*byte & 15)]);
+        call.write(between);
+        call.write(DIGITS[usize::from(*byte >> 4)]);
+        call.write(DIGITS[usize::from(*byte & 15)]);
         between = " ";
     }
     if bytes.is_empty() {
-        out.text("none");
+        call.write("none");
     }
 }
 
 /// Writes values between parentheses.
 #[cycle(meant)]
-fn write_each(out: &mut Out, values: &[Value]) {
-    out.text("(");
+fn write_each(call: &mut Call, values: &[Value]) {
+    call.write("(");
     for value in values {
-        out.text(" ");
-        write_meant(out, value);
+        call.write(" ");
+        write_meant(call, value);
     }
-    out.text(" )");
+    call.write(" )");
 }
 
 /// Writes a value as it is read.
 #[cycle(meant)]
-pub(crate) fn write_meant(out: &mut Out, value: &Value) {
+pub(crate) fn write_meant(call: &mut Call, value: &Value) {
     match value {
-        Value::Num(number) => out.wide(*number),
+        Value::Num(number) => call.write_wide(*number),
         Value::Pair(first, second) => {
-            out.text("pair ");
-            out.wide(*first);
-            out.text(" ");
-            out.wide(*second);
+            call.write("pair ");
+            call.write_wide(*first);
+            call.write(" ");
+            call.write_wide(*second);
         }
-        Value::List(values) => write_each(out, values),
+        Value::List(values) => write_each(call, values),
         Value::Variant(index, values) => {
-            out.put("variant ", *index as u64);
-            out.text(" ");
-            write_each(out, values);
+            call.put("variant ", *index as u64);
+            call.write(" ");
+            write_each(call, values);
         }
         Value::State {
             state,
             prefix,
             locals,
         } => {
-            out.put("state ", *state as u64);
-            out.text(" ");
-            write_each(out, prefix);
-            out.text(" ");
-            write_each(out, locals);
+            call.put("state ", *state as u64);
+            call.write(" ");
+            write_each(call, prefix);
+            call.write(" ");
+            write_each(call, locals);
         }
         Value::Union(bytes) => {
-            out.text("union ( ");
-            write_bytes(out, bytes);
-            out.text(" )");
+            call.write("union ( ");
+            write_bytes(call, bytes);
+            call.write(" )");
         }
     }
 }

@@ -1,6 +1,6 @@
 //! Values and their bytes that words tell.
 
-use crate::line::{Line, named};
+use crate::call::{Call, named};
 use crate::stop::{Name, Stop};
 use abi_text::wide;
 use rustc_abi::Value;
@@ -27,45 +27,44 @@ fn byte(word: &[u8]) -> Option<u8> {
 }
 
 /// The bytes that all next words tell, up to the end or a closing parenthesis.
-pub(crate) fn bytes(alloc: Global, line: &mut Line<'_>) -> Vec<u8> {
-    let mut all = Vec::new(alloc);
+pub(crate) fn bytes(call: &mut Call) -> Vec<u8> {
+    let mut all = Vec::new(call.alloc);
     for _ in 0..u64::MAX {
-        match line.peek() {
-            Some(word) if word != b")".as_slice() => {
-                let word = line.word();
-                let byte = line.fits(byte(word), 0);
-                line.grow(all.push(byte));
-            }
-            _ => break,
+        if !call.has_word() || call.is_next(b")") {
+            break;
         }
+        let read = byte(call.word());
+        let byte = call.fits(read, 0);
+        call.grow(all.push(byte));
     }
     all
 }
 
 /// Values up to a closing parenthesis.
 #[cycle(told)]
-fn told_each(alloc: Global, line: &mut Line<'_>, deep: u64) -> Vec<Value> {
-    let mut values = Vec::new(alloc);
+fn told_each(call: &mut Call, deep: u64) -> Vec<Value> {
+    let mut values = Vec::new(call.alloc);
     for _ in 0..u64::MAX {
-        if !line.has_more() {
+        if !call.has_more() {
             break;
         }
-        let item = told(alloc, line, deep);
-        line.grow(values.push(item));
+        let item = told(call, deep);
+        call.grow(values.push(item));
     }
     values
 }
 
 /// Values between parentheses.
 #[cycle(told)]
-fn told_list(alloc: Global, line: &mut Line<'_>, deep: u64) -> Vec<Value> {
-    line.expect(b"(");
-    told_each(alloc, line, deep)
+fn told_list(call: &mut Call, deep: u64) -> Vec<Value> {
+    call.expect(b"(");
+    told_each(call, deep)
 }
 
-/// What a value begins with, where it is no number.
+/// What a value begins with.
 #[derive(Clone, Copy)]
 enum ValueWord {
+    Num(u128),
     List,
     Pair,
     Variant,
@@ -81,37 +80,45 @@ const VALUE_WORDS: [(&[u8], ValueWord); 5] = [
     (b"union", ValueWord::Union),
 ];
 
+/// What a value begins with that begins with this word.
+fn value_word(word: &[u8]) -> Option<ValueWord> {
+    match named(&VALUE_WORDS, word) {
+        Some(begun) => Some(begun),
+        None => Some(ValueWord::Num(wide(word)?)),
+    }
+}
+
 /// The value that is next, in which values lie so deep at most.
 #[cycle(told)]
-fn told(alloc: Global, line: &mut Line<'_>, deep: u64) -> Value {
-    let word = line.word();
+fn told(call: &mut Call, deep: u64) -> Value {
+    let read = value_word(call.word());
     if deep == 0 {
-        line.stop(Stop::Refused(Name::TooDeep));
+        call.stop(Stop::Refused(Name::TooDeep));
         return Value::Num(0);
     }
-    match named(&VALUE_WORDS, word) {
-        Some(ValueWord::List) => Value::List(told_each(alloc, line, deep - 1)),
-        Some(ValueWord::Pair) => Value::Pair(line.wide(), line.wide()),
-        Some(ValueWord::Variant) => {
-            let index = line.number() as usize;
-            Value::Variant(index, told_list(alloc, line, deep - 1))
+    match call.fits(read, ValueWord::Num(0)) {
+        ValueWord::Num(number) => Value::Num(number),
+        ValueWord::List => Value::List(told_each(call, deep - 1)),
+        ValueWord::Pair => Value::Pair(call.wide(), call.wide()),
+        ValueWord::Variant => {
+            let index = call.number() as usize;
+            Value::Variant(index, told_list(call, deep - 1))
         }
-        Some(ValueWord::State) => Value::State {
-            state: line.number() as usize,
-            prefix: told_list(alloc, line, deep - 1),
-            locals: told_list(alloc, line, deep - 1),
+        ValueWord::State => Value::State {
+            state: call.number() as usize,
+            prefix: told_list(call, deep - 1),
+            locals: told_list(call, deep - 1),
         },
-        Some(ValueWord::Union) => {
-            line.expect(b"(");
-            let bytes = bytes(alloc, line);
-            line.expect(b")");
+        ValueWord::Union => {
+            call.expect(b"(");
+            let bytes = bytes(call);
+            call.expect(b")");
             Value::Union(bytes)
         }
-        None => Value::Num(line.fits(wide(word), 0)),
     }
 }
 
 /// The value that is next.
-pub(crate) fn value(alloc: Global, line: &mut Line<'_>) -> Value {
-    told(alloc, line, MOST_DEEP)
+pub(crate) fn value(call: &mut Call) -> Value {
+    told(call, MOST_DEEP)
 }
