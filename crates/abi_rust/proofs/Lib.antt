@@ -8,8 +8,10 @@ pub mod Lasts
 pub mod Lists
 pub mod Meant
 pub mod Measures
+pub mod NamesTold
 pub mod Numbers
 pub mod OwnLemmas
+pub mod ReadingLemmas
 pub mod Rooms
 pub mod Same
 pub mod ScopeLemmas

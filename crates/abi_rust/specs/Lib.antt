@@ -9,6 +9,7 @@ pub mod Names
 pub mod Operators
 pub mod OwnConstants
 pub mod Places
+pub mod Reading
 pub mod Reprs
 pub mod Resolving
 pub mod Scalars

@@ -41,9 +41,9 @@ use Rattle.abi_rust.specs.Types.{GivenRead, TyRead, Where, adt, array, dyn, func
 use Rattle.abi_rust.specs.Values.{ValueRead, kind_read, number}
 use Rattle.abi_rust.specs.Words.{is_same_name, symbol_of}
 
--- how deep types and constants may need one another
+-- how deep types and constants may need one another: each of 200 types is looked at as a type and as an item, beside the first and the last
 unfoldable pub most_deep : ℕ
-most_deep = 200
+most_deep = 402
 
 -- how types are resolved, and items under what a path's last name gives them
 pub record Inner : Type 0 where

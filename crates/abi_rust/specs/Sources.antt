@@ -1,5 +1,5 @@
 -- What the sources that were read hold.
-use Rattle.std.specs.Prelude.{◌≡◌, ◌⊎◌, ℕ, ◌-◌, nat_eq, nat_le, Bool, true, false, ◌&&◌, if◌then◌else◌, List, [], length, slice_get, Option, Some, None, Result, Ok, Err}
+use Rattle.std.specs.Prelude.{◌≡◌, ◌⊎◌, ℕ, zero, suc, ◌-◌, nat_eq, nat_le, Bool, true, false, ◌&&◌, if◌then◌else◌, codes, List, [], ◌++◌, length, slice_get, Option, Some, None, Result, Ok, Err}
 use Rattle.std.specs.Option.{option_map}
 use Rattle.abi_base.specs.declared.data_layout.TargetDataLayout.{TargetDataLayout}
 use Rattle.abi_rust.specs.declared.fault.Fault.{Fault as FaultTold}
@@ -17,14 +17,18 @@ use Rattle.abi_rust.specs.Meaning.{Means}
 use Rattle.abi_rust.specs.Measure.{Measure}
 use Rattle.abi_rust.specs.Sizes.{IsTold}
 use Rattle.abi_rust.specs.Told.{told_read, told_under}
-use Rattle.rust_source.specs.Names.{texts}
+use Rattle.rust_source.specs.Names.{text_of, texts}
 use Rattle.rust_source.specs.Sources.{MeansType}
 use Rattle.rust_source.specs.declared.fault.SourceFault.{SourceFault}
 use Rattle.rust_source.specs.declared.syntax.«Type».{«Type» as Written}
 use Rattle.rust_source.specs.declared.item.Item.{Item}
 use Rattle.rust_source.specs.declared.item.ItemKind.{ItemKind}
 use Rattle.rust_source.specs.declared.item.ItemKind.TheVariants.{Const as ConstItem}
+use Rattle.rust_source.specs.declared.item.Items.{Items}
+use Rattle.rust_source.specs.declared.item.«Module».{«Module»}
+use Rattle.rust_source.specs.declared.names.Names.{Names}
 use Rattle.rust_source.specs.declared.place.Place.{Place}
+use Rattle.rust_source.specs.declared.place.Symbol.{Symbol}
 
 -- the items: the standard library's, and then the file's
 abbrev pub items_read : Sources → List Item
@@ -57,6 +61,26 @@ place_told s (Some at) = place_in_sources s at.0
 abbrev pub place_of_item : Sources → Option Item → FaultPlace
 place_of_item s None = Nowhere
 place_of_item s (Some it) = place_in_sources s it.at.0
+
+-- the name of a module, with `::` behind, and those around it before it; of a root nothing
+abbrev pub module_told : Names → (outer : (inside : ℕ) → List ℕ) → Symbol → (parent : Option ℕ) → List ℕ
+module_told names outer name None = []
+module_told names outer name (Some parent) = outer parent ++ text_of names name.0 ++ codes "::"
+
+-- of a module that there may be
+abbrev pub modules_before : Names → (outer : (inside : ℕ) → List ℕ) → Option «Module» → List ℕ
+modules_before names outer None = []
+modules_before names outer (Some m) = module_told names outer m.name m.parent
+
+-- the names of the modules that a module is in, outermost first, and its own, each with `::` behind; of so many at most
+unfoldable pub modules_told : Names → Items → (most : ℕ) → (inside : ℕ) → List ℕ
+modules_told names items zero m = []
+modules_told names items (suc most) m = modules_before names (modules_told names items most) (slice_get items.modules.items m)
+
+-- the name of an item, behind those of the modules that it is in
+abbrev pub name_told : Sources → Option Item → List ℕ
+name_told s None = []
+name_told s (Some it) = modules_told s.names s.items 256 it.«module» ++ text_of s.names it.name.0
 
 -- a fault as it is told
 abbrev pub fault_told : Sources → Stop → FaultTold

@@ -1,14 +1,19 @@
 -- The names that have a meaning of their own.
-use Rattle.std.specs.Prelude.{ℕ, ◌+◌, ◌-◌, ◌%◌, ◌^◌, ◌==◌, ◌||◌, nat_eq, Bool, Option, Some, None, if◌then◌else◌}
+use Rattle.std.specs.Prelude.{ℕ, ◌+◌, ◌-◌, ◌%◌, ◌^◌, ◌==◌, ◌||◌, nat_eq, map, Bool, List, Option, Some, None, if◌then◌else◌}
 use Rattle.abi_base.specs.declared.float.Float.TheVariants.{F16, F32, F64, F128}
 use Rattle.rust_source.specs.declared.place.Symbol.{Symbol}
 use Rattle.rust_source.specs.declared.syntax.IntegerKind.{IntegerKind}
 use Rattle.rust_source.specs.declared.syntax.IntegerKind.TheVariants.{I8, I16, I32, I64, I128, Isize, U8, U16, U32, U64, U128, Usize}
 use Rattle.abi_rust.specs.declared.ty.Primitive.{Primitive}
 use Rattle.abi_rust.specs.declared.ty.Primitive.TheVariants.{Bool as BoolType, Char, Str, Integer, Float}
+use Rattle.abi_rust.specs.declared.words.TheConstants.{WORDS}
 use Rattle.abi_rust.specs.declared.words.Word.{Word}
 use Rattle.abi_rust.specs.declared.words.Word.TheVariants as word
 use Rattle.abi_rust.specs.declared.words.Words.{Words}
+
+-- the names of primitive types, and then others, in the order of their numbers
+unfoldable pub known_words : List (List ℕ)
+known_words = map (λ w. w.now) WORDS
 
 -- how far a name stands behind the first of them
 abbrev pub place_of_word : Word → ℕ

@@ -3,7 +3,7 @@
 ghost use Rattle.std.specs.Prelude.{◌≡◌, Some};
 ghost use Rattle.abi_rust.specs.Reprs.{is_want_of_memory};
 
-use rust_source::{IntegerKind, Place, SourceFault, SourceFaultKind, Symbol, Unevaluated};
+use rust_source::{IntegerKind, Place, SourceFaultKind, Symbol, Unevaluated};
 use rustc_abi::LayError;
 use std::alloc::{AllocError, AllocFailed};
 
@@ -147,11 +147,5 @@ impl<T: Drop> From<AllocFailed<T>> for Stop {
 
     fn from(_error: AllocFailed<T>) -> Stop {
         Stop::Fault(None, FaultKind::OutOfMemory)
-    }
-}
-
-impl From<SourceFault> for Stop {
-    fn from(fault: SourceFault) -> Stop {
-        Stop::Fault(Some(fault.at), FaultKind::Source(fault.kind))
     }
 }

@@ -14,12 +14,6 @@ use indexmap::IndexMap;
 use rust_source::{Items, Symbol};
 use std::alloc::Global;
 
-/// How often globs are followed that are found through others.
-const MOST_ROUNDS: usize = 8;
-
-/// How many modules a module's globs may lead to.
-const MOST_REACHED: usize = 256;
-
 /// The names that each module has.
 #[derive(Drop)]
 pub(crate) struct Scope {
@@ -114,14 +108,16 @@ impl Scope {
         Ok(())
     }
 
-    /// Finds the modules that globs lead to.
+    /// Finds the modules that globs lead to, until none leads further: each round but the last finds one that was not
+    /// found before.
     fn follow_globs(&mut self, alloc: Global, items: &Items) -> Result<(), Stop>
         ensures same { IfOk result (λ _. HasSameNames self.old self.new) }
         ensures err { IfErr result IsMemory }
     {
         let mut direct = no_modules(alloc, items.modules.len())?;
         self.reached = no_modules(alloc, items.modules.len())?;
-        for _round in 0..MOST_ROUNDS {
+        let rounds = items.uses.len().saturating_add(1);
+        for _round in 0..rounds {
             if !self.add_globs(items, &mut direct)? {
                 break;
             }
@@ -239,7 +235,7 @@ fn reached_through(alloc: Global, direct: &Vec<Vec<u32>>) -> Result<Vec<Vec<u32>
     for own in direct {
         let mut reached = Vec::new(alloc);
         add_new(&mut reached, own)?;
-        for index in 0..MOST_REACHED {
+        for index in 0..direct.len() {
             let Some(next) = reached.get(index).copied() else {
                 break;
             };

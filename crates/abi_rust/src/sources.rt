@@ -1,10 +1,12 @@
 //! A file of Rust source, and what its types are.
 
-ghost use Rattle.std.specs.Prelude.{◌≡◌, ◌-◌, ◌<◌, ◌^◌, IfOk, Some, [], length, slice_get};
+ghost use Rattle.std.specs.Prelude.{◌≡◌, ◌-◌, ◌<◌, ◌^◌, ◌++◌, IfErr, IfOk, OnOk, Some, [], length, slice_get, string_bytes};
+ghost use Rattle.rust_source.specs.Growth.{BeginsWith};
 ghost use Rattle.abi_rust.specs.Measure.{IsMeasure, Measure};
-ghost use Rattle.abi_rust.specs.Sources.{IsWorkOver, Tells, TellsWritten, fault_told, is_told_of, items_read, place_of_item, place_told, pointer_bits};
+ghost use Rattle.abi_rust.specs.Reading.{AllRead, IsSourceOf, IsUnread, ReadsText, Stops, StopsReading, having, library_text, place_behind};
+ghost use Rattle.abi_rust.specs.Sources.{IsWorkOver, Tells, TellsWritten, fault_told, is_told_of, items_read, modules_told, name_told, place_of_item, place_told, pointer_bits};
 
-use crate::fault::{Fault, FaultKind, FaultPlace, Stop};
+use crate::fault::{Fault, FaultKind, FaultPlace, Stop, stop_at};
 use crate::scope::Scope;
 use crate::std_source::STD_SOURCES;
 use crate::told::{Subject, Told, tell};
@@ -38,7 +40,7 @@ pub struct Sources {
 impl Sources {
     /// No source. An error comes where a growth of memory was refused.
     pub fn new(alloc: Global) -> Result<Sources, AllocError>
-        ensures { IfOk result (λ sources. items_read sources ≡ []) }
+        ensures { IfOk result IsUnread }
     {
         let mut names = Names::new(alloc)?;
         let words = Words::new(alloc, &mut names)?;
@@ -56,7 +58,11 @@ impl Sources {
     }
 
     /// Reads the standard library's types, and then the file. It is called once. After a fault there are no types.
-    pub fn read(&mut self, alloc: Global, target: &CfgTarget<'_>, text: &str) -> Result<(), Fault> {
+    pub fn read(&mut self, alloc: Global, target: &CfgTarget<'_>, text: &str) -> Result<(), Fault>
+        ensures ok { IfOk result (λ _. AllRead target.now text.now self.old self.new) }
+        ensures err { IfErr result (λ fault. (stop : Stop) × (fault ≡ fault_told self.new stop) ×
+            StopsReading target.now text.now self.old self.new stop) }
+    {
         match self.read_both(alloc, target, text) {
             Ok(()) => Ok(()),
             Err(stop) => Err(self.fault(stop)),
@@ -64,32 +70,42 @@ impl Sources {
     }
 
     /// Reads the standard library's types, and then the file.
-    fn read_both(&mut self, alloc: Global, target: &CfgTarget<'_>, text: &str) -> Result<(), Stop> {
-        let std_root = self.read_std(alloc, target)?;
+    fn read_both(&mut self, alloc: Global, target: &CfgTarget<'_>, text: &str) -> Result<(), Stop>
+        ensures ok { IfOk result (λ _. AllRead target.now text.now self.old self.new) }
+        ensures err { IfErr result
+            (λ stop. StopsReading target.now text.now self.old self.new stop) }
+    {
+        let library = library_text();
+        self.file = behind(Place(0), library);
+        let std_root = self.read_text(alloc, target, library, Place(0), true)?;
         self.first = self.items.items.len();
         self.passed_over = self.items.passed_over;
-        let source = Source {
-            text,
-            start: self.file,
-            root: Symbol::CRATE,
-            is_trusted: false,
-        };
         self.argument = behind(self.file, text);
-        self.root = read_items(alloc, target, &mut self.names, &mut self.items, source)?;
+        self.root = self.read_text(alloc, target, text, self.file, false)?;
         self.scope = Some(Scope::new(alloc, self.words, &self.items, std_root)?);
         Ok(())
     }
 
-    /// Reads the standard library's types.
-    fn read_std(&mut self, alloc: Global, target: &CfgTarget<'_>) -> Result<u32, Stop> {
-        let source = Source {
-            text: STD_SOURCES,
-            start: Place(0),
-            root: Symbol::CRATE,
-            is_trusted: true,
-        };
-        self.file = behind(Place(0), STD_SOURCES);
-        Ok(read_items(alloc, target, &mut self.names, &mut self.items, source)?)
+    /// Reads a text whose first byte has a place, in a new root module called `crate`.
+    fn read_text(
+        &mut self,
+        alloc: Global,
+        target: &CfgTarget<'_>,
+        text: &str,
+        start: Place,
+        is_trusted: bool,
+    ) -> Result<u32, Stop>
+        ensures read { Stops (ReadsText target.now text.now start.0 is_trusted
+            (having self.old) (having self.new)) result }
+        ensures front { BeginsWith (having self.new).1.items (having self.old).1.items }
+        ensures same { self.new
+            ≡ record self.old { names = self.new.names; items = self.new.items } }
+    {
+        let source = source_of(text, start, is_trusted);
+        match read_items(alloc, target, &mut self.names, &mut self.items, source) {
+            Ok(root) => Ok(root),
+            Err(fault) => Err(stop_at(fault.at, FaultKind::Source(fault.kind))),
+        }
     }
 
     /// A fault as it is told.
@@ -162,7 +178,10 @@ impl Sources {
     }
 
     /// Writes the item's name with the modules of the file that it is in, as `module::Name`.
-    pub fn write_name(&self, out: &mut String, item: usize) -> Result<(), AllocError> {
+    pub fn write_name(&self, out: &mut String, item: usize) -> Result<(), AllocError>
+        ensures { OnOk result (string_bytes out.new ≡ string_bytes out.old ++
+            name_told self.now (slice_get (items_read self.now) item)) }
+    {
         let Some(found) = self.items.items.get(item) else {
             return Ok(());
         };
@@ -171,7 +190,10 @@ impl Sources {
     }
 
     /// Writes the names of the modules that a module is in, outermost first, and its own, each with `::` behind.
-    fn write_modules(&self, out: &mut String, module: u32, room: u32) -> Result<(), AllocError> {
+    fn write_modules(&self, out: &mut String, module: u32, room: u32) -> Result<(), AllocError>
+        ensures { OnOk result (string_bytes out.new ≡ string_bytes out.old ++
+            modules_told self.now.names self.now.items room «module») }
+    {
         let Some(room) = room.checked_sub(1) else {
             return Ok(());
         };
@@ -291,8 +313,30 @@ impl Sources {
 /// How many modules a module may be in.
 const MOST_MODULES: u32 = 256;
 
-/// The place behind a text.
-fn behind(start: Place, text: &str) -> Place {
+/// The text of the standard library's source.
+#[tactic(auto, unfolding(crate::specs::Reading::library_text))]
+fn library_text() -> &'static str
+    ensures { result.now ≡ library_text }
+{
+    STD_SOURCES
+}
+
+/// A source of this text, whose first byte has this place, with a root module called `crate`.
+fn source_of<'a>(text: &'a str, start: Place, is_trusted: bool) -> Source<'a>
+    ensures { IsSourceOf text.now start.0 is_trusted result }
+{
+    Source {
+        text,
+        start,
+        root: Symbol::CRATE,
+        is_trusted,
+    }
+}
+
+/// The place behind a text, and one more.
+fn behind(start: Place, text: &str) -> Place
+    ensures { result.0 ≡ place_behind start.0 text.now }
+{
     let len = u32::try_from(text.len()).unwrap_or(u32::MAX);
     Place(start.0.saturating_add(len).saturating_add(1))
 }

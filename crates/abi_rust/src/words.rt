@@ -1,7 +1,8 @@
 //! The names that have a meaning of their own.
 
-ghost use Rattle.std.specs.Prelude.{◌≡◌};
-ghost use Rattle.abi_rust.specs.Words.{integer_at, is_std, is_word, primitive_named, symbol_of};
+ghost use Rattle.std.specs.Prelude.{◌≡◌, IfOk, OnOk, codes, map};
+ghost use Rattle.rust_source.specs.Names.{added, all_added, number_of_name, texts, word_of};
+ghost use Rattle.abi_rust.specs.Words.{integer_at, is_std, is_word, known_words, primitive_named, symbol_of};
 
 use crate::ty::Primitive;
 use abi_base::Float;
@@ -53,11 +54,14 @@ pub(crate) enum Word {
 
 impl Words {
     /// Numbers the names, of which none may have a number before.
-    pub(crate) fn new(alloc: Global, names: &mut Names) -> Result<Words, AllocError> {
+    pub(crate) fn new(alloc: Global, names: &mut Names) -> Result<Words, AllocError>
+        ensures first { IfOk result
+            (λ ws. ws.first ≡ number_of_name (texts names.old) (codes "bool")) }
+        ensures names { OnOk result (texts names.new
+            ≡ all_added (added (texts names.old) (codes "bool")) known_words) }
+    {
         let first = names.add(alloc, "bool")?.0;
-        for word in &WORDS {
-            let _ = names.add(alloc, word)?;
-        }
+        add_all(alloc, names, &WORDS)?;
         Ok(Words { first })
     }
 
@@ -99,6 +103,16 @@ impl Words {
     {
         self.is(name, Word::Std) || self.is(name, Word::Core) || self.is(name, Word::Alloc)
     }
+}
+
+/// Gives numbers to names that have none, in their order.
+fn add_all(alloc: Global, names: &mut Names, all: &[&'static str]) -> Result<(), AllocError>
+    ensures { OnOk result (texts names.new ≡ all_added (texts names.old) (map word_of all.now)) }
+{
+    for word in all {
+        let _ = names.add(alloc, word)?;
+    }
+    Ok(())
 }
 
 /// The integer type whose name has this number.

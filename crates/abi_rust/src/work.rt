@@ -13,8 +13,9 @@ use abi_base::TargetDataLayout;
 use rust_source::{Items, Place, Type};
 use std::alloc::Global;
 
-/// How deep types and constants may need one another.
-const MOST_DEEP: u32 = 200;
+/// How deep types and constants may need one another: 200 types at least, each of which is looked at twice, as a type and as
+/// an item, beside the first and the last.
+const MOST_DEEP: u32 = 402;
 
 /// How many parts of types, constants and trees are looked at for one type.
 pub(crate) const MOST_PARTS: u32 = 1 << 22;

@@ -8,15 +8,15 @@ use crate::syntax::{Expr, IntegerKind, Path, Type};
 pub struct Repr {
     /// Where the first of them stands, where there is one.
     pub at: Option<Place>,
-    /// `C`
+    /// Whether `C` stands in one of them.
     pub c: bool,
-    /// `Rust`
+    /// Whether `Rust` does.
     pub rust: bool,
-    /// `transparent`
+    /// Whether `transparent` does.
     pub transparent: bool,
-    /// `simd`
+    /// Whether `simd` does.
     pub simd: bool,
-    /// An integer type.
+    /// The integer type that is asked for, as by `repr(u8)`.
     pub integer: Option<IntegerKind>,
     /// `packed(N)`, in bytes, and 1 for `packed`; the least of several.
     pub packed: Option<u64>,
@@ -53,7 +53,7 @@ pub struct Field {
 /// The fields of a struct, a union or a variant, in the order of the source; those that a `cfg` takes out are left out.
 #[derive(Drop)]
 pub struct Fields {
-    /// Whether they stand in parentheses.
+    /// Whether they stand in parentheses, so that numbers name them.
     pub is_tuple: bool,
     pub all: Vec<Field>,
 }
@@ -172,7 +172,7 @@ pub struct Items {
     pub uses: Vec<Use>,
     /// Types that have constants of their own, as their `impl` blocks name them.
     pub owners: Vec<Path>,
-    /// How many items were passed over.
+    /// How many items were passed over, since they make no type and are no constant.
     pub passed_over: u64,
     /// Names of `cfg` that aren't known here, and count as false, each once.
     pub unknown_cfgs: Vec<Symbol>,

@@ -12,15 +12,15 @@ use std::alloc::{AllocError, Global};
 static WORDS: [&str; 5] = ["crate", "self", "super", "Self", "_"];
 
 impl Symbol {
-    /// `crate`
+    /// The word `crate`, which a path may begin with.
     pub const CRATE: Symbol = Symbol(0);
-    /// `self`
+    /// The word `self`, which a path may begin with.
     pub const SELF: Symbol = Symbol(1);
-    /// `super`
+    /// The word `super`, which a path may begin with.
     pub const SUPER: Symbol = Symbol(2);
-    /// `Self`
+    /// The word `Self`, which a path may begin with.
     pub const SELF_TYPE: Symbol = Symbol(3);
-    /// `_`
+    /// The word `_`, which names nothing.
     pub const UNDERSCORE: Symbol = Symbol(4);
 }
 

@@ -6,10 +6,11 @@ use crate::json::{Telling, put_text, type_value};
 use crate::lines::write_lines;
 use crate::mapped::by_name;
 use crate::options::{Form, Options};
+use crate::place::Spot;
 use abi_base::TargetDataLayout;
 use abi_laid::Laid;
 use abi_map::map_of;
-use abi_rust::{Fault, FaultPlace, Sources, Target, Told};
+use abi_rust::{Fault, Sources, Target, Told};
 use abi_text::read_data_layout;
 use rust_source::Names;
 use rustc_abi::{LayError, lay_out};
@@ -42,10 +43,10 @@ impl Answer {
 #[derive(Drop)]
 pub(crate) enum Failure {
     OutOfMemory,
-    /// The source, or a type that was asked for, has a fault: where it stands, and what it is.
-    Fault(FaultPlace, String),
+    /// The source, or a type that was asked for, has a fault: where it lies, and what it is.
+    Fault(Spot, String),
     /// A type has no layout: where its name stands, and why.
-    Refused(FaultPlace, String),
+    Refused(Spot, String),
 }
 
 impl From<AllocError> for Failure {
@@ -54,25 +55,25 @@ impl From<AllocError> for Failure {
     }
 }
 
-/// A fault as it is told.
-fn faulty(alloc: Global, sources: &Sources, fault: &Fault) -> Failure {
+/// A fault as it is told, of a type that stands here.
+fn faulty(alloc: Global, sources: &Sources, fault: &Fault, own: Spot) -> Failure {
     if fault.is_out_of_memory() {
         return Failure::OutOfMemory;
     }
     let mut text = String::new(alloc);
     match fault.write_text(alloc, &mut text, sources) {
-        Ok(()) => Failure::Fault(fault.at, text),
+        Ok(()) => Failure::Fault(own.of(fault.at), text),
         Err(_) => Failure::OutOfMemory,
     }
 }
 
 /// A refusal as it is told.
-fn refused(alloc: Global, name: &str, at: FaultPlace, error: LayError) -> Failure {
+fn refused(alloc: Global, name: &str, own: Spot, error: LayError) -> Failure {
     if let LayError::OutOfMemory = error {
         return Failure::OutOfMemory;
     }
     match format!(in alloc; "{name} has no layout: {error}") {
-        Ok(text) => Failure::Refused(at, text),
+        Ok(text) => Failure::Refused(own, text),
         Err(_) => Failure::OutOfMemory,
     }
 }
@@ -153,7 +154,7 @@ fn put_tree(
     put_laid(alloc, answer, under, names, name, told, &laid)
 }
 
-/// Tells of a type; that it has no size of its own is noted.
+/// Tells of a type that stands here; that it has no size of its own is noted.
 fn tell_type(
     alloc: Global,
     answer: &mut Answer,
@@ -161,7 +162,7 @@ fn tell_type(
     names: &Names,
     name: &str,
     told: Option<&Told>,
-    at: FaultPlace,
+    own: Spot,
 ) -> Result<(), Failure> {
     let Some(told) = told else {
         return Ok(write!(
@@ -171,11 +172,11 @@ fn tell_type(
     };
     match put_tree(alloc, answer, under, names, name, told) {
         Ok(()) => Ok(()),
-        Err(error) => Err(refused(alloc, name, at, error)),
+        Err(error) => Err(refused(alloc, name, own, error)),
     }
 }
 
-/// Tells of what a type was read as, or of its fault.
+/// Tells of what a type that stands here was read as, or of its fault.
 fn tell_found(
     alloc: Global,
     answer: &mut Answer,
@@ -183,14 +184,14 @@ fn tell_found(
     sources: &Sources,
     name: &str,
     found: Result<Option<Told>, Fault>,
-    at: FaultPlace,
+    own: Spot,
 ) -> Result<(), Failure> {
     match found {
         Ok(told) => {
             let names = sources.names();
-            tell_type(alloc, answer, under, names, name, told.as_ref(), at)
+            tell_type(alloc, answer, under, names, name, told.as_ref(), own)
         }
-        Err(fault) => Err(faulty(alloc, sources, &fault)),
+        Err(fault) => Err(faulty(alloc, sources, &fault, own)),
     }
 }
 
@@ -207,8 +208,8 @@ fn tell_all(
             name.clear();
             sources.write_name(&mut name, item)?;
             let found = sources.type_of(alloc, under.dl, item);
-            let at = sources.place_of(item);
-            tell_found(alloc, answer, under, sources, name.as_str(), found, at)?;
+            let own = Spot::Nowhere.of(sources.place_of(item));
+            tell_found(alloc, answer, under, sources, name.as_str(), found, own)?;
         }
     }
     Ok(())
@@ -222,10 +223,10 @@ fn tell_asked(
     sources: &mut Sources,
     types: &[&str],
 ) -> Result<(), Failure> {
-    for name in types {
+    for (before, name) in types.iter().enumerate() {
         let found = sources.type_written(alloc, under.dl, name);
-        let at = FaultPlace::Argument(0);
-        tell_found(alloc, answer, under, sources, name, found, at)?;
+        let own = Spot::Asked(before, 0);
+        tell_found(alloc, answer, under, sources, name, found, own)?;
     }
     Ok(())
 }
@@ -261,7 +262,7 @@ fn tell_read(
     sources: &mut Sources,
 ) -> Result<(), Failure> {
     if let Err(fault) = sources.read(alloc, &target.cfg, under.source) {
-        return Err(faulty(alloc, sources, &fault));
+        return Err(faulty(alloc, sources, &fault, Spot::Nowhere));
     }
     note(&mut answer.notes, sources)?;
     if options.types.is_empty() {

@@ -14,8 +14,7 @@ mod mapped;
 
 use crate::answer::{Answer, Failure, tell_source};
 use crate::options::{Form, OptionFault, Options, command, options_of};
-use crate::place::write_fault;
-use abi_rust::FaultPlace;
+use crate::place::{Spot, write_fault};
 use serde_json::Value;
 use std::alloc::AllocError;
 use std::process::ExitCode;
@@ -55,18 +54,18 @@ fn fault_text(
     rt: &HostRuntime,
     options: &Options<'_>,
     source: &str,
-    at: FaultPlace,
+    at: Spot,
     text: &str,
 ) -> Result<String, AllocError> {
     let mut all = String::new(rt.alloc());
     let file = options.file.unwrap_or("<stdin>");
     match at {
-        FaultPlace::File(byte) => write_fault(&mut all, file, source, byte as usize, text)?,
-        FaultPlace::Argument(byte) => {
-            let written = options.types.first().copied().unwrap_or("");
+        Spot::File(byte) => write_fault(&mut all, file, source, byte as usize, text)?,
+        Spot::Asked(before, byte) => {
+            let written = options.types.get(before).copied().unwrap_or("");
             write_fault(&mut all, "--type", written, byte as usize, text)?;
         }
-        FaultPlace::Nowhere => write!(all, "{file}: {text}\n")?,
+        Spot::Nowhere => write!(all, "{file}: {text}\n")?,
     }
     Ok(all)
 }

@@ -1,7 +1,30 @@
 //! A place in a source, as people find it.
 
-use std::alloc::{AllocError, Global};
+use abi_rust::FaultPlace;
+use std::alloc::AllocError;
 use unicode_width::UnicodeWidthChar;
+
+/// What a fault lies in, and the byte of it.
+#[derive(Clone, Copy)]
+pub(crate) enum Spot {
+    /// The file.
+    File(u32),
+    /// The type that was asked for behind as many others.
+    Asked(usize, u32),
+    /// Neither.
+    Nowhere,
+}
+
+impl Spot {
+    /// Where a fault of a type lies that stands here: the type's own place where the fault has none.
+    pub(crate) fn of(self, fault: FaultPlace) -> Spot {
+        match (fault, self) {
+            (FaultPlace::File(byte), _) => Spot::File(byte),
+            (FaultPlace::Argument(byte), Spot::Asked(before, _)) => Spot::Asked(before, byte),
+            _ => self,
+        }
+    }
+}
 
 /// A place in a text, as people find it.
 #[derive(Drop)]

@@ -1,0 +1,106 @@
+-- What is read: the standard library's source, and then the file.
+use Rattle.std.specs.Prelude.{◌≡◌, ◌⊎◌, ℕ, ◌+◌, ◌-◌, ◌^◌, ◌++◌, Bool, true, false, List, length, min, None, Some, Result, Ok, Err}
+use Rattle.rust_source.specs.Growth.{BeginsWith}
+use Rattle.rust_source.specs.Having.{Having}
+use Rattle.rust_source.specs.Items.{items_as_read, no_items}
+use Rattle.rust_source.specs.Names.{first_names, texts}
+use Rattle.rust_source.specs.Sources.{MeansItems}
+use Rattle.rust_source.specs.declared.fault.SourceFault.{SourceFault}
+use Rattle.rust_source.specs.declared.place.TheConstants.Symbol.{CRATE}
+use Rattle.rust_source.specs.declared.reader.Source.{Source}
+use Rattle.rust_source.specs.declared.target.CfgTarget.{CfgTarget}
+use Rattle.abi_rust.specs.ScopeNames.{KeepsNames, KeepsOwn, repeated_of}
+use Rattle.abi_rust.specs.Standing.{IsMemory}
+use Rattle.abi_rust.specs.Words.{known_words}
+use Rattle.abi_rust.specs.declared.fault.FaultKind.TheVariants.{Source as SourceKind}
+use Rattle.abi_rust.specs.declared.fault.Stop.{Stop}
+use Rattle.abi_rust.specs.declared.fault.Stop.TheVariants.{Fault}
+use Rattle.abi_rust.specs.declared.scope.Scope.{Scope}
+use Rattle.abi_rust.specs.declared.sources.Sources.{Sources}
+use Rattle.abi_rust.specs.declared.std_source.TheConstants.{STD_SOURCES}
+
+-- the text of the standard library's source
+unfoldable pub library_text : List ℕ
+library_text = STD_SOURCES.now
+
+-- the names that have numbers, and the items
+abbrev pub having : Sources → Having
+having s = (texts s.names, items_as_read s.items)
+
+-- nothing is read yet: the names are those that each source may have, and those that have a meaning of their own
+pub record IsUnread (s : Sources) : Type 0 where
+  pub names : texts s.names ≡ first_names ++ known_words
+  pub words : s.words.first ≡ length first_names
+  pub items : items_as_read s.items ≡ no_items
+  pub scope : s.scope ≡ None
+
+-- the place behind a text that begins at a place, and one more; none is above 2^32 - 1
+abbrev pub place_behind : (start : ℕ) → (text : List ℕ) → ℕ
+place_behind start text = min (start + length text + 1) (2 ^ 32 - 1)
+
+-- a source of this text, whose first byte has this place, with a root module called `crate`
+pub record IsSourceOf (text : List ℕ) (start : ℕ) (is_trusted : Bool) (source : Source) : Type 0 where
+  pub of_text : source.text.now ≡ text
+  pub from : source.start.0 ≡ start
+  pub root : source.root ≡ CRATE
+  pub trust : source.is_trusted ≡ is_trusted
+
+-- the answer is the number of the root module in which the text's items are, behind those that there were, or the text's first fault
+abbrev pub ReadsText : CfgTarget → (text : List ℕ) → (start : ℕ) → (is_trusted : Bool) → (old new : Having) → Result ℕ SourceFault → Type 0
+ReadsText target text start is_trusted old new answer =
+    (source : Source) × IsSourceOf text start is_trusted source × MeansItems target source old new answer
+
+-- the same answer, but that a fault stops what comes behind
+abbrev pub Stops : (Result ℕ SourceFault → Type 0) → Result ℕ Stop → Type 0
+Stops reads (Ok root) = reads (Ok root)
+Stops reads (Err stop) = (e : SourceFault) × (stop ≡ Fault (Some e.at) (SourceKind e.kind)) × reads (Err e)
+
+module _ (target : CfgTarget) (text : List ℕ) (old new : Sources) where
+  -- the standard library's text was read alone, with this answer
+  abbrev pub LibraryReads : Having → Result ℕ Stop → Type 0
+  LibraryReads library = Stops (ReadsText target library_text 0 true (having old) library)
+
+  -- then the file's text was read, which stands behind it, with this answer
+  abbrev pub FileReads : Having → Result ℕ Stop → Type 0
+  FileReads library = Stops (ReadsText target text new.file.0 false library (having new))
+
+  -- the standard library's items are those in front, in a root module of this number, and the texts stand behind one another
+  pub record LibraryRead (library : Having) (std_root : ℕ) : Type 0 where
+    pub read : LibraryReads library (Ok std_root)
+    pub file : new.file.0 ≡ place_behind 0 library_text
+    pub argument : new.argument.0 ≡ place_behind new.file.0 text
+    pub first : new.first ≡ length library.1.items
+    pub passed_over : new.passed_over ≡ library.1.passed_over
+    pub words : new.words ≡ old.words
+
+  -- the standard library's text and the file's were read, whose items are those behind
+  pub record BothRead (std_root : ℕ) : Type 0 where
+    pub library : Having
+    pub before : LibraryRead library std_root
+    pub file : FileReads library (Ok new.root)
+    pub behind : BeginsWith (having new).1.items library.1.items
+
+  -- both were read, no name stands twice, and the scope keeps all names of modules
+  pub record AllRead : Type 0 where
+    pub std_root : ℕ
+    pub both : BothRead std_root
+    pub once : repeated_of new.items ≡ None
+    pub scope : Scope
+    pub kept : new.scope ≡ Some scope
+    pub names : KeepsNames new.items scope
+    pub own : KeepsOwn new.items scope
+    pub words : scope.words ≡ new.words
+    pub root : scope.std_root ≡ std_root
+
+  -- the fault is the first: the library's, or else the file's, or else that of a name that stands twice; or memory was refused
+  abbrev pub FirstFault : Stop → Type 0
+  FirstFault stop =
+      LibraryReads (having new) (Err stop)
+      ⊎ ((library : Having) × (std_root : ℕ) × LibraryRead library std_root × FileReads library (Err stop))
+      ⊎ ((std_root : ℕ) × BothRead std_root × ((repeated_of new.items ≡ Some stop) ⊎ IsMemory stop))
+
+  -- nothing is told of types then
+  pub record StopsReading (stop : Stop) : Type 0 where
+    pub first : FirstFault stop
+    pub file : new.file.0 ≡ place_behind 0 library_text
+    pub scope : new.scope ≡ old.scope
