@@ -13,6 +13,7 @@ use Rattle.abi_rust.specs.declared.ty.Kind.TheVariants.{Integer as KindInteger}
 use Rattle.abi_rust.specs.declared.work.Context.{Context}
 use Rattle.abi_rust.specs.Evaluating.{binary_value, evaluator, value_with}
 use Rattle.abi_rust.specs.Meaning.{fault_at}
+use Rattle.abi_rust.specs.Globs.{led_to}
 use Rattle.abi_rust.specs.Operators.{cast_of}
 use Rattle.abi_rust.specs.Measure.{Measure}
 use Rattle.abi_rust.specs.Reprs.{no_repr}
@@ -56,3 +57,7 @@ past_the_last : (cx : Context) (it : Item) (v : Variant) → it.repr.integer ≡
     → variant_number cx it (Some (pos 255)) v ≡ fault_at v.at (Overflow U8)
 unfolding variant_number
 past_the_last cx it v integer bare = rw (bare, integer) refl
+
+-- three modules, of which each brings in all names of the next one, in a ring: the first reaches the others, and itself
+ring : led_to ((1 ∷ []) ∷ (2 ∷ []) ∷ (0 ∷ []) ∷ []) (1 ∷ []) ≡ 1 ∷ 2 ∷ 0 ∷ []
+ring = refl

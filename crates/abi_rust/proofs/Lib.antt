@@ -2,6 +2,7 @@ pub mod Aligned
 pub mod Bits
 pub mod Copies
 pub mod Facts
+pub mod GlobLemmas
 pub mod KnownSizes
 pub mod Labels
 pub mod Lasts

@@ -1,5 +1,5 @@
 -- Names that are kept stay so, and errors that are passed on.
-use Rattle.std.proofs.Common.{◌≡◌, ◌∙◌, ℕ, zero, suc, Err, Ok, Option, Result, ap, refl, subst, sym}
+use Rattle.std.proofs.Common.{◌≡◌, ◌∙◌, ℕ, zero, suc, Err, Ok, Option, Result, ap, inl, inr, refl, subst, sym}
 use Rattle.std.specs.Result.{IfErr, IsErrAnd}
 use Rattle.indexmap.specs.IndexMap.{get}
 use Rattle.std.specs.Prelude.{nat_eq}
@@ -9,6 +9,7 @@ use Rattle.rust_source.specs.declared.syntax.Path.{Path}
 use Rattle.abi_rust.specs.declared.fault.Stop.{Stop}
 use Rattle.abi_rust.specs.declared.scope.Scope.{Scope}
 use Rattle.abi_rust.specs.declared.words.Word.TheVariants.{Prelude}
+use Rattle.abi_rust.specs.Globs.{KeepsGlobs}
 use Rattle.abi_rust.specs.Kinds.{type_named}
 use Rattle.abi_rust.specs.Names.{named_behind, first, found_of, most_uses, own, target, target_with, within}
 use Rattle.abi_rust.specs.OwnConstants.{is_own, last_told, own_at, own_type, own_type_by, type_owning}
@@ -16,6 +17,7 @@ use Rattle.abi_rust.specs.Scope.{constant_standing, module_in, reached_from, sam
 use Rattle.abi_rust.specs.ScopeNames.{HasSameNames, KeepsNames, KeepsOwn}
 use Rattle.abi_rust.specs.Standing.{ModuleName, first_so}
 use Rattle.abi_rust.specs.Words.{symbol_of}
+use Rattle.abi_rust.proofs.GlobLemmas.{rounds_same, same_added}
 
 -- an error that was passed on
 pub passed_on : {B : Type 0} (P : Stop → Type 0) (e : Stop) (r : Result B Stop) → IsErrAnd r (λ stop. stop ≡ e) → P e → IfErr r P
@@ -66,3 +68,18 @@ keeps_own items scope other constants owners = record {
   constants = λ k. constants k ∙ ap (λ (of : Item → Option ℕ). first_so (λ (it : Item). is_own k (of it) it.name) 0 items.items.items) (sym (same_own items scope other));
   owners = λ n. owners n ∙ ap (λ (of : Item → Option ℕ). last_told of 0 n items.items.items) (sym (same_own items scope other));
 }
+
+-- nor of where globs lead
+pub keeps_globs : (items : Items) (scope other : Scope) → KeepsGlobs items scope → KeepsGlobs items (with_own scope other)
+unfolding reached_from
+keeps_globs items scope other keeps =
+    let same : HasSameNames scope (with_own scope other) = record { roots = record { words = refl; root = refl }; modules = refl; types = refl; constants = refl; uses = refl; prelude = refl } in
+    record {
+      rounds = keeps.rounds;
+      direct = keeps.direct;
+      followed = rounds_same items keeps.rounds keeps.direct scope (with_own scope other) keeps.followed same (λ m. refl);
+      over = elim keeps.over [
+        | inl none ↦ inl (same_added items scope (with_own scope other) keeps.direct (same_target items scope other most_uses) ∙ none)
+        | inr all ↦ inr all
+      ];
+    }

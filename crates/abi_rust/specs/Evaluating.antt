@@ -36,7 +36,7 @@ use Rattle.abi_rust.specs.Names.{found, found_of}
 use Rattle.abi_rust.specs.Operators.{Made, binary_of, bits_of_integer, cast_of, fitted, is_settled, is_signed, is_same_kind, unary_of}
 use Rattle.abi_rust.specs.Places.{last_name, place_of_expr, place_of_path}
 use Rattle.abi_rust.specs.Scope.{module_in}
-use Rattle.abi_rust.specs.Types.{GivenRead, Where, givens, of_value}
+use Rattle.abi_rust.specs.Types.{GivenRead, Where, of_value}
 use Rattle.abi_rust.specs.Values.{ValueRead, code, kind_read, number, truth}
 use Rattle.abi_rust.specs.Words.{is_word, is_same_name, symbol_of}
 
@@ -183,14 +183,15 @@ module _ (cx : Context) where
   size_or_align true known = known.0
   size_or_align false known = known.1
 
-  abbrev pub known_by : Bool → Option (ℕ × ℕ) → Meaning ValueRead
-  known_by asks (Some known) = Ok (number Usize (pos (size_or_align asks known)))
+  abbrev pub known_by : Bool → Option (Meaning (ℕ × ℕ)) → Meaning ValueRead
+  known_by asks (Some (Ok known)) = Ok (number Usize (pos (size_or_align asks known)))
+  known_by asks (Some (Err e)) = Err e
   known_by asks None = Err Size
 
   abbrev pub call_by : Where → Place → Option Bool → Option Written → Meaning ValueRead
   call_by w at None t = fault_at at (Unevaluated Expression)
   call_by w at (Some asks) None = fault_at at (Unevaluated Expression)
-  call_by w at (Some asks) (Some t) = known_by asks (known_at cx.known.now at (givens w.given))
+  call_by w at (Some asks) (Some t) = known_by asks (known_at cx.known.now at w t)
 
   -- the value of `size_of::<T>()` or `align_of::<T>()`, once it is known
   unfoldable pub call : Where → Path → Place → Meaning ValueRead

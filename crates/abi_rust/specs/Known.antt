@@ -2,12 +2,16 @@
 use Rattle.std.specs.Prelude.{ℕ, ◌&&◌, not, nat_eq, int_lt, Bool, true, false, List, [], ◌∷◌, Option, Some, None, if◌then◌else◌}
 use Rattle.abi_base.specs.declared.float.Float.{Float}
 use Rattle.abi_base.specs.declared.float.Float.TheVariants.{F16, F16B, F32, F64, F128, PpcF128}
+use Rattle.rust_source.specs.contracts.syntax.TypePartialEq.TheImpl as written
 use Rattle.rust_source.specs.declared.place.Place.{Place}
+use Rattle.rust_source.specs.declared.syntax.«Type».{«Type» as Written}
 use Rattle.abi_rust.specs.declared.ty.Primitive.{Primitive}
 use Rattle.abi_rust.specs.declared.ty.Primitive.TheVariants as named
 use Rattle.abi_rust.specs.declared.work.KnownSize.{KnownSize}
+use Rattle.abi_rust.specs.declared.work.Request.{Request}
+use Rattle.abi_rust.specs.Meaning.{Meaning}
 use Rattle.abi_rust.specs.Operators.{same_integer}
-use Rattle.abi_rust.specs.Types.{GivenRead, GivensRead, TyRead, TysRead, adt, all_given, array, dyn, function, givens, more_given, more_types, never, no_given, no_types, of_type, of_value, pointer, primitive, reference, slice, tuple}
+use Rattle.abi_rust.specs.Types.{GivenRead, GivensRead, TyRead, TysRead, Where, adt, all_given, array, dyn, function, givens, more_given, more_types, never, no_given, no_types, of_type, of_value, pointer, primitive, reference, slice, tuple}
 use Rattle.abi_rust.specs.Values.{ValueRead, code, number, truth}
 
 -- two truths are one
@@ -70,8 +74,25 @@ abbrev mutual
   same_givens (more_given g gs) (more_given h hs) = same_given g h && same_givens gs hs
   same_givens _ _ = false
 
--- the size and the alignment that a call at a place asks for, where they are known for what is given there
-abbrev pub known_at : List KnownSize → Place → GivensRead → Option (ℕ × ℕ)
-known_at [] at gs = None
-known_at (k ∷ ks) at gs =
-    if nat_eq k.at.0 at.0 && same_givens (givens (all_given k.given.items)) gs then Some (k.size, k.align) else known_at ks at gs
+-- two items, or none, are one
+abbrev pub is_same_item : Option ℕ → Option ℕ → Bool
+is_same_item (Some a) (Some b) = nat_eq a b
+is_same_item None None = true
+is_same_item _ _ = false
+
+-- two types are one as they are written, the places of their names too
+abbrev pub is_same_written : Written → Written → Bool
+is_same_written = (written.ghosts).eq
+
+-- the call of a request stands here
+abbrev pub stands_in : Request → Where → Bool
+stands_in r w = nat_eq r.«module» w.inside && (is_same_item r.item w.item && same_givens (givens (all_given r.given.items)) (givens w.given))
+
+-- a request is that of the call at a place, which names a type where it stands
+abbrev pub is_for : Request → Place → Where → Written → Bool
+is_for r at w t = nat_eq r.at.0 at.0 && (stands_in r w && is_same_written r.ty.now t)
+
+-- what is known of the size and the alignment that the call at a place asks for
+abbrev pub known_at : List KnownSize → Place → Where → Written → Option (Meaning (ℕ × ℕ))
+known_at [] at w t = None
+known_at (k ∷ ks) at w t = if is_for k.asked at w t then Some k.found else known_at ks at w t

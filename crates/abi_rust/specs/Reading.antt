@@ -9,6 +9,7 @@ use Rattle.rust_source.specs.declared.fault.SourceFault.{SourceFault}
 use Rattle.rust_source.specs.declared.place.TheConstants.Symbol.{CRATE}
 use Rattle.rust_source.specs.declared.reader.Source.{Source}
 use Rattle.rust_source.specs.declared.target.CfgTarget.{CfgTarget}
+use Rattle.abi_rust.specs.Globs.{KeepsGlobs}
 use Rattle.abi_rust.specs.ScopeNames.{KeepsNames, KeepsOwn, repeated_of}
 use Rattle.abi_rust.specs.Standing.{IsMemory}
 use Rattle.abi_rust.specs.Words.{known_words}
@@ -80,7 +81,7 @@ module _ (target : CfgTarget) (text : List ℕ) (old new : Sources) where
     pub file : FileReads library (Ok new.root)
     pub behind : BeginsWith (having new).1.items library.1.items
 
-  -- both were read, no name stands twice, and the scope keeps all names of modules
+  -- both were read, no name stands twice, and the scope keeps all names of modules, and where their globs lead
   pub record AllRead : Type 0 where
     pub std_root : ℕ
     pub both : BothRead std_root
@@ -88,6 +89,7 @@ module _ (target : CfgTarget) (text : List ℕ) (old new : Sources) where
     pub scope : Scope
     pub kept : new.scope ≡ Some scope
     pub names : KeepsNames new.items scope
+    pub globs : KeepsGlobs new.items scope
     pub own : KeepsOwn new.items scope
     pub words : scope.words ≡ new.words
     pub root : scope.std_root ≡ std_root

@@ -1,6 +1,7 @@
 //! The names that each module has.
 
-ghost use Rattle.std.specs.Prelude.{◌≡◌, ◌⊎◌, IfErr, IfOk, None, Some};
+ghost use Rattle.std.specs.Prelude.{◌≡◌, ◌⊎◌, [], IfErr, IfOk, None, Some, false, map, not, replicate, slice_get};
+ghost use Rattle.abi_rust.specs.Globs.{KeepsGlobs, glob_target, globs_added, is_in, led_to, list_at, lists_of, with_module, with_modules, with_target};
 ghost use Rattle.abi_rust.specs.Scope.{constant_standing, module_in, own_constant, owner_of, reached_from, type_standing, use_in};
 ghost use Rattle.abi_rust.specs.ScopeNames.{HasSameNames, HasSameRoots, IsEmpty, KeepsNames, KeepsOwn, repeated_of};
 ghost use Rattle.abi_rust.specs.Standing.{IsMemory};
@@ -11,7 +12,7 @@ use crate::paths::{Found, Space, target_of};
 use crate::standing::{Key, add_items, add_modules, add_uses, key, numbered};
 use crate::words::{Word, Words};
 use indexmap::IndexMap;
-use rust_source::{Items, Symbol};
+use rust_source::{Items, Symbol, Use};
 use std::alloc::Global;
 
 /// The names that each module has.
@@ -48,6 +49,7 @@ impl Scope {
         std_root: u32,
     ) -> Result<Scope, Stop>
         ensures names { IfOk result (KeepsNames items.now) }
+        ensures globs { IfOk result (KeepsGlobs items.now) }
         ensures own { IfOk result (KeepsOwn items.now) }
         ensures roots { IfOk result (λ scope. (scope.words ≡ words) × (scope.std_root ≡ std_root)) }
         ensures once { IfOk result (λ _. repeated_of items.now ≡ None) }
@@ -75,6 +77,7 @@ impl Scope {
     fn fill(&mut self, alloc: Global, items: &Items) -> Result<(), Stop>
         requires { IsEmpty self.old }
         ensures names { IfOk result (λ _. KeepsNames items.now self.new) }
+        ensures globs { IfOk result (λ _. KeepsGlobs items.now self.new) }
         ensures own { IfOk result (λ _. KeepsOwn items.now self.new) }
         ensures roots { IfOk result (λ _. HasSameRoots self.old self.new) }
         ensures once { IfOk result (λ _. repeated_of items.now ≡ None) }
@@ -111,6 +114,7 @@ impl Scope {
     /// Finds the modules that globs lead to, until none leads further: each round but the last finds one that was not
     /// found before.
     fn follow_globs(&mut self, alloc: Global, items: &Items) -> Result<(), Stop>
+        ensures globs { IfOk result (λ _. KeepsGlobs items.now self.new) }
         ensures same { IfOk result (λ _. HasSameNames self.old self.new) }
         ensures err { IfErr result IsMemory }
     {
@@ -128,25 +132,37 @@ impl Scope {
 
     /// Adds to each module those that its own globs name, and tells whether one is new.
     fn add_globs(&self, items: &Items, direct: &mut Vec<Vec<u32>>) -> Result<bool, Stop>
-        ensures { IfErr result IsMemory }
+        ensures added { IfOk result (λ _.
+            lists_of direct.new.items ≡ globs_added items.now self.now (lists_of direct.old.items)) }
+        ensures none { IfOk result (λ is_new. is_new ≡ false →
+            lists_of direct.new.items ≡ lists_of direct.old.items) }
+        ensures err { IfErr result IsMemory }
     {
         let mut is_new = false;
         for (number, used) in items.uses.iter().enumerate() {
-            if !used.is_glob {
-                continue;
-            }
-            let Some(Found::Module(target)) = target_of(items, self, numbered(number), Space::Types)
-            else {
-                continue;
-            };
-            if let Some(known) = direct.get_mut(used.module as usize) {
-                if target != used.module && !known.as_slice().contains(&target) {
-                    known.push(target)?;
-                    is_new = true;
-                }
+            let target = self.glob_target(items, numbered(number), used);
+            if add_target(direct, used.module, target)? {
+                is_new = true;
             }
         }
         Ok(is_new)
+    }
+
+    /// The module that the use of this number brings all names of, if it is a glob, and of another module than its own.
+    fn glob_target(&self, items: &Items, number: u32, used: &Use) -> Option<u32>
+        ensures { result ≡ glob_target items.now self.now number used.now }
+    {
+        if !used.is_glob {
+            return None;
+        }
+        let Some(Found::Module(target)) = target_of(items, self, number, Space::Types) else {
+            return None;
+        };
+        if target == used.module {
+            None
+        } else {
+            Some(target)
+        }
     }
 
     /// The module of this name that stands in a module.
@@ -218,7 +234,8 @@ impl Scope {
 
 /// For each of so many modules none.
 fn no_modules(alloc: Global, count: usize) -> Result<Vec<Vec<u32>>, Stop>
-    ensures { IfErr result IsMemory }
+    ensures none { IfOk result (λ all. lists_of all.items ≡ replicate count []) }
+    ensures err { IfErr result IsMemory }
 {
     let mut all = Vec::new(alloc);
     for _module in 0..count {
@@ -227,35 +244,90 @@ fn no_modules(alloc: Global, count: usize) -> Result<Vec<Vec<u32>>, Stop>
     Ok(all)
 }
 
+/// Adds a module, if there is one, to those that another one's own globs name, and tells whether it is new.
+fn add_target(direct: &mut Vec<Vec<u32>>, module: u32, target: Option<u32>) -> Result<bool, Stop>
+    ensures added { IfOk result (λ _.
+        lists_of direct.new.items ≡ with_target (lists_of direct.old.items) «module» target) }
+    ensures none { IfOk result (λ is_new. is_new ≡ false →
+        lists_of direct.new.items ≡ lists_of direct.old.items) }
+    ensures err { IfErr result IsMemory }
+{
+    let Some(found) = target else {
+        return Ok(false);
+    };
+    match direct.get_mut(module as usize) {
+        Some(known) => add_module(known, found),
+        None => Ok(false),
+    }
+}
+
+/// Adds a module to others, unless it is there, and tells whether it is new.
+fn add_module(known: &mut Vec<u32>, module: u32) -> Result<bool, Stop>
+    ensures added { IfOk result (λ _. known.new.items ≡ with_module known.old.items «module») }
+    ensures is_new { IfOk result (λ is_new. is_new ≡ not (is_in known.old.items «module»)) }
+    ensures err { IfErr result IsMemory }
+{
+    if known.as_slice().contains(&module) {
+        return Ok(false);
+    }
+    known.push(module)?;
+    Ok(true)
+}
+
 /// For each module those that its globs lead to, by the globs of those too.
 fn reached_through(alloc: Global, direct: &Vec<Vec<u32>>) -> Result<Vec<Vec<u32>>, Stop>
-    ensures { IfErr result IsMemory }
+    ensures all { IfOk result (λ all. let lists = lists_of direct.now.items in
+        lists_of all.items ≡ map (led_to lists) lists) }
+    ensures err { IfErr result IsMemory }
 {
     let mut all = Vec::new(alloc);
     for own in direct {
-        let mut reached = Vec::new(alloc);
-        add_new(&mut reached, own)?;
-        for index in 0..direct.len() {
-            let Some(next) = reached.get(index).copied() else {
-                break;
-            };
-            if let Some(more) = direct.get(next as usize) {
-                add_new(&mut reached, more)?;
-            }
-        }
-        all.push(reached)?;
+        all.push(reached_by(alloc, direct, own)?)?;
     }
     Ok(all)
 }
 
+/// Those that a module's globs lead to, of which its own name these.
+fn reached_by(alloc: Global, direct: &Vec<Vec<u32>>, own: &[u32]) -> Result<Vec<u32>, Stop>
+    ensures all { IfOk result (λ reached.
+        reached.items ≡ led_to (lists_of direct.now.items) own.now) }
+    ensures err { IfErr result IsMemory }
+{
+    let mut reached = Vec::new(alloc);
+    add_new(&mut reached, own)?;
+    for index in 0..direct.len() {
+        let Some(next) = module_at(&reached, index) else {
+            break;
+        };
+        add_new(&mut reached, own_modules(direct, next))?;
+    }
+    Ok(reached)
+}
+
+/// The module at an index.
+fn module_at(modules: &Vec<u32>, index: usize) -> Option<u32>
+    ensures { result ≡ slice_get modules.now.items index }
+{
+    modules.get(index).copied()
+}
+
+/// The modules that a module's own globs name.
+fn own_modules(direct: &Vec<Vec<u32>>, module: u32) -> &[u32]
+    ensures { result.now ≡ list_at (lists_of direct.now.items) «module» }
+{
+    match direct.get(module as usize) {
+        Some(own) => own.as_slice(),
+        None => &[],
+    }
+}
+
 /// Adds the modules that aren't there.
 fn add_new(reached: &mut Vec<u32>, more: &[u32]) -> Result<(), Stop>
-    ensures { IfErr result IsMemory }
+    ensures all { IfOk result (λ _. reached.new.items ≡ with_modules reached.old.items more.now) }
+    ensures err { IfErr result IsMemory }
 {
     for module in more {
-        if !reached.as_slice().contains(module) {
-            reached.push(*module)?;
-        }
+        let _is_new = add_module(reached, *module)?;
     }
     Ok(())
 }

@@ -36,11 +36,12 @@ pub(crate) fn call<'a>(
     let Some(ty) = only_type(path) else {
         return Err(stop_at(at, unevaluated));
     };
-    match size_at(cx.known, at, setting.given) {
-        Some((size, align)) => {
+    match size_at(cx.known, at, setting, ty) {
+        Some(Ok((size, align))) => {
             let number = if asks_size { size } else { align };
             Ok(Value::Integer(IntegerKind::Usize, Int::positive(u128::from(number))))
         }
+        Some(Err(stop)) => Err(stop),
         None => await_size(cx, work, setting, ty, at),
     }
 }

@@ -43,7 +43,7 @@ impl Sources {
         ensures { IfOk result IsUnread }
     {
         let mut names = Names::new(alloc)?;
-        let words = Words::new(alloc, &mut names)?;
+        let words = Words::new(&mut names)?;
         Ok(Sources {
             names,
             words,

@@ -1,11 +1,11 @@
 //! Types as trees with the names of their parts.
 
-ghost use Rattle.std.specs.Prelude.{◌≡◌, ◌⊎◌, ◌∷◌, ◌++◌, [], Err, IfErr, IfOk, None, OnOk, map, slice_get, true};
+ghost use Rattle.std.specs.Prelude.{◌≡◌, ◌∷◌, ◌++◌, [], Err, IfErr, IfOk, OnOk, map, slice_get, true};
 ghost use Rattle.std.specs.Option.{option_map};
 ghost use Rattle.abi_laid.specs.Tree.{tree_of};
 ghost use Rattle.abi_rust.specs.Meaning.{Means, then_meant, is_beside};
 ghost use Rattle.abi_rust.specs.Measure.{IsMeasure, Measure};
-ghost use Rattle.abi_rust.specs.Sizes.{AreSizes, IsFaultOfSize, IsTold, IsUnder};
+ghost use Rattle.abi_rust.specs.Sizes.{AreSizes, IsOver, IsTold, IsUnder};
 ghost use Rattle.abi_rust.specs.Told.{is_itself, item_shape, item_type, label_of, measured_or, place_of_request, shape_of, shape_read, size_meant, subject_type, told_read, told_type, told_under, variant_label, variant_called};
 ghost use Rattle.abi_rust.specs.Trees.{sized_tree};
 ghost use Rattle.abi_rust.specs.Types.{ty_of};
@@ -169,7 +169,7 @@ pub(crate) fn tell<'a>(
     let mut work = Work::new();
     match attempt(cx, &mut work, subject, file) {
         Err(Stop::Size) => tell_sized(cx, &mut work, subject, file),
-        Err(other) => Err(other),
+        Err(Stop::Fault(at, kind)) => Err(Stop::Fault(at, kind)),
         Ok(found) => Ok(found),
     }
 }
@@ -181,7 +181,9 @@ fn tell_sized<'a>(
     subject: Subject<'a>,
     file: Place,
 ) -> Result<Option<Told>, Stop>
-    ensures { (m : Measure) → IsMeasure cx.now.dl.now m → IsTold cx.now m subject.entry file result }
+    ensures { (m : Measure) → IsMeasure cx.now.dl.now m →
+        told_under cx.now m subject.entry file ≡ Err Stop.Size →
+        IsTold cx.now m subject.entry file result }
 {
     let mut known = Vec::new(cx.alloc);
     let mut pending = Vec::new(cx.alloc);
@@ -191,7 +193,7 @@ fn tell_sized<'a>(
             Some(request) => measure(cx, work, &mut known, &mut pending, request)?,
             None => match attempt_under(cx, work, &known, subject, file) {
                 Err(Stop::Size) => await_size(work, &mut pending)?,
-                Err(other) => return Err(other),
+                Err(Stop::Fault(at, kind)) => return Err(Stop::Fault(at, kind)),
                 Ok(found) => return Ok(found),
             },
         }
@@ -203,7 +205,7 @@ fn tell_sized<'a>(
 fn attempt_under<'a>(
     cx: &Context<'a, '_>,
     work: &mut Work<'a>,
-    known: &Vec<KnownSize>,
+    known: &Vec<KnownSize<'a>>,
     subject: Subject<'a>,
     file: Place,
 ) -> Result<Option<Told>, Stop>
@@ -216,7 +218,7 @@ fn attempt_under<'a>(
 }
 
 /// The same with these sizes known.
-fn knowing<'a, 'k>(cx: &Context<'a, '_>, known: &'k Vec<KnownSize>) -> Context<'a, 'k>
+fn knowing<'a, 'k>(cx: &Context<'a, '_>, known: &'k Vec<KnownSize<'a>>) -> Context<'a, 'k>
     ensures { IsUnder cx.now known.now.items result }
 {
     Context {
@@ -231,7 +233,7 @@ fn knowing<'a, 'k>(cx: &Context<'a, '_>, known: &'k Vec<KnownSize>) -> Context<'
 
 /// Puts the size that is wanted before the others that are pending.
 fn await_size<'a>(work: &mut Work<'a>, pending: &mut Vec<Request<'a>>) -> Result<(), Stop>
-    ensures { IfErr result (λ e. (e ≡ Stop.Fault None FaultKind.TooDeep) ⊎ (is_beside e ≡ true)) }
+    ensures { IfErr result IsOver }
 {
     if pending.len() >= MOST_PENDING {
         return Err(Stop::Fault(None, FaultKind::TooDeep));
@@ -245,23 +247,22 @@ fn await_size<'a>(work: &mut Work<'a>, pending: &mut Vec<Request<'a>>) -> Result
     }
 }
 
-/// Notes the size that a request asks for, or puts the size before it that has to be known first.
+/// Notes what the size is that a request asks for, or puts the size before it that has to be known first.
 fn measure<'a>(
     cx: &Context<'a, '_>,
     work: &mut Work<'a>,
-    known: &mut Vec<KnownSize>,
+    known: &mut Vec<KnownSize<'a>>,
     pending: &mut Vec<Request<'a>>,
     request: Request<'a>,
 ) -> Result<(), Stop>
     ensures ok { OnOk result ((m : Measure) → IsMeasure cx.now.dl.now m →
         AreSizes cx.now m known.old.items → AreSizes cx.now m known.new.items) }
-    ensures err { IfErr result (λ e. (m : Measure) → IsMeasure cx.now.dl.now m →
-        IsFaultOfSize cx.now m known.old.items e ⊎ (is_beside e ≡ true)) }
+    ensures err { IfErr result IsOver }
 {
-    match size_under(cx, work, &*known, &request) {
-        Ok((size, align)) => note(known, request, size, align),
+    let found = size_under(cx, work, &*known, &request);
+    match found {
         Err(Stop::Size) => await_both(work, pending, request),
-        Err(other) => Err(other),
+        _ => note(known, request, found),
     }
 }
 
@@ -271,30 +272,25 @@ fn await_both<'a>(
     pending: &mut Vec<Request<'a>>,
     request: Request<'a>,
 ) -> Result<(), Stop>
-    ensures { IfErr result (λ e. (e ≡ Stop.Fault None FaultKind.TooDeep) ⊎ (is_beside e ≡ true)) }
+    ensures { IfErr result IsOver }
 {
     pending.push(request)?;
     await_size(work, pending)
 }
 
-/// Notes the size and the alignment that a request asks for.
-fn note(known: &mut Vec<KnownSize>, request: Request<'_>, size: u64, align: u64) -> Result<(), Stop>
+/// Notes what the size and the alignment are that a request asks for, or why there are none.
+fn note<'a>(
+    known: &mut Vec<KnownSize<'a>>,
+    request: Request<'a>,
+    found: Result<(u64, u64), Stop>,
+) -> Result<(), Stop>
     ensures ok { OnOk result (known.new.items ≡ known.old.items
-        ++ record { at = request.entry.at; given = request.entry.given; size = size; align = align } ∷ []) }
+        ++ record { asked = request.entry; found = found } ∷ []) }
     ensures err { IfErr result (λ e. is_beside e ≡ true) }
 {
-    let Request {
-        at,
-        ty: _,
-        module: _,
-        item: _,
-        given,
-    } = request;
     known.push(KnownSize {
-        at,
-        given,
-        size,
-        align,
+        asked: request,
+        found,
     })?;
     Ok(())
 }
@@ -303,7 +299,7 @@ fn note(known: &mut Vec<KnownSize>, request: Request<'_>, size: u64, align: u64)
 fn size_under<'a>(
     cx: &Context<'a, '_>,
     work: &mut Work<'a>,
-    known: &Vec<KnownSize>,
+    known: &Vec<KnownSize<'a>>,
     request: &Request<'a>,
 ) -> Result<(u64, u64), Stop>
     ensures { (m : Measure) → IsMeasure cx.now.dl.now m →

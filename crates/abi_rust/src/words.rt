@@ -7,7 +7,7 @@ ghost use Rattle.abi_rust.specs.Words.{integer_at, is_std, is_word, known_words,
 use crate::ty::Primitive;
 use abi_base::Float;
 use rust_source::{IntegerKind, Names, Symbol};
-use std::alloc::{AllocError, Global};
+use std::alloc::AllocError;
 
 /// The names of primitive types, and then others, in the order of their numbers.
 static WORDS: [&str; 43] = [
@@ -54,14 +54,14 @@ pub(crate) enum Word {
 
 impl Words {
     /// Numbers the names, of which none may have a number before.
-    pub(crate) fn new(alloc: Global, names: &mut Names) -> Result<Words, AllocError>
+    pub(crate) fn new(names: &mut Names) -> Result<Words, AllocError>
         ensures first { IfOk result
             (λ ws. ws.first ≡ number_of_name (texts names.old) (codes "bool")) }
         ensures names { OnOk result (texts names.new
             ≡ all_added (added (texts names.old) (codes "bool")) known_words) }
     {
-        let first = names.add(alloc, "bool")?.0;
-        add_all(alloc, names, &WORDS)?;
+        let first = names.add("bool")?.0;
+        add_all(names, &WORDS)?;
         Ok(Words { first })
     }
 
@@ -106,11 +106,11 @@ impl Words {
 }
 
 /// Gives numbers to names that have none, in their order.
-fn add_all(alloc: Global, names: &mut Names, all: &[&'static str]) -> Result<(), AllocError>
+fn add_all(names: &mut Names, all: &[&'static str]) -> Result<(), AllocError>
     ensures { OnOk result (texts names.new ≡ all_added (texts names.old) (map word_of all.now)) }
 {
     for word in all {
-        let _ = names.add(alloc, word)?;
+        let _ = names.add(word)?;
     }
     Ok(())
 }

@@ -1,10 +1,10 @@
 //! What work at a type knows and asks for.
 
-ghost use Rattle.std.specs.Prelude.{◌≡◌, ◌+◌, ◌&&◌, nat_eq, true, IfErr, IfOk, OnOk, Some, None, [], ◌∷◌, ◌++◌, map};
-ghost use Rattle.abi_rust.specs.Known.{known_at, same_givens};
+ghost use Rattle.std.specs.Prelude.{◌≡◌, ◌+◌, true, IfErr, IfOk, OnOk, Some, None, [], ◌∷◌, ◌++◌, map};
+ghost use Rattle.abi_rust.specs.Known.{is_for, is_same_item, known_at, stands_in};
 ghost use Rattle.abi_rust.specs.Meaning.{Means, is_beside};
 ghost use Rattle.abi_rust.specs.Resolving.{most_deep};
-ghost use Rattle.abi_rust.specs.Types.{all_given, given_of, givens, ty_of};
+ghost use Rattle.abi_rust.specs.Types.{all_given, given_of, ty_of, where_of};
 
 use crate::fault::{FaultKind, Stop};
 use crate::scope::Scope;
@@ -30,7 +30,7 @@ pub(crate) struct Context<'a, 'k> {
     /// How many bits a pointer has.
     pub(crate) pointer_bits: u32,
     /// The sizes that are known.
-    pub(crate) known: &'k [KnownSize],
+    pub(crate) known: &'k [KnownSize<'a>],
 }
 
 /// Where a type or an expression stands.
@@ -44,7 +44,7 @@ pub(crate) struct Setting<'g> {
     pub(crate) given: &'g [Given],
 }
 
-/// A type whose size has to be known: the call that asks for it, the type, and where it stands.
+/// A call that asks for the size or the alignment of a type: where it stands, and the type that it names there.
 #[derive(Drop)]
 pub(crate) struct Request<'a> {
     pub(crate) at: Place,
@@ -56,15 +56,11 @@ pub(crate) struct Request<'a> {
 
 /// A size that is known.
 #[derive(Drop)]
-pub(crate) struct KnownSize {
+pub(crate) struct KnownSize<'a> {
     /// The call that asks for it.
-    pub(crate) at: Place,
-    /// What the parameters are given where it stands.
-    pub(crate) given: Vec<Given>,
-    /// In bytes.
-    pub(crate) size: u64,
-    /// In bytes.
-    pub(crate) align: u64,
+    pub(crate) asked: Request<'a>,
+    /// The type's size and alignment, in bytes, or why it has none.
+    pub(crate) found: Result<(u64, u64), Stop>,
 }
 
 /// What work has spent, and what it has to know first.
@@ -99,24 +95,48 @@ impl<'a> Work<'a> {
     }
 }
 
-/// The size and the alignment that a call asks for, where they are known.
-pub(crate) fn size_at(known: &[KnownSize], at: Place, given: &[Given]) -> Option<(u64, u64)>
-    ensures { result ≡ known_at known.now at (givens (all_given given.now)) }
+/// What is known of the size and the alignment that a call at a place asks for.
+pub(crate) fn size_at(
+    known: &[KnownSize<'_>],
+    at: Place,
+    setting: Setting<'_>,
+    ty: &Type,
+) -> Option<Result<(u64, u64), Stop>>
+    ensures { result ≡ known_at known.now at (where_of setting.entry) ty.now }
 {
     for one in known {
-        if is_for(one, at, given) {
-            return Some((one.size, one.align));
+        if is_for(&one.asked, at, setting, ty) {
+            return Some(one.found);
         }
     }
     None
 }
 
-/// Whether a size is known for the call at a place, under what is given there.
-fn is_for(known: &KnownSize, at: Place, given: &[Given]) -> bool
-    ensures { result
-        ≡ (nat_eq known.now.at.0 at.0 && same_givens (givens (all_given known.now.given.items)) (givens (all_given given.now))) }
+/// Whether a request is that of the call at a place, which names a type where it stands.
+fn is_for(asked: &Request<'_>, at: Place, setting: Setting<'_>, ty: &Type) -> bool
+    ensures { result ≡ is_for asked.now at (where_of setting.entry) ty.now }
 {
-    known.at.0 == at.0 && same_givens(known.given.as_slice(), given)
+    asked.at.0 == at.0 && (stands_in(asked, setting) && *asked.ty == *ty)
+}
+
+/// Whether the call of a request stands in a setting.
+fn stands_in(asked: &Request<'_>, setting: Setting<'_>) -> bool
+    ensures { result ≡ stands_in asked.now (where_of setting.entry) }
+{
+    asked.module == setting.module
+        && (is_same_item(asked.item, setting.item)
+            && same_givens(asked.given.as_slice(), setting.given))
+}
+
+/// Whether two items, or none, are one.
+fn is_same_item(a: Option<u32>, b: Option<u32>) -> bool
+    ensures { result ≡ is_same_item a b }
+{
+    match (a, b) {
+        (Some(a), Some(b)) => a == b,
+        (None, None) => true,
+        _ => false,
+    }
 }
 
 /// How deep types and constants may need one another.

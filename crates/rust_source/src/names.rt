@@ -37,7 +37,7 @@ impl Names {
         ensures { IfOk result (λ names. texts names ≡ first_names) }
     {
         let mut names = Names::empty(alloc);
-        names.add_all(alloc, &WORDS)?;
+        names.add_all(&WORDS)?;
         Ok(names)
     }
 
@@ -51,19 +51,19 @@ impl Names {
     }
 
     /// Gives numbers to names that have none, in their order.
-    fn add_all(&mut self, alloc: Global, words: &[&'static str]) -> Result<(), AllocError>
+    fn add_all(&mut self, words: &[&'static str]) -> Result<(), AllocError>
         ensures { IfOk result
             (λ _. texts self.new ≡ all_added (texts self.old) (map word_of words.now)) }
     {
         for word in words {
-            let _ = self.add(alloc, word)?;
+            let _ = self.add(word)?;
         }
         Ok(())
     }
 
     /// The number of a name, which it gets where it has none. An error comes where a growth of memory was refused, or
     /// where 2^32 names have numbers. Names that have numbers keep them.
-    pub fn add(&mut self, alloc: Global, text: &str) -> Result<Symbol, AllocError>
+    pub fn add(&mut self, text: &str) -> Result<Symbol, AllocError>
         ensures named { IfOk result (λ name. text_of self.new name.0 ≡ text.now) }
         ensures kept { BeginsWith self.new.known.keys self.old.known.keys }
         ensures number { IfOk result (λ name. name.0 ≡ number_of_name (texts self.old) text.now) }
@@ -72,11 +72,17 @@ impl Names {
         if let Some(found) = self.find(text) {
             return Ok(found);
         }
-        let (number, _is_new) = self.known.insert_full(String::from_str(alloc, text)?)?;
+        let owned = String::from_str(self.alloc(), text)?;
+        let (number, _is_new) = self.known.insert_full(owned)?;
         match u32::try_from(number) {
             Ok(number) => Ok(Symbol(number)),
             Err(_) => Err(AllocError),
         }
+    }
+
+    /// The allocator that names are kept by.
+    pub(crate) fn alloc(&self) -> Global {
+        *self.known.allocator()
     }
 
     /// The number of a name, where it has one.

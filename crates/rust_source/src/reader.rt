@@ -127,19 +127,15 @@ pub fn read_items(
         target: *target,
         is_trusted: source.is_trusted,
     };
-    read_root(alloc, &rules, names, items, source.root, &mut cursor)
+    read_root(&rules, names, items, source.root, &mut cursor)
 }
 
 /// Reads a type, which is all that is left.
-fn read_alone(
-    alloc: Global,
-    names: &mut Names,
-    cursor: &mut Cursor<'_>,
-) -> Result<Type, SourceFault>
+fn read_alone(names: &mut Names, cursor: &mut Cursor<'_>) -> Result<Type, SourceFault>
     ensures { Reads type_of (alone (type_read most_nested cursor.old (texts names.old)))
         (texts names.new) result }
 {
-    let ty = crate::reader::types::read_type(alloc, names, cursor, most_nested())?;
+    let ty = crate::reader::types::read_type(names, cursor, most_nested())?;
     if is_done(cursor) {
         Ok(ty)
     } else {
@@ -161,5 +157,5 @@ pub fn read_type(
 {
     let found = tokens_at(alloc, text, start)?;
     let mut cursor = beginning(text, start, &found);
-    read_alone(alloc, names, &mut cursor)
+    read_alone(names, &mut cursor)
 }

@@ -37,7 +37,7 @@ pub enum Unevaluated {
 
 /// A type as it is written, before any name in it is resolved (Rust Reference, "Types").
 #[cycle(syntax)]
-#[derive(Drop)]
+#[derive(PartialEq, Eq, Drop)]
 pub enum Type {
     /// `!`
     Never,
@@ -63,7 +63,7 @@ pub enum Type {
 
 /// A path, as it is written: `std::vec::Vec<u8>`, `self::A`, `Self`.
 #[cycle(syntax)]
-#[derive(Drop)]
+#[derive(PartialEq, Eq, Drop)]
 pub struct Path {
     /// Whether it begins with `::`.
     pub is_global: bool,
@@ -73,7 +73,7 @@ pub struct Path {
 
 /// One name of a path, with what it is given in angle brackets (Rust Reference, "Paths").
 #[cycle(syntax)]
-#[derive(Drop)]
+#[derive(PartialEq, Eq, Drop)]
 pub struct Segment {
     /// The name.
     pub name: Symbol,
@@ -85,7 +85,7 @@ pub struct Segment {
 
 /// What one parameter of a generic item is given, as it is written.
 #[cycle(syntax)]
-#[derive(Drop)]
+#[derive(PartialEq, Eq, Drop)]
 pub enum Argument {
     /// A type. A name alone may be a constant's.
     Type(Type),
@@ -131,7 +131,7 @@ pub enum Binary {
 
 /// An expression as it is written, of those that a length, a discriminant or a constant may be made of here.
 #[cycle(syntax)]
-#[derive(Drop)]
+#[derive(PartialEq, Eq, Drop)]
 pub enum Expr {
     /// An integer, the type that its suffix names, and where it stands. `b'a'` is a `u8`.
     Integer(u128, Option<IntegerKind>, Place),

@@ -19,7 +19,6 @@ use crate::reader::repr::{NOTHING, next_number, with_repr};
 use crate::reader::room::{less, most_nested};
 use crate::target::CfgTarget;
 use crate::tokens::token::Bracket;
-use std::alloc::Global;
 
 /// What is asked of `cfg`, and whether the source may use what only the standard library may.
 #[derive(Clone, Copy)]
@@ -87,7 +86,6 @@ fn range_in(inside: &mut Cursor<'_>) -> Result<(u128, u128), SourceFault>
 /// What is said with another `cfg`, whose predicate is next.
 #[tactic(auto, unfolding(crate::specs::Attributes::cfg_said))]
 fn read_cfg(
-    alloc: Global,
     names: &mut Names,
     unknown: &mut Vec<Symbol>,
     rules: &Rules<'_>,
@@ -98,7 +96,7 @@ fn read_cfg(
         (texts names.new, unknown.new.items) result }
 {
     let mut said = before;
-    let holds = is_predicate(alloc, names, unknown, &rules.target, inside, most_nested())?;
+    let holds = is_predicate(names, unknown, &rules.target, inside, most_nested())?;
     said.holds = said.holds && holds;
     Ok(said)
 }
@@ -126,7 +124,6 @@ fn read_simple(
 #[cycle(attributes)]
 #[tactic(auto, unfolding(crate::specs::Attributes::expanded_all), using(crate::proofs::ItemTurns::expanded_more, crate::proofs::ItemTurns::expanded_done))]
 fn read_list(
-    alloc: Global,
     names: &mut Names,
     unknown: &mut Vec<Symbol>,
     rules: &Rules<'_>,
@@ -145,7 +142,7 @@ fn read_list(
             return Ok(said);
         }
         let mut one = take_until(inside, b',');
-        said = read_attribute(alloc, names, unknown, rules, said, &mut one, room)?;
+        said = read_attribute(names, unknown, rules, said, &mut one, room)?;
         expect_comma(inside)?;
     }
     Ok(said)
@@ -155,7 +152,6 @@ fn read_list(
 #[cycle(attributes)]
 #[tactic(auto, unfolding(crate::specs::Attributes::expanded))]
 fn read_expanded(
-    alloc: Global,
     names: &mut Names,
     unknown: &mut Vec<Symbol>,
     rules: &Rules<'_>,
@@ -167,10 +163,10 @@ fn read_expanded(
         (expanded rules.now (attribute_read rules.now room) before inside.old (texts names.old, unknown.old.items))
         (texts names.new, unknown.new.items) result }
 {
-    let holds = is_predicate(alloc, names, unknown, &rules.target, inside, most_nested())?;
+    let holds = is_predicate(names, unknown, &rules.target, inside, most_nested())?;
     expect_comma(inside)?;
     if holds {
-        read_list(alloc, names, unknown, rules, before, inside, room)
+        read_list(names, unknown, rules, before, inside, room)
     } else {
         Ok(before)
     }
@@ -180,7 +176,6 @@ fn read_expanded(
 #[cycle(attributes)]
 #[tactic(auto, unfolding(crate::specs::Attributes::attribute_with))]
 fn read_within(
-    alloc: Global,
     names: &mut Names,
     unknown: &mut Vec<Symbol>,
     rules: &Rules<'_>,
@@ -198,9 +193,9 @@ fn read_within(
         return Ok(before);
     };
     if name == "cfg_attr" {
-        read_expanded(alloc, names, unknown, rules, before, &mut inside, room)
+        read_expanded(names, unknown, rules, before, &mut inside, room)
     } else if name == "cfg" {
-        read_cfg(alloc, names, unknown, rules, before, &mut inside)
+        read_cfg(names, unknown, rules, before, &mut inside)
     } else {
         read_simple(rules, before, name, &mut inside)
     }
@@ -210,7 +205,6 @@ fn read_within(
 #[cycle(attributes)]
 #[tactic(auto, using(crate::proofs::ItemTurns::attribute_less, crate::proofs::ItemTurns::attribute_none))]
 fn read_attribute(
-    alloc: Global,
     names: &mut Names,
     unknown: &mut Vec<Symbol>,
     rules: &Rules<'_>,
@@ -222,13 +216,12 @@ fn read_attribute(
         (texts names.new, unknown.new.items) result }
 {
     let room = less(cursor, room)?;
-    read_within(alloc, names, unknown, rules, before, cursor, room)
+    read_within(names, unknown, rules, before, cursor, room)
 }
 
 /// What the attribute says whose `#` stands before. One of the module around it (`#![..]`) says nothing here.
 #[tactic(auto, unfolding(crate::specs::Attributes::one_attribute))]
 fn read_one(
-    alloc: Global,
     names: &mut Names,
     unknown: &mut Vec<Symbol>,
     rules: &Rules<'_>,
@@ -245,21 +238,12 @@ fn read_one(
     if is_inner {
         return Ok(before);
     }
-    read_attribute(
-        alloc,
-        names,
-        unknown,
-        rules,
-        before,
-        &mut inside,
-        most_nested(),
-    )
+    read_attribute(names, unknown, rules, before, &mut inside, most_nested())
 }
 
 /// What the attributes that are next say.
 #[tactic(auto, unfolding(crate::specs::Attributes::attributes_read), using(crate::proofs::ItemTurns::attributes_more, crate::proofs::ItemTurns::attributes_done))]
 pub(crate) fn read_attributes(
-    alloc: Global,
     names: &mut Names,
     unknown: &mut Vec<Symbol>,
     rules: &Rules<'_>,
@@ -274,7 +258,7 @@ pub(crate) fn read_attributes(
         if !take(cursor, b'#') {
             return Ok(said);
         }
-        said = read_one(alloc, names, unknown, rules, said, cursor)?;
+        said = read_one(names, unknown, rules, said, cursor)?;
     }
     Ok(said)
 }

@@ -18,7 +18,6 @@ use crate::reader::naming::word_text;
 use crate::reader::room::less;
 use crate::target::{CfgTarget, Family};
 use crate::tokens::token::{Bracket, TokenKind};
-use std::alloc::Global;
 
 /// The name of a family of systems.
 fn family_name(family: Family) -> &'static str
@@ -132,17 +131,12 @@ fn put_symbol(all: &mut Vec<Symbol>, one: Symbol) -> Result<(), SourceFault>
 }
 
 /// Keeps a name that isn't known, once.
-fn keep_unknown(
-    alloc: Global,
-    names: &mut Names,
-    unknown: &mut Vec<Symbol>,
-    name: &str,
-) -> Result<(), SourceFault>
+fn keep_unknown(names: &mut Names, unknown: &mut Vec<Symbol>, name: &str) -> Result<(), SourceFault>
     ensures ok { IfOk result (λ _. (texts names.new, unknown.new.items) ≡ with_unknown name.now
         (texts names.old, unknown.old.items)) }
     ensures err { IfErr result (λ fault. fault.kind ≡ SourceFaultKind.OutOfMemory) }
 {
-    let name = names.add(alloc, name)?;
+    let name = names.add(name)?;
     put_symbol(unknown, name)
 }
 
@@ -195,7 +189,6 @@ fn option_answer(
 /// Whether a name, or a name and its value, holds. The name is next.
 #[tactic(auto, unfolding(crate::specs::Cfg::option_read))]
 fn is_option(
-    alloc: Global,
     names: &mut Names,
     unknown: &mut Vec<Symbol>,
     target: &CfgTarget<'_>,
@@ -212,7 +205,7 @@ fn is_option(
     match option_answer(target, name, cursor)? {
         Some(holds) => Ok(holds),
         None => {
-            keep_unknown(alloc, names, unknown, name)?;
+            keep_unknown(names, unknown, name)?;
             Ok(false)
         }
     }
@@ -233,7 +226,6 @@ fn counted(so_many: usize, counts: bool) -> usize
 #[cycle(predicates)]
 #[tactic(auto, unfolding(crate::specs::Cfg::count_read), using(crate::proofs::ItemTurns::count_more, crate::proofs::ItemTurns::count_done))]
 fn count_holding(
-    alloc: Global,
     names: &mut Names,
     unknown: &mut Vec<Symbol>,
     target: &CfgTarget<'_>,
@@ -250,7 +242,7 @@ fn count_holding(
         if is_done(cursor) {
             return Ok((holding, count));
         }
-        let holds = is_predicate(alloc, names, unknown, target, cursor, room)?;
+        let holds = is_predicate(names, unknown, target, cursor, room)?;
         holding = counted(holding, holds);
         count = counted(count, true);
         expect_comma(cursor)?;
@@ -283,7 +275,6 @@ fn combined(
 #[cycle(predicates)]
 #[tactic(auto, unfolding(crate::specs::Cfg::predicate_with))]
 fn is_predicate_within(
-    alloc: Global,
     names: &mut Names,
     unknown: &mut Vec<Symbol>,
     target: &CfgTarget<'_>,
@@ -297,9 +288,9 @@ fn is_predicate_within(
     let mut behind = *cursor;
     pass(&mut behind, 1);
     let Some(mut inside) = take_group(&mut behind, Bracket::Round) else {
-        return is_option(alloc, names, unknown, target, cursor);
+        return is_option(names, unknown, target, cursor);
     };
-    let (holding, count) = count_holding(alloc, names, unknown, target, &mut inside, room)?;
+    let (holding, count) = count_holding(names, unknown, target, &mut inside, room)?;
     let holds = combined(cursor, word_text(cursor), holding, count)?;
     *cursor = behind;
     Ok(holds)
@@ -309,7 +300,6 @@ fn is_predicate_within(
 #[cycle(predicates)]
 #[tactic(auto, using(crate::proofs::ItemTurns::predicate_less, crate::proofs::ItemTurns::predicate_none))]
 pub(crate) fn is_predicate(
-    alloc: Global,
     names: &mut Names,
     unknown: &mut Vec<Symbol>,
     target: &CfgTarget<'_>,
@@ -320,5 +310,5 @@ pub(crate) fn is_predicate(
         (texts names.new, unknown.new.items) result }
 {
     let room = less(cursor, room)?;
-    is_predicate_within(alloc, names, unknown, target, cursor, room)
+    is_predicate_within(names, unknown, target, cursor, room)
 }

@@ -27,7 +27,6 @@ use crate::syntax::Path;
 use crate::tokens::as_place;
 use crate::tokens::keyword::Keyword;
 use crate::tokens::token::{Bracket, TokenKind};
-use std::alloc::Global;
 
 /// Whether memory was wanting.
 fn is_wanting(kind: SourceFaultKind) -> bool
@@ -71,18 +70,14 @@ fn pass_lifetimes(cursor: &mut Cursor<'_>) -> bool
 /// The type whose own the items of an `impl` block are, behind its `impl`. None where it has parameters, or its path
 /// can't be read.
 #[tactic(auto, unfolding(crate::specs::Constants::owner_read))]
-fn take_owner(
-    alloc: Global,
-    names: &mut Names,
-    cursor: &mut Cursor<'_>,
-) -> Result<Option<Path>, SourceFault>
+fn take_owner(names: &mut Names, cursor: &mut Cursor<'_>) -> Result<Option<Path>, SourceFault>
     ensures { Reads (λ found. option_map (λ path. (path_as_read path, cursor.new)) found)
         (owner_read cursor.old (texts names.old)) (texts names.new) result }
 {
     if !pass_lifetimes(cursor) || !begins_path(cursor) {
         return Ok(None);
     }
-    match read_path(alloc, names, cursor, true, most_nested()) {
+    match read_path(names, cursor, true, most_nested()) {
         Ok(path) => Ok(Some(path)),
         Err(fault) => {
             if is_wanting(fault.kind) {
@@ -97,7 +92,6 @@ fn take_owner(
 /// Reads a constant of the type with this number, behind its `const`. One that can't be read isn't told.
 #[tactic(auto, unfolding(crate::specs::Constants::own_const))]
 fn read_own_const(
-    alloc: Global,
     names: &mut Names,
     items: &mut Items,
     module: u32,
@@ -109,7 +103,7 @@ fn read_own_const(
     ensures read { Reads (λ done. done) (own_const «module» said.now owner cursor.old (texts names.old, items_as_read items.old))
         (texts names.new, items_as_read items.new) result }
 {
-    match read_const(alloc, names, cursor, Some(owner)) {
+    match read_const(names, cursor, Some(owner)) {
         Ok(one) => put_item(items, module, said, one),
         Err(fault) => {
             if is_wanting(fault.kind) {
@@ -124,7 +118,6 @@ fn read_own_const(
 /// Reads the next item of an `impl` block, where it is a constant, and passes over it.
 #[tactic(auto, unfolding(crate::specs::Constants::own_item))]
 fn read_own_item(
-    alloc: Global,
     rules: &Rules<'_>,
     names: &mut Names,
     items: &mut Items,
@@ -136,13 +129,13 @@ fn read_own_item(
     ensures read { Reads (λ _. inside.new) (own_item rules.now «module» owner inside.old (texts names.old, items_as_read items.old))
         (texts names.new, items_as_read items.new) result }
 {
-    let said = read_attributes(alloc, names, &mut items.unknown_cfgs, rules, inside)?;
+    let said = read_attributes(names, &mut items.unknown_cfgs, rules, inside)?;
     pass_visibility(inside);
     let mut ahead = *inside;
     pass_item(inside);
     if said.holds && is_constant(&ahead) {
         pass(&mut ahead, 1);
-        return read_own_const(alloc, names, items, module, &said, owner, &mut ahead);
+        return read_own_const(names, items, module, &said, owner, &mut ahead);
     }
     Ok(())
 }
@@ -150,7 +143,6 @@ fn read_own_item(
 /// Reads the constants within an `impl` block of the type with this number.
 #[tactic(auto, unfolding(crate::specs::Constants::own_items), using(crate::proofs::ModuleTurns::own_more, crate::proofs::ModuleTurns::own_done))]
 fn read_own_items(
-    alloc: Global,
     rules: &Rules<'_>,
     names: &mut Names,
     items: &mut Items,
@@ -167,7 +159,7 @@ fn read_own_items(
         if is_done(inside) {
             return Ok(());
         }
-        read_own_item(alloc, rules, names, items, module, owner, inside)?;
+        read_own_item(rules, names, items, module, owner, inside)?;
     }
     Ok(())
 }
@@ -188,7 +180,6 @@ fn put_owner(items: &mut Items, path: Path) -> Result<u32, SourceFault>
 
 /// Reads the constants within these braces, of the type that the path names.
 fn read_impl(
-    alloc: Global,
     rules: &Rules<'_>,
     names: &mut Names,
     items: &mut Items,
@@ -205,14 +196,13 @@ fn read_impl(
         return Ok(());
     };
     let owner = put_owner(items, path)?;
-    read_own_items(alloc, rules, names, items, module, owner, &mut inside)
+    read_own_items(rules, names, items, module, owner, &mut inside)
 }
 
 /// Reads the constants of an `impl` block, where one is next that has no parameters and implements no trait. Nothing is
 /// passed over.
 #[tactic(auto, unfolding(crate::specs::Constants::own_constants))]
 pub(crate) fn read_own_constants(
-    alloc: Global,
     rules: &Rules<'_>,
     names: &mut Names,
     items: &mut Items,
@@ -227,8 +217,8 @@ pub(crate) fn read_own_constants(
     if !take_word(&mut ahead, Keyword::Impl) {
         return Ok(());
     }
-    match take_owner(alloc, names, &mut ahead)? {
-        Some(path) => read_impl(alloc, rules, names, items, module, path, &mut ahead),
+    match take_owner(names, &mut ahead)? {
+        Some(path) => read_impl(rules, names, items, module, path, &mut ahead),
         None => Ok(()),
     }
 }

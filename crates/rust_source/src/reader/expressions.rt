@@ -45,7 +45,6 @@ fn is_told(kind: SourceFaultKind) -> bool
 #[cycle(terms)]
 #[tactic(auto, unfolding(crate::specs::Terms::whole))]
 pub(crate) fn read_whole(
-    alloc: Global,
     names: &mut Names,
     cursor: &mut Cursor<'_>,
     room: u32,
@@ -58,7 +57,7 @@ pub(crate) fn read_whole(
     }
     let at = place(cursor);
     let mut inside = *cursor;
-    let read = read_expression(alloc, names, &mut inside, room);
+    let read = read_expression(names, &mut inside, room);
     cursor.at = cursor.end;
     match read {
         Ok(whole) => {
@@ -82,7 +81,6 @@ pub(crate) fn read_whole(
 #[cycle(terms)]
 #[tactic(auto, using(crate::proofs::Rooms::expr_less, crate::proofs::Rooms::expr_none))]
 fn read_expression(
-    alloc: Global,
     names: &mut Names,
     cursor: &mut Cursor<'_>,
     room: u32,
@@ -91,7 +89,7 @@ fn read_expression(
         (expr_read room cursor.old (texts names.old)) (texts names.new) result }
 {
     let room = less(cursor, room)?;
-    read_joined(alloc, names, cursor, room)
+    read_joined(names, cursor, room)
 }
 
 /// Puts an operand behind the others.
@@ -107,27 +105,22 @@ fn push_operand(all: &mut Vec<Expr>, one: Expr) -> Result<(), SourceFault>
 /// Operands, and the operators between them.
 #[cycle(terms)]
 #[tactic(auto, unfolding(crate::specs::Terms::expr_with), using(crate::proofs::Rooms::expr_more, crate::proofs::Rooms::expr_done))]
-fn read_joined(
-    alloc: Global,
-    names: &mut Names,
-    cursor: &mut Cursor<'_>,
-    room: u32,
-) -> Result<Expr, SourceFault>
+fn read_joined(names: &mut Names, cursor: &mut Cursor<'_>, room: u32) -> Result<Expr, SourceFault>
     ensures { Reads (λ value. (expr_of value, cursor.new))
         (expr_with (readers room) cursor.old (texts names.old)) (texts names.new) result }
 {
-    let mut operands = Vec::new(alloc);
-    let mut waiting: Vec<Waiting> = Vec::new(alloc);
+    let mut operands = Vec::new(names.alloc());
+    let mut waiting: Vec<Waiting> = Vec::new(names.alloc());
     let turns = most_nested();
     for turn in 0..turns {
-        let one = read_operand(alloc, names, cursor, room)?;
+        let one = read_operand(names, cursor, room)?;
         push_operand(&mut operands, one)?;
         let at = place(cursor);
         let Some((operator, length)) = next_operator(cursor) else {
-            return join_all(alloc, cursor, operands, waiting);
+            return join_all(names.alloc(), cursor, operands, waiting);
         };
         let by = Waiting { operator, at };
-        put_operator(alloc, cursor, &mut operands, &mut waiting, by)?;
+        put_operator(names.alloc(), cursor, &mut operands, &mut waiting, by)?;
         pass(cursor, length);
     }
     Err(fault(cursor, SourceFaultKind::TooDeep))
@@ -165,19 +158,14 @@ fn take_signs(alloc: Global, cursor: &mut Cursor<'_>) -> Result<Vec<(Unary, Plac
 /// An operand, with the operators before it and the casts behind.
 #[cycle(terms)]
 #[tactic(auto, unfolding(crate::specs::Terms::operand))]
-fn read_operand(
-    alloc: Global,
-    names: &mut Names,
-    cursor: &mut Cursor<'_>,
-    room: u32,
-) -> Result<Expr, SourceFault>
+fn read_operand(names: &mut Names, cursor: &mut Cursor<'_>, room: u32) -> Result<Expr, SourceFault>
     ensures { Reads (λ value. (expr_of value, cursor.new))
         (operand (readers room) cursor.old (texts names.old)) (texts names.new) result }
 {
-    let signs = take_signs(alloc, cursor)?;
-    let first = read_primary(alloc, names, cursor, room)?;
-    let operand = with_signs(alloc, first, signs)?;
-    read_casts(alloc, names, cursor, operand, room)
+    let signs = take_signs(names.alloc(), cursor)?;
+    let first = read_primary(names, cursor, room)?;
+    let operand = with_signs(names.alloc(), first, signs)?;
+    read_casts(names, cursor, operand, room)
 }
 
 /// An operand, cast to a type behind an `as` that stands at this place.
@@ -194,7 +182,6 @@ fn with_cast(alloc: Global, operand: Expr, to: Type, at: Place) -> Result<Expr, 
 #[cycle(terms)]
 #[tactic(auto, using(crate::proofs::Rooms::cast_more, crate::proofs::Rooms::cast_done))]
 fn read_casts(
-    alloc: Global,
     names: &mut Names,
     cursor: &mut Cursor<'_>,
     operand: Expr,
@@ -210,8 +197,8 @@ fn read_casts(
         if !take_word(cursor, Keyword::As) {
             return Ok(operand);
         }
-        let to = read_type(alloc, names, cursor, room)?;
-        operand = with_cast(alloc, operand, to, at)?;
+        let to = read_type(names, cursor, room)?;
+        operand = with_cast(names.alloc(), operand, to, at)?;
     }
     Err(fault(cursor, SourceFaultKind::TooDeep))
 }
@@ -220,7 +207,6 @@ fn read_casts(
 #[cycle(terms)]
 #[tactic(auto, unfolding(crate::specs::Terms::bracketed))]
 fn read_in(
-    alloc: Global,
     names: &mut Names,
     cursor: &mut Cursor<'_>,
     bracket: Bracket,
@@ -232,7 +218,7 @@ fn read_in(
     let Some(mut inside) = take_group(cursor, bracket) else {
         return Err(fault(cursor, SourceFaultKind::ExpectedExpression));
     };
-    let value = read_expression(alloc, names, &mut inside, room)?;
+    let value = read_expression(names, &mut inside, room)?;
     if is_done(&inside) {
         Ok(value)
     } else {
@@ -244,7 +230,6 @@ fn read_in(
 #[cycle(terms)]
 #[tactic(auto, using(crate::proofs::Rooms::choice_less, crate::proofs::Rooms::choice_none))]
 fn read_choice(
-    alloc: Global,
     names: &mut Names,
     cursor: &mut Cursor<'_>,
     at: Place,
@@ -254,14 +239,13 @@ fn read_choice(
         (choice_read room at cursor.old (texts names.old)) (texts names.new) result }
 {
     let room = less(cursor, room)?;
-    read_tested(alloc, names, cursor, at, room)
+    read_tested(names, cursor, at, room)
 }
 
 /// The test of a choice, and what stands behind it.
 #[cycle(terms)]
 #[tactic(auto, unfolding(crate::specs::Terms::choice_with))]
 fn read_tested(
-    alloc: Global,
     names: &mut Names,
     cursor: &mut Cursor<'_>,
     at: Place,
@@ -270,8 +254,8 @@ fn read_tested(
     ensures { Reads (λ value. (expr_of value, cursor.new))
         (choice_with (readers room) at cursor.old (texts names.old)) (texts names.new) result }
 {
-    let test = read_expression(alloc, names, cursor, room)?;
-    read_branches(alloc, names, cursor, test, at, room)
+    let test = read_expression(names, cursor, room)?;
+    read_branches(names, cursor, test, at, room)
 }
 
 /// The choice of three expressions, which stands at this place.
@@ -289,7 +273,6 @@ fn choice(alloc: Global, test: Expr, yes: Expr, no: Expr, at: Place) -> Result<E
 /// The choice by this test, behind it.
 #[cycle(terms)]
 fn read_branches(
-    alloc: Global,
     names: &mut Names,
     cursor: &mut Cursor<'_>,
     test: Expr,
@@ -299,41 +282,31 @@ fn read_branches(
     ensures { Reads (λ value. (expr_of value, cursor.new))
         (choice_behind (readers room) at (expr_of test) cursor.old (texts names.old)) (texts names.new) result }
 {
-    let yes = read_in(alloc, names, cursor, Bracket::Curly, room)?;
+    let yes = read_in(names, cursor, Bracket::Curly, room)?;
     if !take_word(cursor, Keyword::Else) {
         return Err(fault(cursor, SourceFaultKind::ExpectedExpression));
     }
-    let no = read_else(alloc, names, cursor, room)?;
-    choice(alloc, test, yes, no, at)
+    let no = read_else(names, cursor, room)?;
+    choice(names.alloc(), test, yes, no, at)
 }
 
 /// What stands behind `else`.
 #[cycle(terms)]
-fn read_else(
-    alloc: Global,
-    names: &mut Names,
-    cursor: &mut Cursor<'_>,
-    room: u32,
-) -> Result<Expr, SourceFault>
+fn read_else(names: &mut Names, cursor: &mut Cursor<'_>, room: u32) -> Result<Expr, SourceFault>
     ensures { Reads (λ value. (expr_of value, cursor.new))
         (else_read (readers room) cursor.old (texts names.old)) (texts names.new) result }
 {
     let again = place(cursor);
     if take_word(cursor, Keyword::If) {
-        return read_choice(alloc, names, cursor, again, room);
+        return read_choice(names, cursor, again, room);
     }
-    read_in(alloc, names, cursor, Bracket::Curly, room)
+    read_in(names, cursor, Bracket::Curly, room)
 }
 
 /// An operand without operators.
 #[cycle(terms)]
 #[tactic(auto, unfolding(crate::specs::Terms::primary))]
-fn read_primary(
-    alloc: Global,
-    names: &mut Names,
-    cursor: &mut Cursor<'_>,
-    room: u32,
-) -> Result<Expr, SourceFault>
+fn read_primary(names: &mut Names, cursor: &mut Cursor<'_>, room: u32) -> Result<Expr, SourceFault>
     ensures { Reads (λ value. (expr_of value, cursor.new))
         (primary (readers room) cursor.old (texts names.old)) (texts names.new) result }
 {
@@ -342,38 +315,29 @@ fn read_primary(
     }
     let at = place(cursor);
     match next_kind(cursor) {
-        Some(TokenKind::Open(Bracket::Round)) => {
-            read_in(alloc, names, cursor, Bracket::Round, room)
-        }
-        Some(TokenKind::Open(Bracket::Curly)) => {
-            read_in(alloc, names, cursor, Bracket::Curly, room)
-        }
+        Some(TokenKind::Open(Bracket::Round)) => { read_in(names, cursor, Bracket::Round, room) }
+        Some(TokenKind::Open(Bracket::Curly)) => { read_in(names, cursor, Bracket::Curly, room) }
         Some(TokenKind::Keyword(Keyword::If)) => {
             pass(cursor, 1);
-            read_choice(alloc, names, cursor, at, room)
+            read_choice(names, cursor, at, room)
         }
-        _ => read_value(alloc, names, cursor, room),
+        _ => read_value(names, cursor, room),
     }
 }
 
 /// A path, or the call of what it names.
 #[cycle(terms)]
 #[tactic(auto, unfolding(crate::specs::Terms::value))]
-fn read_value(
-    alloc: Global,
-    names: &mut Names,
-    cursor: &mut Cursor<'_>,
-    room: u32,
-) -> Result<Expr, SourceFault>
+fn read_value(names: &mut Names, cursor: &mut Cursor<'_>, room: u32) -> Result<Expr, SourceFault>
     ensures { Reads (λ value. (expr_of value, cursor.new))
         (value (readers room) cursor.old (texts names.old)) (texts names.new) result }
 {
     let at = place(cursor);
-    let path = read_path(alloc, names, cursor, false, room)?;
+    let path = read_path(names, cursor, false, room)?;
     let Some(mut inside) = take_group(cursor, Bracket::Round) else {
         return Ok(Expr::Path(path));
     };
-    let arguments = read_values(alloc, names, &mut inside, room)?;
+    let arguments = read_values(names, &mut inside, room)?;
     Ok(Expr::Call(path, arguments, at))
 }
 
@@ -391,7 +355,6 @@ fn push_value(all: &mut Vec<Expr>, one: Expr) -> Result<(), SourceFault>
 #[cycle(terms)]
 #[tactic(auto, unfolding(crate::specs::Terms::expressions_in), using(crate::proofs::Rooms::values_more, crate::proofs::Rooms::values_done))]
 fn read_values(
-    alloc: Global,
     names: &mut Names,
     inside: &mut Cursor<'_>,
     room: u32,
@@ -399,13 +362,13 @@ fn read_values(
     ensures { Reads (λ all. map expr_of all.items)
         (expressions_in (readers room) inside.old (texts names.old)) (texts names.new) result }
 {
-    let mut all = Vec::new(alloc);
+    let mut all = Vec::new(names.alloc());
     let turns = inside.end.saturating_sub(inside.at);
     for turn in 0..turns {
         if is_done(inside) {
             return Ok(all);
         }
-        let one = read_expression(alloc, names, inside, room)?;
+        let one = read_expression(names, inside, room)?;
         push_value(&mut all, one)?;
         expect_comma(inside)?;
     }

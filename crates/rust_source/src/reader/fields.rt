@@ -26,7 +26,6 @@ use crate::syntax::Expr;
 use crate::tokens::as_place;
 use crate::tokens::keyword::Keyword;
 use crate::tokens::token::{Bracket, TokenKind};
-use std::alloc::Global;
 
 /// Whether the parentheses behind `pub` say where the item is seen, as `pub(crate)` and `pub(in a::b)`.
 fn is_restriction(inside: &Cursor<'_>) -> bool
@@ -60,7 +59,6 @@ pub(crate) fn pass_visibility(cursor: &mut Cursor<'_>)
 /// The field of this name, whose type is next.
 #[tactic(auto, unfolding(crate::specs::Fields::field_typed))]
 fn read_field_type(
-    alloc: Global,
     names: &mut Names,
     cursor: &mut Cursor<'_>,
     name: FieldName,
@@ -70,7 +68,7 @@ fn read_field_type(
         (field_typed name at cursor.old (texts names.old)) (texts names.new) result }
 {
     let start = place(cursor);
-    let ty = read_type(alloc, names, cursor, most_nested())?;
+    let ty = read_type(names, cursor, most_nested())?;
     let end = place_behind(cursor);
     Ok(Field {
         name,
@@ -84,7 +82,6 @@ fn read_field_type(
 /// A field with its name, or the field of this number in a tuple.
 #[tactic(auto, unfolding(crate::specs::Fields::field_read))]
 fn read_field(
-    alloc: Global,
     names: &mut Names,
     cursor: &mut Cursor<'_>,
     number: Option<u32>,
@@ -96,12 +93,12 @@ fn read_field(
     match number {
         Some(number) => {
             let at = place(cursor);
-            read_field_type(alloc, names, cursor, FieldName::Numbered(number), at)
+            read_field_type(names, cursor, FieldName::Numbered(number), at)
         }
         None => {
-            let (name, at) = take_name(alloc, names, cursor)?;
+            let (name, at) = take_name(names, cursor)?;
             expect(cursor, b':', SourceFaultKind::ExpectedColon)?;
-            read_field_type(alloc, names, cursor, FieldName::Named(name), at)
+            read_field_type(names, cursor, FieldName::Named(name), at)
         }
     }
 }
@@ -133,7 +130,6 @@ fn push_field(all: &mut Vec<Field>, is_there: bool, one: Field) -> Result<(), So
 /// Puts the field that is next behind the others, unless a `cfg` takes it out.
 #[tactic(auto, unfolding(crate::specs::Fields::field_more))]
 fn add_field(
-    alloc: Global,
     names: &mut Names,
     unknown: &mut Vec<Symbol>,
     rules: &Rules<'_>,
@@ -145,9 +141,9 @@ fn add_field(
         (field_more rules.now is_tuple (map field_of all.old.items) inside.old (texts names.old, unknown.old.items))
         (texts names.new, unknown.new.items) result }
 {
-    let said = read_attributes(alloc, names, unknown, rules, inside)?;
+    let said = read_attributes(names, unknown, rules, inside)?;
     let number = next_number(is_tuple, all);
-    let field = read_field(alloc, names, inside, number)?;
+    let field = read_field(names, inside, number)?;
     push_field(all, said.holds, field)?;
     expect_comma(inside)
 }
@@ -155,7 +151,6 @@ fn add_field(
 /// Puts all fields within brackets behind the others.
 #[tactic(auto, unfolding(crate::specs::Fields::fields_all), using(crate::proofs::ItemTurns::fields_more, crate::proofs::ItemTurns::fields_done))]
 fn add_fields(
-    alloc: Global,
     names: &mut Names,
     unknown: &mut Vec<Symbol>,
     rules: &Rules<'_>,
@@ -172,7 +167,7 @@ fn add_fields(
         if is_done(inside) {
             return Ok(());
         }
-        add_field(alloc, names, unknown, rules, inside, is_tuple, all)?;
+        add_field(names, unknown, rules, inside, is_tuple, all)?;
     }
     Ok(())
 }
@@ -180,7 +175,6 @@ fn add_fields(
 /// The fields within brackets.
 #[tactic(auto, unfolding(crate::specs::Fields::fields_in))]
 fn read_fields_in(
-    alloc: Global,
     names: &mut Names,
     unknown: &mut Vec<Symbol>,
     rules: &Rules<'_>,
@@ -190,16 +184,15 @@ fn read_fields_in(
     ensures { Reads fields_as_read (fields_in rules.now is_tuple inside.old (texts names.old, unknown.old.items))
         (texts names.new, unknown.new.items) result }
 {
-    let mut all = Vec::new(alloc);
-    add_fields(alloc, names, unknown, rules, inside, is_tuple, &mut all)?;
-    refuse_repeated_fields(alloc, &all)?;
+    let mut all = Vec::new(names.alloc());
+    add_fields(names, unknown, rules, inside, is_tuple, &mut all)?;
+    refuse_repeated_fields(names.alloc(), &all)?;
     Ok(Fields { is_tuple, all })
 }
 
 /// The fields that are next, in parentheses or braces; none where neither is next.
 #[tactic(auto, unfolding(crate::specs::Fields::fields_read))]
 pub(crate) fn read_fields(
-    alloc: Global,
     names: &mut Names,
     unknown: &mut Vec<Symbol>,
     rules: &Rules<'_>,
@@ -209,21 +202,20 @@ pub(crate) fn read_fields(
         (texts names.new, unknown.new.items) result }
 {
     if let Some(mut inside) = take_group(cursor, Bracket::Round) {
-        return read_fields_in(alloc, names, unknown, rules, &mut inside, true);
+        return read_fields_in(names, unknown, rules, &mut inside, true);
     }
     if let Some(mut inside) = take_group(cursor, Bracket::Curly) {
-        return read_fields_in(alloc, names, unknown, rules, &mut inside, false);
+        return read_fields_in(names, unknown, rules, &mut inside, false);
     }
     Ok(Fields {
         is_tuple: false,
-        all: Vec::new(alloc),
+        all: Vec::new(names.alloc()),
     })
 }
 
 /// The value behind a `=`, up to this character. None where no `=` is next.
 #[tactic(auto, unfolding(crate::specs::Fields::value_read))]
 pub(crate) fn read_value(
-    alloc: Global,
     names: &mut Names,
     cursor: &mut Cursor<'_>,
     end: u8,
@@ -235,13 +227,12 @@ pub(crate) fn read_value(
         return Ok(None);
     }
     let mut written = take_until(cursor, end);
-    Ok(Some(read_whole(alloc, names, &mut written, most_nested())?))
+    Ok(Some(read_whole(names, &mut written, most_nested())?))
 }
 
 /// A variant, behind its attributes.
 #[tactic(auto, unfolding(crate::specs::Fields::variant_read))]
 fn read_variant(
-    alloc: Global,
     names: &mut Names,
     unknown: &mut Vec<Symbol>,
     rules: &Rules<'_>,
@@ -251,9 +242,9 @@ fn read_variant(
         (texts names.new, unknown.new.items) result }
 {
     pass_visibility(cursor);
-    let (name, at) = take_name(alloc, names, cursor)?;
-    let fields = read_fields(alloc, names, unknown, rules, cursor)?;
-    let discriminant = read_value(alloc, names, cursor, b',')?;
+    let (name, at) = take_name(names, cursor)?;
+    let fields = read_fields(names, unknown, rules, cursor)?;
+    let discriminant = read_value(names, cursor, b',')?;
     Ok(Variant {
         name,
         at,
@@ -277,7 +268,6 @@ fn push_variant(all: &mut Vec<Variant>, is_there: bool, one: Variant) -> Result<
 /// Puts the variant that is next behind the others, unless a `cfg` takes it out.
 #[tactic(auto, unfolding(crate::specs::Fields::variant_more))]
 fn add_variant(
-    alloc: Global,
     names: &mut Names,
     unknown: &mut Vec<Symbol>,
     rules: &Rules<'_>,
@@ -288,8 +278,8 @@ fn add_variant(
         (variant_more rules.now (map variant_as_read all.old.items) inside.old (texts names.old, unknown.old.items))
         (texts names.new, unknown.new.items) result }
 {
-    let said = read_attributes(alloc, names, unknown, rules, inside)?;
-    let variant = read_variant(alloc, names, unknown, rules, inside)?;
+    let said = read_attributes(names, unknown, rules, inside)?;
+    let variant = read_variant(names, unknown, rules, inside)?;
     push_variant(all, said.holds, variant)?;
     expect_comma(inside)
 }
@@ -297,7 +287,6 @@ fn add_variant(
 /// Puts all variants within an enum's braces behind the others.
 #[tactic(auto, unfolding(crate::specs::Fields::variants_all), using(crate::proofs::ItemTurns::variants_more, crate::proofs::ItemTurns::variants_done))]
 fn add_variants(
-    alloc: Global,
     names: &mut Names,
     unknown: &mut Vec<Symbol>,
     rules: &Rules<'_>,
@@ -313,7 +302,7 @@ fn add_variants(
         if is_done(inside) {
             return Ok(());
         }
-        add_variant(alloc, names, unknown, rules, inside, all)?;
+        add_variant(names, unknown, rules, inside, all)?;
     }
     Ok(())
 }
@@ -321,7 +310,6 @@ fn add_variants(
 /// The variants within an enum's braces.
 #[tactic(auto, unfolding(crate::specs::Fields::variants_in_braces))]
 pub(crate) fn read_variants(
-    alloc: Global,
     names: &mut Names,
     unknown: &mut Vec<Symbol>,
     rules: &Rules<'_>,
@@ -330,8 +318,8 @@ pub(crate) fn read_variants(
     ensures { Reads (λ all. map variant_as_read all.variants.items) (variants_in_braces rules.now inside.old (texts names.old, unknown.old.items))
         (texts names.new, unknown.new.items) result }
 {
-    let mut variants = Vec::new(alloc);
-    add_variants(alloc, names, unknown, rules, inside, &mut variants)?;
-    refuse_repeated_variants(alloc, &variants)?;
+    let mut variants = Vec::new(names.alloc());
+    add_variants(names, unknown, rules, inside, &mut variants)?;
+    refuse_repeated_variants(names.alloc(), &variants)?;
     Ok(Enum { variants })
 }

@@ -25,7 +25,6 @@ use crate::reader::types::read_type;
 use crate::syntax::{Argument, Expr, Type};
 use crate::tokens::keyword::Keyword;
 use crate::tokens::token::{Bracket, TokenKind};
-use std::alloc::Global;
 
 /// The expression that an argument is, where it can be a constant.
 fn as_constant(argument: Argument) -> Option<Expr>
@@ -41,7 +40,6 @@ fn as_constant(argument: Argument) -> Option<Expr>
 /// The default of a constant, behind a `=`.
 #[tactic(auto, unfolding(crate::specs::Generics::const_default))]
 fn read_const_default(
-    alloc: Global,
     names: &mut Names,
     cursor: &mut Cursor<'_>,
 ) -> Result<Option<Expr>, SourceFault>
@@ -52,7 +50,7 @@ fn read_const_default(
         return Ok(None);
     }
     let before = *cursor;
-    let argument = read_argument(alloc, names, cursor, most_nested())?;
+    let argument = read_argument(names, cursor, most_nested())?;
     match as_constant(argument) {
         Some(value) => Ok(Some(value)),
         None => Err(fault(&before, SourceFaultKind::ExpectedExpression)),
@@ -61,32 +59,27 @@ fn read_const_default(
 
 /// The type of a constant parameter, and its default.
 #[tactic(auto, unfolding(crate::specs::Generics::const_kind))]
-fn read_const_kind(
-    alloc: Global,
-    names: &mut Names,
-    cursor: &mut Cursor<'_>,
-) -> Result<ParameterKind, SourceFault>
+fn read_const_kind(names: &mut Names, cursor: &mut Cursor<'_>) -> Result<ParameterKind, SourceFault>
     ensures { Reads (λ kind. (parameter_kind_of kind, cursor.new))
         (const_kind cursor.old (texts names.old)) (texts names.new) result }
 {
-    let ty = read_type(alloc, names, cursor, most_nested())?;
-    let default = read_const_default(alloc, names, cursor)?;
+    let ty = read_type(names, cursor, most_nested())?;
+    let default = read_const_default(names, cursor)?;
     Ok(ParameterKind::Const(ty, default))
 }
 
 /// A constant parameter, behind its `const`.
 #[tactic(auto, unfolding(crate::specs::Generics::const_parameter))]
 fn read_const_parameter(
-    alloc: Global,
     names: &mut Names,
     cursor: &mut Cursor<'_>,
 ) -> Result<Parameter, SourceFault>
     ensures { Reads (λ one. (parameter_of one, cursor.new))
         (const_parameter cursor.old (texts names.old)) (texts names.new) result }
 {
-    let (name, at) = take_name(alloc, names, cursor)?;
+    let (name, at) = take_name(names, cursor)?;
     expect(cursor, b':', SourceFaultKind::ExpectedColon)?;
-    let kind = read_const_kind(alloc, names, cursor)?;
+    let kind = read_const_kind(names, cursor)?;
     Ok(Parameter {
         name,
         at,
@@ -105,7 +98,6 @@ pub(crate) fn pass_asked(cursor: &mut Cursor<'_>) -> bool
 /// The default of a type, behind a `=`.
 #[tactic(auto, unfolding(crate::specs::Generics::type_default))]
 fn read_type_default(
-    alloc: Global,
     names: &mut Names,
     cursor: &mut Cursor<'_>,
 ) -> Result<Option<Type>, SourceFault>
@@ -113,7 +105,7 @@ fn read_type_default(
         (type_default cursor.old (texts names.old)) (texts names.new) result }
 {
     if take(cursor, b'=') {
-        Ok(Some(read_type(alloc, names, cursor, most_nested())?))
+        Ok(Some(read_type(names, cursor, most_nested())?))
     } else {
         Ok(None)
     }
@@ -121,17 +113,13 @@ fn read_type_default(
 
 /// A type's parameter.
 #[tactic(auto, unfolding(crate::specs::Generics::type_parameter))]
-fn read_type_parameter(
-    alloc: Global,
-    names: &mut Names,
-    cursor: &mut Cursor<'_>,
-) -> Result<Parameter, SourceFault>
+fn read_type_parameter(names: &mut Names, cursor: &mut Cursor<'_>) -> Result<Parameter, SourceFault>
     ensures { Reads (λ one. (parameter_of one, cursor.new))
         (type_parameter cursor.old (texts names.old)) (texts names.new) result }
 {
-    let (name, at) = take_name(alloc, names, cursor)?;
+    let (name, at) = take_name(names, cursor)?;
     let may_be_unsized = pass_asked(cursor);
-    let default = read_type_default(alloc, names, cursor)?;
+    let default = read_type_default(names, cursor)?;
     Ok(Parameter {
         name,
         at,
@@ -167,7 +155,6 @@ fn push_parameter(all: &mut Vec<Parameter>, one: Parameter) -> Result<(), Source
 /// Puts the parameter that is next behind the others. A lifetime is passed over.
 #[tactic(auto, unfolding(crate::specs::Generics::parameter_more))]
 fn add_parameter(
-    alloc: Global,
     names: &mut Names,
     cursor: &mut Cursor<'_>,
     all: &mut Vec<Parameter>,
@@ -181,9 +168,9 @@ fn add_parameter(
         return Ok(());
     }
     let one = if take_word(cursor, Keyword::Const) {
-        read_const_parameter(alloc, names, cursor)?
+        read_const_parameter(names, cursor)?
     } else {
-        read_type_parameter(alloc, names, cursor)?
+        read_type_parameter(names, cursor)?
     };
     push_parameter(all, one)
 }
@@ -191,7 +178,6 @@ fn add_parameter(
 /// Puts parameters behind the others, whose `<` stands before; their `>` is passed over.
 #[tactic(auto, unfolding(crate::specs::Generics::parameters_in), using(crate::proofs::GenericTurns::parameters_more, crate::proofs::GenericTurns::parameters_done))]
 fn add_parameters(
-    alloc: Global,
     names: &mut Names,
     cursor: &mut Cursor<'_>,
     all: &mut Vec<Parameter>,
@@ -204,7 +190,7 @@ fn add_parameters(
         if take(cursor, b'>') {
             return Ok(());
         }
-        add_parameter(alloc, names, cursor, all)?;
+        add_parameter(names, cursor, all)?;
         if !goes_on(cursor) {
             return Err(fault(cursor, SourceFaultKind::ExpectedAngle));
         }
@@ -215,17 +201,16 @@ fn add_parameters(
 /// The parameters of an item, lifetimes left out. None stand where no `<` is next.
 #[tactic(auto, unfolding(crate::specs::Generics::parameters_read))]
 pub(crate) fn read_parameters(
-    alloc: Global,
     names: &mut Names,
     cursor: &mut Cursor<'_>,
 ) -> Result<Vec<Parameter>, SourceFault>
     ensures { Reads (λ all. (map parameter_of all.items, cursor.new))
         (parameters_read cursor.old (texts names.old)) (texts names.new) result }
 {
-    let mut all = Vec::new(alloc);
+    let mut all = Vec::new(names.alloc());
     if take(cursor, b'<') {
-        add_parameters(alloc, names, cursor, &mut all)?;
-        refuse_repeated_parameters(alloc, &all)?;
+        add_parameters(names, cursor, &mut all)?;
+        refuse_repeated_parameters(names.alloc(), &all)?;
     }
     Ok(all)
 }
@@ -258,7 +243,6 @@ fn is_bounded_name(cursor: &Cursor<'_>) -> bool
 /// Reads what the next of `where` asks of the parameters.
 #[tactic(auto, unfolding(crate::specs::Generics::where_one))]
 fn read_where_one(
-    alloc: Global,
     names: &mut Names,
     cursor: &mut Cursor<'_>,
     all: &mut Vec<Parameter>,
@@ -270,7 +254,7 @@ fn read_where_one(
         let _ = pass_bounds(cursor);
         return Ok(());
     }
-    let (name, _at) = take_name(alloc, names, cursor)?;
+    let (name, _at) = take_name(names, cursor)?;
     pass(cursor, 1);
     if pass_bounds(cursor) {
         let_unsized(all, name);
@@ -281,7 +265,6 @@ fn read_where_one(
 /// Reads all that `where` asks of the parameters, behind its word.
 #[tactic(auto, unfolding(crate::specs::Generics::where_all), using(crate::proofs::GenericTurns::where_more, crate::proofs::GenericTurns::where_done))]
 fn read_where_all(
-    alloc: Global,
     names: &mut Names,
     cursor: &mut Cursor<'_>,
     all: &mut Vec<Parameter>,
@@ -291,7 +274,7 @@ fn read_where_all(
 {
     let turns = cursor.end.saturating_sub(cursor.at);
     for turn in 0..turns {
-        read_where_one(alloc, names, cursor, all)?;
+        read_where_one(names, cursor, all)?;
         if !take(cursor, b',') {
             return Ok(());
         }
@@ -302,7 +285,6 @@ fn read_where_all(
 /// Reads what `where` asks of the parameters, where it is next.
 #[tactic(auto, unfolding(crate::specs::Generics::where_read))]
 pub(crate) fn read_where(
-    alloc: Global,
     names: &mut Names,
     cursor: &mut Cursor<'_>,
     all: &mut Vec<Parameter>,
@@ -311,7 +293,7 @@ pub(crate) fn read_where(
         (where_read (map parameter_of all.old.items) cursor.old (texts names.old)) (texts names.new) result }
 {
     if take_word(cursor, Keyword::Where) {
-        read_where_all(alloc, names, cursor, all)
+        read_where_all(names, cursor, all)
     } else {
         Ok(())
     }

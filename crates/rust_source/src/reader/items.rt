@@ -29,7 +29,6 @@ use crate::reader::written::{Written, read_written};
 use crate::tokens::as_place;
 use crate::tokens::keyword::Keyword;
 use crate::tokens::token::{Bracket, TokenKind};
-use std::alloc::Global;
 
 /// An item of a module, with what its attributes say.
 fn item_in(module: u32, said: &Attributes, one: Written) -> Item
@@ -66,7 +65,6 @@ pub(crate) fn put_item(
 /// Reads what is brought in, behind `use`.
 #[tactic(auto, unfolding(crate::specs::Modules::use_read))]
 fn read_use(
-    alloc: Global,
     names: &mut Names,
     items: &mut Items,
     module: u32,
@@ -81,7 +79,7 @@ fn read_use(
         is_global: false,
     };
     let uses = &mut items.uses;
-    read_tree(alloc, names, uses, place, cursor, &[], most_nested())?;
+    read_tree(names, uses, place, cursor, &[], most_nested())?;
     expect(cursor, b';', SourceFaultKind::ExpectedSemicolon)
 }
 
@@ -167,7 +165,6 @@ fn pass_over(names: &Names, items: &mut Items, cursor: &mut Cursor<'_>) -> Resul
 /// Reads the item that is next, which makes no type and is no constant.
 #[tactic(auto, unfolding(crate::specs::Modules::other_read))]
 fn read_other(
-    alloc: Global,
     rules: &Rules<'_>,
     names: &mut Names,
     items: &mut Items,
@@ -179,16 +176,15 @@ fn read_other(
         (texts names.new, items_as_read items.new) result }
 {
     if take_word(cursor, Keyword::Use) {
-        return read_use(alloc, names, items, module, cursor);
+        return read_use(names, items, module, cursor);
     }
-    read_own_constants(alloc, rules, names, items, module, cursor)?;
+    read_own_constants(rules, names, items, module, cursor)?;
     pass_over(names, items, cursor)
 }
 
 /// Reads an item that is no module, behind its attributes and its `pub`.
 #[tactic(auto, unfolding(crate::specs::Modules::item_read))]
 fn read_item(
-    alloc: Global,
     rules: &Rules<'_>,
     names: &mut Names,
     items: &mut Items,
@@ -200,9 +196,9 @@ fn read_item(
     ensures read { Reads (λ _. cursor.new) (item_read rules.now «module» said.now cursor.old (texts names.old, items_as_read items.old))
         (texts names.new, items_as_read items.new) result }
 {
-    match read_written(alloc, names, &mut items.unknown_cfgs, rules, cursor)? {
+    match read_written(names, &mut items.unknown_cfgs, rules, cursor)? {
         Some(one) => put_item(items, module, said, one),
-        None => read_other(alloc, rules, names, items, module, cursor),
+        None => read_other(rules, names, items, module, cursor),
     }
 }
 
@@ -235,7 +231,6 @@ fn is_inline_module(cursor: &Cursor<'_>) -> bool
 /// Reads the items of the module with this number that stand in braces, which are passed over.
 #[cycle(modules)]
 fn read_braces(
-    alloc: Global,
     rules: &Rules<'_>,
     names: &mut Names,
     items: &mut Items,
@@ -249,7 +244,7 @@ fn read_braces(
         (texts names.new, items_as_read items.new) result }
 {
     match take_group(cursor, Bracket::Curly) {
-        Some(mut inside) => read_within(alloc, rules, names, items, module, &mut inside, room),
+        Some(mut inside) => read_within(rules, names, items, module, &mut inside, room),
         None => Ok(()),
     }
 }
@@ -258,7 +253,6 @@ fn read_braces(
 #[cycle(modules)]
 #[tactic(auto, unfolding(crate::specs::Modules::module_read))]
 fn read_module(
-    alloc: Global,
     rules: &Rules<'_>,
     names: &mut Names,
     items: &mut Items,
@@ -272,16 +266,15 @@ fn read_module(
         (texts names.new, items_as_read items.new) result }
 {
     pass(cursor, 1);
-    let (name, _at) = take_name(alloc, names, cursor)?;
+    let (name, _at) = take_name(names, cursor)?;
     let number = begin_module(items, name, Some(outer))?;
-    read_braces(alloc, rules, names, items, number, cursor, room)
+    read_braces(rules, names, items, number, cursor, room)
 }
 
 /// Reads what stands behind these attributes and its `pub`.
 #[cycle(modules)]
 #[tactic(auto, unfolding(crate::specs::Modules::said_read))]
 fn read_said(
-    alloc: Global,
     rules: &Rules<'_>,
     names: &mut Names,
     items: &mut Items,
@@ -300,9 +293,9 @@ fn read_said(
         return Ok(());
     }
     if is_inline_module(cursor) {
-        read_module(alloc, rules, names, items, module, cursor, room)
+        read_module(rules, names, items, module, cursor, room)
     } else {
-        read_item(alloc, rules, names, items, module, said, cursor)
+        read_item(rules, names, items, module, said, cursor)
     }
 }
 
@@ -310,7 +303,6 @@ fn read_said(
 #[cycle(modules)]
 #[tactic(auto, unfolding(crate::specs::Modules::one_read))]
 fn read_one(
-    alloc: Global,
     rules: &Rules<'_>,
     names: &mut Names,
     items: &mut Items,
@@ -323,19 +315,18 @@ fn read_one(
         (one_read rules.now (module_within rules.now room) «module» cursor.old (texts names.old, items_as_read items.old))
         (texts names.new, items_as_read items.new) result }
 {
-    let said = read_attributes(alloc, names, &mut items.unknown_cfgs, rules, cursor)?;
+    let said = read_attributes(names, &mut items.unknown_cfgs, rules, cursor)?;
     if is_done(cursor) {
         return Ok(());
     }
     pass_visibility(cursor);
-    read_said(alloc, rules, names, items, module, &said, cursor, room)
+    read_said(rules, names, items, module, &said, cursor, room)
 }
 
 /// Reads the items of the module with this number that are left.
 #[cycle(modules)]
 #[tactic(auto, unfolding(crate::specs::Modules::all_read), using(crate::proofs::ModuleTurns::all_more, crate::proofs::ModuleTurns::all_done))]
 fn read_all(
-    alloc: Global,
     rules: &Rules<'_>,
     names: &mut Names,
     items: &mut Items,
@@ -353,7 +344,7 @@ fn read_all(
         if is_done(cursor) {
             return Ok(());
         }
-        read_one(alloc, rules, names, items, module, cursor, room)?;
+        read_one(rules, names, items, module, cursor, room)?;
     }
     Ok(())
 }
@@ -362,7 +353,6 @@ fn read_all(
 #[cycle(modules)]
 #[tactic(auto, using(crate::proofs::ModuleTurns::module_less, crate::proofs::ModuleTurns::module_none))]
 fn read_within(
-    alloc: Global,
     rules: &Rules<'_>,
     names: &mut Names,
     items: &mut Items,
@@ -375,13 +365,12 @@ fn read_within(
         (texts names.new, items_as_read items.new) result }
 {
     let room = less(cursor, room)?;
-    read_all(alloc, rules, names, items, module, cursor, room)
+    read_all(rules, names, items, module, cursor, room)
 }
 
 /// Reads the items of a source, in a new root module of this name, and is that module's number.
 #[tactic(auto, unfolding(crate::specs::Modules::root_read, crate::specs::Simple::most_nested))]
 pub(crate) fn read_root(
-    alloc: Global,
     rules: &Rules<'_>,
     names: &mut Names,
     items: &mut Items,
@@ -393,6 +382,6 @@ pub(crate) fn read_root(
         (texts names.new, items_as_read items.new) result }
 {
     let root = begin_module(items, name, None)?;
-    read_all(alloc, rules, names, items, root, cursor, most_nested() + 1)?;
+    read_all(rules, names, items, root, cursor, most_nested() + 1)?;
     Ok(root)
 }

@@ -11,7 +11,6 @@ use crate::place::{Place, Symbol};
 use crate::reader::cursor::{Cursor, fault, is_cut, next_kind, nth, pass, place, text_of};
 use crate::tokens::keyword::{Keyword, keyword_of};
 use crate::tokens::token::{Token, TokenKind};
-use std::alloc::Global;
 
 /// How many bytes `r#` has.
 const RAW_MARK: usize = 2;
@@ -84,7 +83,6 @@ pub(crate) fn word_text<'a>(cursor: &Cursor<'a>) -> &'a str
 /// A name, and where it stands. It may be no keyword.
 #[tactic(auto, unfolding(crate::specs::Reading::name))]
 pub(crate) fn take_name(
-    alloc: Global,
     names: &mut Names,
     cursor: &mut Cursor<'_>,
 ) -> Result<(Symbol, Place), SourceFault>
@@ -97,7 +95,7 @@ pub(crate) fn take_name(
     let at = place(cursor);
     let text = name_text(cursor, token);
     pass(cursor, 1);
-    let name = names.add(alloc, text)?;
+    let name = names.add(text)?;
     Ok((name, at))
 }
 
@@ -135,7 +133,6 @@ pub(crate) fn is_path_name(cursor: &Cursor<'_>) -> bool
 /// A name of a path, and where it stands. It may be `crate`, `self`, `super` or `Self`.
 #[tactic(auto, unfolding(crate::specs::Reading::path_name))]
 pub(crate) fn take_path_name(
-    alloc: Global,
     names: &mut Names,
     cursor: &mut Cursor<'_>,
 ) -> Result<(Symbol, Place), SourceFault>
@@ -148,6 +145,6 @@ pub(crate) fn take_path_name(
             pass(cursor, 1);
             Ok((name, at))
         }
-        None => take_name(alloc, names, cursor),
+        None => take_name(names, cursor),
     }
 }

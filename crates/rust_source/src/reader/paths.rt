@@ -61,7 +61,6 @@ fn path_of(is_global: bool, segments: Vec<Segment>) -> Path
 #[cycle(terms)]
 #[tactic(auto, unfolding(crate::specs::Terms::path_read), using(crate::proofs::Rooms::path_more, crate::proofs::Rooms::path_done))]
 pub(crate) fn read_path(
-    alloc: Global,
     names: &mut Names,
     cursor: &mut Cursor<'_>,
     in_type: bool,
@@ -71,10 +70,10 @@ pub(crate) fn read_path(
         (path_read (readers room) in_type cursor.old (texts names.old)) (texts names.new) result }
 {
     let is_global = take_pair(cursor, b':', b':');
-    let mut segments = Vec::new(alloc);
+    let mut segments = Vec::new(names.alloc());
     let turns = cursor.end.saturating_sub(cursor.at);
     for turn in 0..turns {
-        let one = read_segment(alloc, names, cursor, in_type, room)?;
+        let one = read_segment(names, cursor, in_type, room)?;
         push_segment(&mut segments, one)?;
         if !take_pair(cursor, b':', b':') {
             return Ok(path_of(is_global, segments));
@@ -87,7 +86,6 @@ pub(crate) fn read_path(
 #[cycle(terms)]
 #[tactic(auto, unfolding(crate::specs::Terms::segment_read))]
 fn read_segment(
-    alloc: Global,
     names: &mut Names,
     cursor: &mut Cursor<'_>,
     in_type: bool,
@@ -96,8 +94,8 @@ fn read_segment(
     ensures { Reads (λ one. (segment_of one, cursor.new))
         (segment_read (readers room) in_type cursor.old (texts names.old)) (texts names.new) result }
 {
-    let (name, at) = take_path_name(alloc, names, cursor)?;
-    let arguments = read_name_arguments(alloc, names, cursor, in_type, room)?;
+    let (name, at) = take_path_name(names, cursor)?;
+    let arguments = read_name_arguments(names, cursor, in_type, room)?;
     Ok(Segment {
         name,
         at,
@@ -108,7 +106,6 @@ fn read_segment(
 /// The arguments of a name, where they are next.
 #[cycle(terms)]
 fn read_name_arguments(
-    alloc: Global,
     names: &mut Names,
     cursor: &mut Cursor<'_>,
     in_type: bool,
@@ -118,9 +115,9 @@ fn read_name_arguments(
         (arguments_by (readers room) cursor.old (arguments_begin in_type cursor.old) (texts names.old)) (texts names.new) result }
 {
     if takes_arguments(cursor, in_type) {
-        return read_arguments(alloc, names, cursor, room);
+        return read_arguments(names, cursor, room);
     }
-    Ok(Vec::new(alloc))
+    Ok(Vec::new(names.alloc()))
 }
 
 /// Whether arguments or parameters go on behind one, or end there. A `,` is passed over.
@@ -136,7 +133,6 @@ pub(crate) fn goes_on(cursor: &mut Cursor<'_>) -> bool
 #[cycle(terms)]
 #[tactic(auto, unfolding(crate::specs::Terms::arguments_read), using(crate::proofs::Rooms::arguments_more, crate::proofs::Rooms::arguments_done))]
 fn read_arguments(
-    alloc: Global,
     names: &mut Names,
     cursor: &mut Cursor<'_>,
     room: u32,
@@ -144,13 +140,13 @@ fn read_arguments(
     ensures { Reads (λ all. (map argument_of all.items, cursor.new))
         (arguments_read (readers room) cursor.old (texts names.old)) (texts names.new) result }
 {
-    let mut arguments = Vec::new(alloc);
+    let mut arguments = Vec::new(names.alloc());
     let turns = cursor.end.saturating_sub(cursor.at);
     for turn in 0..turns {
         if take(cursor, b'>') {
             return Ok(arguments);
         }
-        add_argument(alloc, names, cursor, &mut arguments, room)?;
+        add_argument(names, cursor, &mut arguments, room)?;
         if !goes_on(cursor) {
             return Err(fault(cursor, SourceFaultKind::ExpectedAngle));
         }
@@ -162,7 +158,6 @@ fn read_arguments(
 #[cycle(terms)]
 #[tactic(auto, unfolding(crate::specs::Terms::argument_more))]
 fn add_argument(
-    alloc: Global,
     names: &mut Names,
     cursor: &mut Cursor<'_>,
     arguments: &mut Vec<Argument>,
@@ -175,7 +170,7 @@ fn add_argument(
         pass(cursor, 1);
         return Ok(());
     }
-    let one = read_argument(alloc, names, cursor, room)?;
+    let one = read_argument(names, cursor, room)?;
     arguments.push(one)?;
     Ok(())
 }
@@ -217,7 +212,6 @@ fn read_constant(alloc: Global, cursor: &mut Cursor<'_>) -> Result<Argument, Sou
 #[cycle(terms)]
 #[tactic(auto, unfolding(crate::specs::Terms::argument))]
 pub(crate) fn read_argument(
-    alloc: Global,
     names: &mut Names,
     cursor: &mut Cursor<'_>,
     room: u32,
@@ -226,13 +220,13 @@ pub(crate) fn read_argument(
         (argument (readers room) cursor.old (texts names.old)) (texts names.new) result }
 {
     if let Some(mut inside) = take_group(cursor, Bracket::Curly) {
-        let value = read_whole(alloc, names, &mut inside, room)?;
+        let value = read_whole(names, &mut inside, room)?;
         return Ok(Argument::Const(value));
     }
     if begins_constant(cursor) {
-        return read_constant(alloc, cursor);
+        return read_constant(names.alloc(), cursor);
     }
     let at = place(cursor);
-    let ty = read_type(alloc, names, cursor, room)?;
+    let ty = read_type(names, cursor, room)?;
     Ok(argument_behind(cursor, ty, at))
 }

@@ -236,7 +236,6 @@ pub(crate) fn begins_path(cursor: &Cursor<'_>) -> bool
 #[cycle(terms)]
 #[tactic(auto, using(crate::proofs::Rooms::type_less, crate::proofs::Rooms::type_none))]
 pub(crate) fn read_type(
-    alloc: Global,
     names: &mut Names,
     cursor: &mut Cursor<'_>,
     room: u32,
@@ -245,49 +244,39 @@ pub(crate) fn read_type(
         (texts names.new) result }
 {
     let room = less(cursor, room)?;
-    read_pointed(alloc, names, cursor, room)
+    read_pointed(names, cursor, room)
 }
 
 /// A type with the `&` and `*` before it.
 #[cycle(terms)]
 #[tactic(auto, unfolding(crate::specs::Terms::type_next))]
-fn read_pointed(
-    alloc: Global,
-    names: &mut Names,
-    cursor: &mut Cursor<'_>,
-    room: u32,
-) -> Result<Type, SourceFault>
+fn read_pointed(names: &mut Names, cursor: &mut Cursor<'_>, room: u32) -> Result<Type, SourceFault>
     ensures { Reads (λ ty. (type_of ty, cursor.new))
         (type_next (readers room) cursor.old (texts names.old)) (texts names.new) result }
 {
-    let pointing = take_all_pointing(alloc, cursor)?;
-    let target = read_target(alloc, names, cursor, room)?;
-    pointed(alloc, target, pointing)
+    let pointing = take_all_pointing(names.alloc(), cursor)?;
+    let target = read_target(names, cursor, room)?;
+    pointed(names.alloc(), target, pointing)
 }
 
 /// A type that no `&` or `*` stands before.
 #[cycle(terms)]
 #[tactic(auto, unfolding(crate::specs::Terms::pointee_read))]
-fn read_target(
-    alloc: Global,
-    names: &mut Names,
-    cursor: &mut Cursor<'_>,
-    room: u32,
-) -> Result<Type, SourceFault>
+fn read_target(names: &mut Names, cursor: &mut Cursor<'_>, room: u32) -> Result<Type, SourceFault>
     ensures { Reads (λ ty. (type_of ty, cursor.new))
         (pointee_read (readers room) cursor.old (texts names.old)) (texts names.new) result }
 {
     if let Some(mut inside) = take_group(cursor, Bracket::Round) {
-        return read_tuple(alloc, names, &mut inside, room);
+        return read_tuple(names, &mut inside, room);
     }
     if let Some(mut inside) = take_group(cursor, Bracket::Square) {
-        return read_list(alloc, names, &mut inside, room);
+        return read_list(names, &mut inside, room);
     }
     if !begins_path(cursor) {
         return take_simple(cursor);
     }
     let at = place(cursor);
-    let path = read_path(alloc, names, cursor, true, room)?;
+    let path = read_path(names, cursor, true, room)?;
     Ok(after_path(cursor, path, at))
 }
 
@@ -319,22 +308,17 @@ fn push_type(all: &mut Vec<Type>, one: Type) -> Result<(), SourceFault>
 /// The type that stands in parentheses.
 #[cycle(terms)]
 #[tactic(auto, unfolding(crate::specs::Terms::tuple_read), using(crate::proofs::Rooms::tuple_more, crate::proofs::Rooms::tuple_done))]
-fn read_tuple(
-    alloc: Global,
-    names: &mut Names,
-    inside: &mut Cursor<'_>,
-    room: u32,
-) -> Result<Type, SourceFault>
+fn read_tuple(names: &mut Names, inside: &mut Cursor<'_>, room: u32) -> Result<Type, SourceFault>
     ensures { Reads type_of (tuple_read (readers room) inside.old (texts names.old))
         (texts names.new) result }
 {
-    let mut all = Vec::new(alloc);
+    let mut all = Vec::new(names.alloc());
     let turns = inside.end.saturating_sub(inside.at);
     for turn in 0..turns {
         if is_done(inside) {
             return Ok(tuple(all));
         }
-        let one = read_type(alloc, names, inside, room)?;
+        let one = read_type(names, inside, room)?;
         if is_alone(&all, inside) {
             return Ok(one);
         }
@@ -347,20 +331,15 @@ fn read_tuple(
 /// The array's or the slice's type that stands in square brackets.
 #[cycle(terms)]
 #[tactic(auto, unfolding(crate::specs::Terms::list_read))]
-fn read_list(
-    alloc: Global,
-    names: &mut Names,
-    inside: &mut Cursor<'_>,
-    room: u32,
-) -> Result<Type, SourceFault>
+fn read_list(names: &mut Names, inside: &mut Cursor<'_>, room: u32) -> Result<Type, SourceFault>
     ensures { Reads type_of (list_read (readers room) inside.old (texts names.old))
         (texts names.new) result }
 {
-    let element = Box::new(alloc, read_type(alloc, names, inside, room)?)?;
+    let element = Box::new(names.alloc(), read_type(names, inside, room)?)?;
     if is_done(inside) {
         return Ok(Type::Slice(element));
     }
     expect(inside, b';', SourceFaultKind::ExpectedSemicolon)?;
-    let count = Box::new(alloc, read_whole(alloc, names, inside, room)?)?;
+    let count = Box::new(names.alloc(), read_whole(names, inside, room)?)?;
     Ok(Type::Array(element, count))
 }

@@ -19,7 +19,6 @@ use crate::reader::naming::{is_path_name, take_name, take_path_name};
 use crate::reader::room::less;
 use crate::tokens::keyword::Keyword;
 use crate::tokens::token::Bracket;
-use std::alloc::Global;
 
 /// Where a `use` stands, and whether its path begins with `::`.
 #[derive(Clone, Copy)]
@@ -31,7 +30,6 @@ pub(crate) struct UsePlace {
 /// The name that a path is brought in as: what `as` says, or its last name.
 #[tactic(auto, unfolding(crate::specs::Uses::rename_read))]
 fn read_rename(
-    alloc: Global,
     names: &mut Names,
     cursor: &mut Cursor<'_>,
     last: Option<Symbol>,
@@ -45,7 +43,7 @@ fn read_rename(
     if take_word(cursor, Keyword::Underscore) {
         return Ok(None);
     }
-    let (name, _at) = take_name(alloc, names, cursor)?;
+    let (name, _at) = take_name(names, cursor)?;
     Ok(Some(name))
 }
 
@@ -93,7 +91,6 @@ fn put_use(uses: &mut Vec<Use>, one: Use) -> Result<(), SourceFault>
 /// Puts a path of a `use`, behind its last name, into the uses.
 #[tactic(auto, unfolding(crate::specs::Uses::path_used))]
 fn put_path(
-    alloc: Global,
     names: &mut Names,
     uses: &mut Vec<Use>,
     place: UsePlace,
@@ -109,7 +106,7 @@ fn put_path(
     let Some(last) = last_name(&path) else {
         return Err(fault(cursor, SourceFaultKind::ExpectedUse));
     };
-    let name = read_rename(alloc, names, cursor, Some(last.name))?;
+    let name = read_rename(names, cursor, Some(last.name))?;
     let one = Use {
         module: place.module,
         is_global: place.is_global,
@@ -137,7 +134,6 @@ fn glob(place: UsePlace, path: Vec<UsedName>) -> Use
 /// it is all read.
 #[tactic(auto, unfolding(crate::specs::Uses::names_read), using(crate::proofs::UseTurns::names_more, crate::proofs::UseTurns::names_done))]
 fn read_names(
-    alloc: Global,
     names: &mut Names,
     cursor: &mut Cursor<'_>,
     path: &mut Vec<UsedName>,
@@ -150,7 +146,7 @@ fn read_names(
         if !is_path_name(cursor) {
             return Ok(false);
         }
-        let (name, at) = take_path_name(alloc, names, cursor)?;
+        let (name, at) = take_path_name(names, cursor)?;
         path.push(UsedName { name, at })?;
         if !take_pair(cursor, b':', b':') {
             return Ok(true);
@@ -183,7 +179,6 @@ fn placed(place: UsePlace, is_global: bool) -> UsePlace
 #[cycle(uses)]
 #[tactic(auto, unfolding(crate::specs::Uses::group_read), using(crate::proofs::UseTurns::group_more, crate::proofs::UseTurns::group_done))]
 fn read_group(
-    alloc: Global,
     names: &mut Names,
     uses: &mut Vec<Use>,
     place: UsePlace,
@@ -201,7 +196,7 @@ fn read_group(
         if is_done(inside) {
             return Ok(());
         }
-        read_tree(alloc, names, uses, place, inside, path, room)?;
+        read_tree(names, uses, place, inside, path, room)?;
         expect_comma(inside)?;
     }
     Ok(())
@@ -210,7 +205,6 @@ fn read_group(
 /// Reads what stands behind the names of a path: nothing, where it is whole, a `*` or a group.
 #[cycle(uses)]
 fn read_behind(
-    alloc: Global,
     names: &mut Names,
     uses: &mut Vec<Use>,
     place: UsePlace,
@@ -225,7 +219,7 @@ fn read_behind(
         (texts names.new, map use_of uses.new.items) result }
 {
     if is_whole {
-        return put_path(alloc, names, uses, place, cursor, path);
+        return put_path(names, uses, place, cursor, path);
     }
     if take(cursor, b'*') {
         return put_use(uses, glob(place, path));
@@ -233,14 +227,13 @@ fn read_behind(
     let Some(mut inside) = take_group(cursor, Bracket::Curly) else {
         return Err(fault(cursor, SourceFaultKind::ExpectedUse));
     };
-    read_group(alloc, names, uses, place, &mut inside, &path, room)
+    read_group(names, uses, place, &mut inside, &path, room)
 }
 
 /// Reads what a `use` brings in, behind the names that stand before its group, within the room that is left.
 #[cycle(uses)]
 #[tactic(auto, unfolding(crate::specs::Uses::tree_with))]
 fn read_within(
-    alloc: Global,
     names: &mut Names,
     uses: &mut Vec<Use>,
     place: UsePlace,
@@ -254,16 +247,15 @@ fn read_within(
         (texts names.new, map use_of uses.new.items) result }
 {
     let place = placed(place, takes_global(cursor, before));
-    let mut path = Vec::from_slice(alloc, before)?;
-    let is_whole = read_names(alloc, names, cursor, &mut path)?;
-    read_behind(alloc, names, uses, place, cursor, path, is_whole, room)
+    let mut path = Vec::from_slice(names.alloc(), before)?;
+    let is_whole = read_names(names, cursor, &mut path)?;
+    read_behind(names, uses, place, cursor, path, is_whole, room)
 }
 
 /// Reads what a `use` brings in, behind the names that stand before its group.
 #[cycle(uses)]
 #[tactic(auto, using(crate::proofs::UseTurns::tree_less, crate::proofs::UseTurns::tree_none))]
 pub(crate) fn read_tree(
-    alloc: Global,
     names: &mut Names,
     uses: &mut Vec<Use>,
     place: UsePlace,
@@ -276,5 +268,5 @@ pub(crate) fn read_tree(
         (texts names.new, map use_of uses.new.items) result }
 {
     let room = less(cursor, room)?;
-    read_within(alloc, names, uses, place, cursor, before, room)
+    read_within(names, uses, place, cursor, before, room)
 }

@@ -23,7 +23,6 @@ use crate::reader::room::most_nested;
 use crate::reader::types::read_type;
 use crate::tokens::keyword::Keyword;
 use crate::tokens::token::Bracket;
-use std::alloc::Global;
 
 /// The name of an item, where it stands, and its parameters.
 #[derive(Drop)]
@@ -42,12 +41,12 @@ pub(crate) struct Written {
 
 /// An item's name and parameters.
 #[tactic(auto, unfolding(crate::specs::Written::head_read))]
-fn read_head(alloc: Global, names: &mut Names, cursor: &mut Cursor<'_>) -> Result<Head, SourceFault>
+fn read_head(names: &mut Names, cursor: &mut Cursor<'_>) -> Result<Head, SourceFault>
     ensures { Reads (λ head. (head_of head, cursor.new)) (head_read cursor.old (texts names.old))
         (texts names.new) result }
 {
-    let (name, at) = take_name(alloc, names, cursor)?;
-    let parameters = read_parameters(alloc, names, cursor)?;
+    let (name, at) = take_name(names, cursor)?;
+    let parameters = read_parameters(names, cursor)?;
     Ok(Head {
         name,
         at,
@@ -57,51 +56,36 @@ fn read_head(alloc: Global, names: &mut Names, cursor: &mut Cursor<'_>) -> Resul
 
 /// Reads what `where` asks of an item's parameters, where it is next.
 #[tactic(auto, unfolding(crate::specs::Written::where_asked))]
-fn ask_where(
-    alloc: Global,
-    names: &mut Names,
-    cursor: &mut Cursor<'_>,
-    head: &mut Head,
-) -> Result<(), SourceFault>
+fn ask_where(names: &mut Names, cursor: &mut Cursor<'_>, head: &mut Head) -> Result<(), SourceFault>
     ensures { Reads (λ _. (head_of head.new, cursor.new))
         (where_asked (head_of head.old) cursor.old (texts names.old)) (texts names.new) result }
 {
-    read_where(alloc, names, cursor, &mut head.parameters)
+    read_where(names, cursor, &mut head.parameters)
 }
 
 /// An item's name and parameters, with what `where` asks of them.
 #[tactic(auto, unfolding(crate::specs::Written::head_where))]
-fn read_head_where(
-    alloc: Global,
-    names: &mut Names,
-    cursor: &mut Cursor<'_>,
-) -> Result<Head, SourceFault>
+fn read_head_where(names: &mut Names, cursor: &mut Cursor<'_>) -> Result<Head, SourceFault>
     ensures { Reads (λ head. (head_of head, cursor.new)) (head_where cursor.old (texts names.old))
         (texts names.new) result }
 {
-    let mut head = read_head(alloc, names, cursor)?;
-    ask_where(alloc, names, cursor, &mut head)?;
+    let mut head = read_head(names, cursor)?;
+    ask_where(names, cursor, &mut head)?;
     Ok(head)
 }
 
 /// Reads what `where` asks behind an item, and its `;`.
 #[tactic(auto, unfolding(crate::specs::Written::tail_read))]
-fn read_tail(
-    alloc: Global,
-    names: &mut Names,
-    cursor: &mut Cursor<'_>,
-    head: &mut Head,
-) -> Result<(), SourceFault>
+fn read_tail(names: &mut Names, cursor: &mut Cursor<'_>, head: &mut Head) -> Result<(), SourceFault>
     ensures { Reads (λ _. (head_of head.new, cursor.new))
         (tail_read (head_of head.old) cursor.old (texts names.old)) (texts names.new) result }
 {
-    ask_where(alloc, names, cursor, head)?;
+    ask_where(names, cursor, head)?;
     expect(cursor, b';', SourceFaultKind::ExpectedSemicolon)
 }
 
 /// Reads what stands behind a struct's fields: nothing where they stood in braces.
 fn read_struct_tail(
-    alloc: Global,
     names: &mut Names,
     cursor: &mut Cursor<'_>,
     has_braces: bool,
@@ -113,14 +97,13 @@ fn read_struct_tail(
     if has_braces {
         Ok(())
     } else {
-        read_tail(alloc, names, cursor, head)
+        read_tail(names, cursor, head)
     }
 }
 
 /// A struct, behind its `struct`.
 #[tactic(auto, unfolding(crate::specs::Written::struct_read))]
 fn read_struct(
-    alloc: Global,
     names: &mut Names,
     unknown: &mut Vec<Symbol>,
     rules: &Rules<'_>,
@@ -129,10 +112,10 @@ fn read_struct(
     ensures { Reads (λ one. (written_of one, cursor.new)) (struct_read rules.now cursor.old (texts names.old, unknown.old.items))
         (texts names.new, unknown.new.items) result }
 {
-    let mut head = read_head_where(alloc, names, cursor)?;
+    let mut head = read_head_where(names, cursor)?;
     let has_braces = is_group(cursor, Bracket::Curly);
-    let fields = read_fields(alloc, names, unknown, rules, cursor)?;
-    read_struct_tail(alloc, names, cursor, has_braces, &mut head)?;
+    let fields = read_fields(names, unknown, rules, cursor)?;
+    read_struct_tail(names, cursor, has_braces, &mut head)?;
     let kind = ItemKind::Struct(fields);
     Ok(Written { head, kind })
 }
@@ -140,7 +123,6 @@ fn read_struct(
 /// A union, behind its `union`.
 #[tactic(auto, unfolding(crate::specs::Written::union_read))]
 fn read_union(
-    alloc: Global,
     names: &mut Names,
     unknown: &mut Vec<Symbol>,
     rules: &Rules<'_>,
@@ -149,11 +131,11 @@ fn read_union(
     ensures { Reads (λ one. (written_of one, cursor.new)) (union_read rules.now cursor.old (texts names.old, unknown.old.items))
         (texts names.new, unknown.new.items) result }
 {
-    let head = read_head_where(alloc, names, cursor)?;
+    let head = read_head_where(names, cursor)?;
     if !is_group(cursor, Bracket::Curly) {
         return Err(fault(cursor, SourceFaultKind::ExpectedFields));
     }
-    let fields = read_fields(alloc, names, unknown, rules, cursor)?;
+    let fields = read_fields(names, unknown, rules, cursor)?;
     let kind = ItemKind::Union(fields);
     Ok(Written { head, kind })
 }
@@ -161,7 +143,6 @@ fn read_union(
 /// An enum, behind its `enum`.
 #[tactic(auto, unfolding(crate::specs::Written::enum_read))]
 fn read_enum(
-    alloc: Global,
     names: &mut Names,
     unknown: &mut Vec<Symbol>,
     rules: &Rules<'_>,
@@ -170,45 +151,37 @@ fn read_enum(
     ensures { Reads (λ one. (written_of one, cursor.new)) (enum_read rules.now cursor.old (texts names.old, unknown.old.items))
         (texts names.new, unknown.new.items) result }
 {
-    let head = read_head_where(alloc, names, cursor)?;
+    let head = read_head_where(names, cursor)?;
     let Some(mut inside) = take_group(cursor, Bracket::Curly) else {
         return Err(fault(cursor, SourceFaultKind::ExpectedFields));
     };
-    let variants = read_variants(alloc, names, unknown, rules, &mut inside)?;
+    let variants = read_variants(names, unknown, rules, &mut inside)?;
     let kind = ItemKind::Enum(variants);
     Ok(Written { head, kind })
 }
 
 /// The name and the parameters of another name of a type, up to its `=`.
 #[tactic(auto, unfolding(crate::specs::Written::alias_head))]
-fn read_alias_head(
-    alloc: Global,
-    names: &mut Names,
-    cursor: &mut Cursor<'_>,
-) -> Result<Head, SourceFault>
+fn read_alias_head(names: &mut Names, cursor: &mut Cursor<'_>) -> Result<Head, SourceFault>
     ensures { Reads (λ head. (head_of head, cursor.new)) (alias_head cursor.old (texts names.old))
         (texts names.new) result }
 {
-    let mut head = read_head(alloc, names, cursor)?;
+    let mut head = read_head(names, cursor)?;
     let _ = pass_asked(cursor);
-    ask_where(alloc, names, cursor, &mut head)?;
+    ask_where(names, cursor, &mut head)?;
     expect(cursor, b'=', SourceFaultKind::ExpectedEquals)?;
     Ok(head)
 }
 
 /// Another name of a type, behind its `type`.
 #[tactic(auto, unfolding(crate::specs::Written::alias_read))]
-fn read_alias(
-    alloc: Global,
-    names: &mut Names,
-    cursor: &mut Cursor<'_>,
-) -> Result<Written, SourceFault>
+fn read_alias(names: &mut Names, cursor: &mut Cursor<'_>) -> Result<Written, SourceFault>
     ensures { Reads (λ one. (written_of one, cursor.new)) (alias_read cursor.old (texts names.old))
         (texts names.new) result }
 {
-    let mut head = read_alias_head(alloc, names, cursor)?;
-    let ty = read_type(alloc, names, cursor, most_nested())?;
-    read_tail(alloc, names, cursor, &mut head)?;
+    let mut head = read_alias_head(names, cursor)?;
+    let ty = read_type(names, cursor, most_nested())?;
+    read_tail(names, cursor, &mut head)?;
     let kind = ItemKind::Alias(ty);
     Ok(Written { head, kind })
 }
@@ -216,7 +189,6 @@ fn read_alias(
 /// A constant's type and value, up to its `;`; `owner` is the type whose own it is.
 #[tactic(auto, unfolding(crate::specs::Written::const_typed))]
 fn read_const_typed(
-    alloc: Global,
     names: &mut Names,
     cursor: &mut Cursor<'_>,
     owner: Option<u32>,
@@ -224,8 +196,8 @@ fn read_const_typed(
     ensures { Reads (λ one. (constant_of one, cursor.new))
         (const_typed owner cursor.old (texts names.old)) (texts names.new) result }
 {
-    let ty = read_type(alloc, names, cursor, most_nested())?;
-    let value = read_value(alloc, names, cursor, b';')?;
+    let ty = read_type(names, cursor, most_nested())?;
+    let value = read_value(names, cursor, b';')?;
     expect(cursor, b';', SourceFaultKind::ExpectedSemicolon)?;
     Ok(Const { ty, value, owner })
 }
@@ -233,7 +205,6 @@ fn read_const_typed(
 /// A constant, behind its `const`; `owner` is the type whose own it is.
 #[tactic(auto, unfolding(crate::specs::Written::const_read))]
 pub(crate) fn read_const(
-    alloc: Global,
     names: &mut Names,
     cursor: &mut Cursor<'_>,
     owner: Option<u32>,
@@ -241,9 +212,9 @@ pub(crate) fn read_const(
     ensures { Reads (λ one. (written_of one, cursor.new))
         (const_read owner cursor.old (texts names.old)) (texts names.new) result }
 {
-    let head = read_head(alloc, names, cursor)?;
+    let head = read_head(names, cursor)?;
     expect(cursor, b':', SourceFaultKind::ExpectedColon)?;
-    let kind = ItemKind::Const(read_const_typed(alloc, names, cursor, owner)?);
+    let kind = ItemKind::Const(read_const_typed(names, cursor, owner)?);
     Ok(Written { head, kind })
 }
 
@@ -265,7 +236,6 @@ pub(crate) fn is_constant(cursor: &Cursor<'_>) -> bool
 /// The item that is next, where it makes a type or is a constant; none where it doesn't.
 #[tactic(auto, unfolding(crate::specs::Written::written_read))]
 pub(crate) fn read_written(
-    alloc: Global,
     names: &mut Names,
     unknown: &mut Vec<Symbol>,
     rules: &Rules<'_>,
@@ -275,17 +245,17 @@ pub(crate) fn read_written(
         (texts names.new, unknown.new.items) result }
 {
     let one = if take_word(cursor, Keyword::Struct) {
-        read_struct(alloc, names, unknown, rules, cursor)?
+        read_struct(names, unknown, rules, cursor)?
     } else if take_word(cursor, Keyword::Enum) {
-        read_enum(alloc, names, unknown, rules, cursor)?
+        read_enum(names, unknown, rules, cursor)?
     } else if take_word(cursor, Keyword::Type) {
-        read_alias(alloc, names, cursor)?
+        read_alias(names, cursor)?
     } else if is_union(cursor) {
         pass(cursor, 1);
-        read_union(alloc, names, unknown, rules, cursor)?
+        read_union(names, unknown, rules, cursor)?
     } else if is_constant(cursor) {
         pass(cursor, 1);
-        read_const(alloc, names, cursor, None)?
+        read_const(names, cursor, None)?
     } else {
         return Ok(None);
     };

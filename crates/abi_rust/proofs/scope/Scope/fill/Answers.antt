@@ -3,7 +3,7 @@ use Rattle.std.proofs.Common.{◌≡◌, ◌⊎◌, Some, inr, refl}
 use Rattle.abi_rust.specs.declared.fault.Stop.{Stop}
 use Rattle.abi_rust.specs.ScopeNames.{repeated_of}
 use Rattle.abi_rust.specs.Standing.{IsMemory}
-use Rattle.abi_rust.proofs.ScopeLemmas.{keeps_own, keeps_same, passed_on}
+use Rattle.abi_rust.proofs.ScopeLemmas.{keeps_globs, keeps_own, keeps_same, passed_on}
 use Rattle.abi_rust.proofs.scope.Scope.fill.Goals as goal
 
 pub returns-in_err-declare-clause-err : goal.returns-in_err-declare-clause-err
@@ -27,3 +27,8 @@ pub returns-clause-own : goal.returns-clause-own
 returns-clause-own c =
     let known = record c.follow_globs.new.self { owners = c.add_own_constants.new.owners; own_constants = c.add_own_constants.new.own } in
     keeps_own c.args.items.now c.follow_globs.new.self known c.in_ok-add_own_constants.ensures.own c.in_ok-add_own_constants.ensures.owners
+
+pub returns-clause-globs : goal.returns-clause-globs
+returns-clause-globs c =
+    let known = record c.follow_globs.new.self { owners = c.add_own_constants.new.owners; own_constants = c.add_own_constants.new.own } in
+    keeps_globs c.args.items.now c.follow_globs.new.self known c.in_ok-follow_globs.ensures.globs

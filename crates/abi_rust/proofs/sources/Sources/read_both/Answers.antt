@@ -30,6 +30,7 @@ returns-clause-ok c =
       scope = c.in_ok-new.field-0;
       kept = refl;
       names = c.in_ok-new.ensures.names;
+      globs = c.in_ok-new.ensures.globs;
       own = c.in_ok-new.ensures.own;
       words = search rules;
       root = search rules;
