@@ -1,5 +1,6 @@
 pub mod Aligned
 pub mod Evaluating
+pub mod FaultTexts
 pub mod Globs
 pub mod Int
 pub mod Kinds

@@ -1,5 +1,9 @@
 //! What a user reads of a fault.
 
+ghost use Rattle.std.specs.Prelude.{◌≡◌, ◌++◌, IfOk, Some, string_bytes};
+ghost use Rattle.std.specs.Option.{option_map};
+ghost use Rattle.abi_rust.specs.FaultTexts.{GoesOn, TellsName, in_quotes, name_of_fault};
+
 use crate::fault::{Fault, FaultKind};
 use crate::sources::Sources;
 use rust_source::{IntegerKind, ItemKind, Symbol, Unevaluated};
@@ -9,57 +13,73 @@ use strsim::levenshtein;
 
 impl Fault {
     /// Writes what is wrong, in lower case and without a full stop, with the nearest name that is known where a name
-    /// isn't.
+    /// isn't. An error comes where a growth of memory was refused.
     pub fn write_text(
         &self,
         alloc: Global,
         out: &mut String,
         sources: &Sources,
-    ) -> Result<(), AllocError> {
-        match self.kind {
-            FaultKind::Source(kind) => out.push_str(kind.text()),
-            FaultKind::Layout(error) => write!(out, "{error}"),
-            FaultKind::RepeatedType(name) => quoted(out, "two types are called ", sources, name),
-            FaultKind::RepeatedConstant(name) => {
-                quoted(out, "two constants are called ", sources, name)
-            }
-            FaultKind::UnknownType(name) => {
-                quoted(out, "no type is called ", sources, name)?;
-                suggest(alloc, out, sources, name, true)
-            }
-            FaultKind::UnknownConstant(name) => {
-                quoted(out, "no constant is called ", sources, name)?;
-                suggest(alloc, out, sources, name, false)
-            }
-            FaultKind::NotAType(name) => quoted(
-                out,
-                "no type, but something else is called ",
-                sources,
-                name,
-            ),
-            FaultKind::WrongArguments(name) => {
-                quoted(
-                    out,
-                    "another number of arguments than the parameters of ",
-                    sources,
-                    name,
-                )
-            }
-            FaultKind::Recursive(name) => {
-                quoted(
-                    out,
-                    "without a pointer a type contains itself: ",
-                    sources,
-                    name,
-                )
-            }
-            FaultKind::Overflow(kind) => {
-                out.push_str("a value doesn't fit ")?;
-                out.push_str(integer_name(kind))
-            }
-            FaultKind::Unevaluated(what) => out.push_str(unevaluated_text(what)),
-            kind => out.push_str(plain_text(kind)),
+    ) -> Result<(), AllocError>
+        ensures named { IfOk result (λ _. (name : Symbol) → name_of_fault self.now.kind ≡ Some name →
+            TellsName sources.now.names name (string_bytes out.old) (string_bytes out.new)) }
+    {
+        match said_of_name(self.kind) {
+            Some((text, name)) => write_named(alloc, out, sources, self.kind, text, name),
+            None => write_plain(out, self.kind),
         }
+    }
+}
+
+/// What is said of the name that a fault is about, before the name. None where it is about none.
+fn said_of_name(kind: FaultKind) -> Option<(&'static str, Symbol)>
+    ensures { option_map (λ said. said.1) result ≡ name_of_fault kind }
+{
+    match kind {
+        FaultKind::RepeatedType(name) => Some(("two types are called ", name)),
+        FaultKind::RepeatedConstant(name) => Some(("two constants are called ", name)),
+        FaultKind::UnknownType(name) => Some(("no type is called ", name)),
+        FaultKind::UnknownConstant(name) => Some(("no constant is called ", name)),
+        FaultKind::NotAType(name) => Some(("no type, but something else is called ", name)),
+        FaultKind::WrongArguments(name) => Some((
+            "another number of arguments than the parameters of ",
+            name,
+        )),
+        FaultKind::Recursive(name) => Some(("without a pointer a type contains itself: ", name)),
+        _ => None,
+    }
+}
+
+/// Writes what is wrong about a name.
+fn write_named(
+    alloc: Global,
+    out: &mut String,
+    sources: &Sources,
+    kind: FaultKind,
+    text: &str,
+    name: Symbol,
+) -> Result<(), AllocError>
+    ensures { IfOk result (λ _.
+        TellsName sources.now.names name (string_bytes out.old) (string_bytes out.new)) }
+{
+    quoted(out, text, sources, name)?;
+    match kind {
+        FaultKind::UnknownType(_) => suggest(alloc, out, sources, name, true),
+        FaultKind::UnknownConstant(_) => suggest(alloc, out, sources, name, false),
+        _ => Ok(()),
+    }
+}
+
+/// Writes what is wrong, but about no name.
+fn write_plain(out: &mut String, kind: FaultKind) -> Result<(), AllocError> {
+    match kind {
+        FaultKind::Source(kind) => out.push_str(kind.text()),
+        FaultKind::Layout(error) => write!(out, "{error}"),
+        FaultKind::Overflow(kind) => {
+            out.push_str("a value doesn't fit ")?;
+            out.push_str(integer_name(kind))
+        }
+        FaultKind::Unevaluated(what) => out.push_str(unevaluated_text(what)),
+        kind => out.push_str(plain_text(kind)),
     }
 }
 
@@ -124,7 +144,10 @@ fn integer_name(kind: IntegerKind) -> &'static str {
 }
 
 /// Writes a text and a name in quotes.
-fn quoted(out: &mut String, text: &str, sources: &Sources, name: Symbol) -> Result<(), AllocError> {
+fn quoted(out: &mut String, text: &str, sources: &Sources, name: Symbol) -> Result<(), AllocError>
+    ensures { IfOk result (λ _. string_bytes out.new
+        ≡ string_bytes out.old ++ text.now ++ in_quotes sources.now.names name) }
+{
     out.push_str(text)?;
     out.push_str("`")?;
     out.push_str(sources.names().text(name))?;
@@ -138,7 +161,9 @@ fn suggest(
     sources: &Sources,
     name: Symbol,
     is_type: bool,
-) -> Result<(), AllocError> {
+) -> Result<(), AllocError>
+    ensures { IfOk result (λ _. GoesOn (string_bytes out.old) (string_bytes out.new)) }
+{
     match nearest(alloc, sources, name, is_type)? {
         Some(found) => {
             quoted(out, "; did you mean ", sources, found)?;
