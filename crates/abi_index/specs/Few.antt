@@ -1,5 +1,5 @@
 -- Lists that keep up to two items in themselves.
-use Rattle.std.specs.Prelude.{◌≡◌, ℕ, ◌*◌, ◌^◌, ◌<◌, List, [], ◌∷◌, length}
+use Rattle.std.specs.Prelude.{◌≡◌, ℕ, ◌*◌, ◌^◌, ◌<◌, ◌≤◌, List, [], ◌∷◌, ◌++◌, length, Result, IsOk, OnOk, OnErr}
 use Rattle.std.specs.Borrow.{RattleType, Array}
 use Rattle.std.specs.Mem.{FitsInMemory}
 use Rattle.abi_index.specs.declared.few.Front.{Front}
@@ -26,3 +26,14 @@ module _ {T : Type 0} where
   IsAlone bytes Empty rest = Unit {0}
   IsAlone bytes (One item) rest = (2 * bytes < 2 ^ 63) × (length rest ≡ 0)
   IsAlone bytes (Two pair) rest = (2 * bytes < 2 ^ 63) × (length rest ≡ 0)
+
+-- What putting an item last does to a list of such items.
+pub record IsPush {T A E : Type 0} (R : RattleType) (item : T) (old new : Kept T) (result : Result A E) : Type 0 where
+  pub ok : OnOk result (new.items ≡ old.items ++ item ∷ [])
+  -- where growth is refused, the list is as it was
+  pub err : OnErr result (new ≡ old)
+  -- a list that then has at most two items asks for no memory
+  pub inline : TwoFit R → length old.items < 2 → IsOk result × (new.room ≡ old.room)
+  -- nor does one that has room for the item
+  pub reserved : length old.items < old.room → IsOk result
+  pub kept : old.room ≤ new.room

@@ -2,7 +2,7 @@
 
 ghost use Rattle.std.specs.Prelude.{◌≡◌, ℕ, ◌≤◌, ◌<◌, ◌-◌, ◌↔◌, [], ◌∷◌, ◌++◌, length, IsTrue, IsOk, IfOk, IfErr, OnOk, OnErr, nat_le, if◌then◌else◌, option_to_list, slice_set, vec_capacity};
 ghost use Rattle.std.specs.Mem.{type_size};
-ghost use Rattle.abi_index.specs.Few.{TwoFit, few_items};
+ghost use Rattle.abi_index.specs.Few.{IsPush, TwoFit, few_items};
 
 use crate::pair::{Pair, both};
 use std::alloc::{AllocError, Global};
@@ -196,24 +196,16 @@ impl<T> Few<T> {
         }
     }
 
-    /// Puts an item last, as `push` does.
+    /// Puts an item last, as `push` does, and for all lists.
     #[inline(never)]
     fn push_any(&mut self, item: T) -> Result<(), AllocError>
     where
         T: Drop,
-        ensures ok { OnOk result (self.new.items ≡ self.old.items ++ item ∷ []) }
-        ensures err { OnErr result (self.new ≡ self.old) }
-        ensures inline { TwoFit T.row → length self.old.items < 2 →
-            IsOk result × (self.new.room ≡ self.old.room) }
-        ensures reserved { length self.old.items < self.old.room → IsOk result }
-        ensures kept { self.old.room ≤ self.new.room }
+        ensures { IsPush T.row item self.old self.new result }
     {
-        if self.rest.len() >= 2 {
-            return push_allocated(&mut self.rest, item);
-        }
         match mem::replace(&mut self.front, Front::Empty) {
             Front::Empty => {
-                if !two_fit(&item) {
+                if self.rest.len() >= 2 || !two_fit(&item) {
                     return push_allocated(&mut self.rest, item);
                 }
                 let first = self.rest.pop();
@@ -236,12 +228,7 @@ impl<T> Few<T> {
     pub(crate) fn push(&mut self, item: T) -> Result<(), AllocError>
     where
         T: Drop,
-        ensures ok { OnOk result (self.new.items ≡ self.old.items ++ item ∷ []) }
-        ensures err { OnErr result (self.new ≡ self.old) }
-        ensures inline { TwoFit T.row → length self.old.items < 2 →
-            IsOk result × (self.new.room ≡ self.old.room) }
-        ensures reserved { length self.old.items < self.old.room → IsOk result }
-        ensures kept { self.old.room ≤ self.new.room }
+        ensures { IsPush T.row item self.old self.new result }
     {
         // (a long list is the common case where this is called from loops)
         if self.rest.len() >= 2 {
