@@ -2,8 +2,9 @@
 
 ghost use Rattle.std.specs.Prelude.{◌≡◌, [], ◌∷◌};
 
-/// Two items side by side, which are lent as one slice.
+/// Two items side by side, in this order, which are lent as one slice.
 #[derive(Drop)]
+#[repr(C)]
 pub struct Pair<T> {
     pub first: T,
     pub second: T,
@@ -13,6 +14,7 @@ pub struct Pair<T> {
 pub(crate) fn both<T>(pair: &Pair<T>) -> &[T; 2]
     ensures { result.now ≡ pair.now.first ∷ pair.now.second ∷ [] }
 {
-    // The second lies right behind the first, since a size is a multiple of the alignment.
+    // The second lies right behind the first: `repr(C)` keeps the order of fields, and a size is a multiple of the
+    // alignment.
     unsafe { &*(pair as *const Pair<T> as *const [T; 2]) }
 }
