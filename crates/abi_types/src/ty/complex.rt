@@ -57,11 +57,7 @@ impl<'a, Ty> TyAndLayout<'a, Ty> {
         requires { Ty.is_valid self.now }
         ensures { result ≡ complex_number (Ty.typed_of self.now) }
     {
-        walk_complex(At {
-            ty: self.ty,
-            layout: self.layout,
-            cx,
-        })
+        walk_complex(At::new(self, cx))
     }
 
     /// Whether it is passed as a complex number of C is.

@@ -88,11 +88,7 @@ impl<'a, Ty> TyAndLayout<'a, Ty> {
             Ty.typed_of found.1 ≡ field_in (Ty.typed_of self.now) found.0) }
         ensures valid { IfSome result (λ found. Ty.is_valid found.1) }
     {
-        let at = At {
-            ty: self.ty,
-            layout: self.layout,
-            cx,
-        };
+        let at = At::new(self, cx);
         let (i, field) = only_field_of(at, NoBytes::OfLeastAlign)?;
         Some((i, field.alone()))
     }
@@ -111,11 +107,7 @@ impl<'a, Ty> TyAndLayout<'a, Ty> {
             Ty.typed_of found.1 ≡ field_in (Ty.typed_of self.now) found.0) }
         ensures valid { IfSome result (λ found. Ty.is_valid found.1) }
     {
-        let at = At {
-            ty: self.ty,
-            layout: self.layout,
-            cx,
-        };
+        let at = At::new(self, cx);
         let (i, field) = only_field_of(at, NoBytes::OfAnyAlign)?;
         Some((i, field.alone()))
     }

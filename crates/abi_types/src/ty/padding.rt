@@ -1,6 +1,6 @@
 //! The data places of a type, and its padding: the bytes that no part of it covers, in any variant or in one.
 
-ghost use Rattle.std.specs.Prelude.{◌≡◌, ℕ, ◌+◌, ◌<◌, ◌≤◌, ◌^◌, ◌&&◌, IfOk, not, true};
+ghost use Rattle.std.specs.Prelude.{◌≡◌, ℕ, ◌+◌, ◌<◌, ◌≤◌, ◌&&◌, IfOk, not, true};
 ghost use Rattle.abi_index.specs.Idx.{greatest_place};
 ghost use Rattle.abi_index.specs.RangeSet.{is_in_ranges};
 ghost use Rattle.abi_types.specs.Ty.Typed.{layout_in};
@@ -197,14 +197,7 @@ impl<'a, Ty> TyAndLayout<'a, Ty> {
         ensures { IfOk result (λ set. (k : ℕ) →
             is_in_ranges set k ≡ is_place (Ty.typed_of self.now) k) }
     {
-        data(
-            alloc,
-            At {
-                ty: self.ty,
-                layout: self.layout,
-                cx,
-            },
-        )
+        data(alloc, At::new(self, cx))
     }
 
     /// The bytes that decide nothing, whatever the value: those below the size that no part covers, in any variant.
@@ -221,14 +214,7 @@ impl<'a, Ty> TyAndLayout<'a, Ty> {
         ensures { IfOk result (λ set. (k : ℕ) →
             is_in_ranges set k ≡ is_padding (Ty.typed_of self.now) k) }
     {
-        padding(
-            alloc,
-            At {
-                ty: self.ty,
-                layout: self.layout,
-                cx,
-            },
-        )
+        padding(alloc, At::new(self, cx))
     }
 
     /// The bytes that decide nothing in a variant and do in another: those that some variant covers, and neither this
@@ -248,15 +234,7 @@ impl<'a, Ty> TyAndLayout<'a, Ty> {
         ensures { IfOk result (λ set. (k : ℕ) →
             is_in_ranges set k ≡ is_unused (Ty.typed_of self.now) variant_index k) }
     {
-        unused(
-            alloc,
-            At {
-                ty: self.ty,
-                layout: self.layout,
-                cx,
-            },
-            variant_index,
-        )
+        unused(alloc, At::new(self, cx), variant_index)
     }
 
     /// What `variant_dependent_padding_ranges` answers, of each variant that a tag tells apart, in one walk over the
@@ -271,14 +249,7 @@ impl<'a, Ty> TyAndLayout<'a, Ty> {
         requires { Ty.is_valid self.now }
         ensures { IfOk result (λ sets. AreUnused (Ty.typed_of self.now) sets) }
     {
-        each_unused(
-            alloc,
-            At {
-                ty: self.ty,
-                layout: self.layout,
-                cx,
-            },
-        )
+        each_unused(alloc, At::new(self, cx))
     }
 
     /// What `variant_independent_padding_ranges` and `each_variant_dependent_padding_ranges` answer, in one walk over the

@@ -44,12 +44,7 @@ impl<'a, Ty> TyAndLayout<'a, Ty> {
         ensures valid { Ty.is_valid result }
         ensures peeled { Ty.typed_of result ≡ peel (Ty.typed_of self.entry) }
     {
-        walk_peel(At {
-            ty: self.ty,
-            layout: self.layout,
-            cx,
-        })
-        .alone()
+        walk_peel(At::new(&self, cx)).alone()
     }
 
     /// Whether it is passed by a pointer where the calling convention isn't Rust's: what it is wrapped around is marked
@@ -60,10 +55,6 @@ impl<'a, Ty> TyAndLayout<'a, Ty> {
         requires { Ty.is_valid self }
         ensures { result ≡ is_passed_indirectly (Ty.typed_of self.entry) }
     {
-        walk_indirect(At {
-            ty: self.ty,
-            layout: self.layout,
-            cx,
-        })
+        walk_indirect(At::new(&self, cx))
     }
 }

@@ -1,7 +1,7 @@
 //! Types that are uniform: their bytes are those of registers of one kind and size, one after another, or they have
 //! none.
 
-ghost use Rattle.std.specs.Prelude.{◌≡◌, ℕ, Option, IfErr, IfOk, IsOk};
+ghost use Rattle.std.specs.Prelude.{◌≡◌, Option, IfErr, IfOk, IsOk};
 ghost use Rattle.abi_scalar.specs.Shape.{IsListed, listed_offsets};
 ghost use Rattle.abi_types.specs.Homogeneous.{AllRun, Answers, AnswersRun, IsUnionShape, register_of};
 ghost use Rattle.abi_types.specs.Ty.Typed.{layout_in};
@@ -193,10 +193,6 @@ impl<'a, Ty> TyAndLayout<'a, Ty> {
         ensures only { (r : Option Reg) → IsUniform (Ty.typed_of self.now) r →
             IfOk result (λ found. r ≡ register_of found) × IsOk result }
     {
-        uniform(At {
-            ty: self.ty,
-            layout: self.layout,
-            cx,
-        })
+        uniform(At::new(self, cx))
     }
 }

@@ -52,10 +52,6 @@ impl<'a, Ty> TyAndLayout<'a, Ty> {
         requires { Ty.is_valid self.now }
         ensures { result ≡ has_variant_dependent_padding (Ty.typed_of self.now) }
     {
-        walk_variant_padding(At {
-            ty: self.ty,
-            layout: self.layout,
-            cx,
-        })
+        walk_variant_padding(At::new(self, cx))
     }
 }

@@ -43,13 +43,6 @@ impl<'a, Ty> TyAndLayout<'a, Ty> {
         requires { Ty.is_valid self }
         ensures { result ≡ is_single_vector expected_size (Ty.typed_of self.entry) }
     {
-        walk_vector(
-            At {
-                ty: self.ty,
-                layout: self.layout,
-                cx,
-            },
-            expected_size,
-        )
+        walk_vector(At::new(&self, cx), expected_size)
     }
 }

@@ -13,8 +13,6 @@ use abi_scalar::LayoutData;
 /// A place in a type, with all that a walk asks of it. No lifetime is named in it, so that a recursion may have it as
 /// its bound.
 pub(crate) trait Walk: Copy {
-    ghost use Rattle.abi_scalar.specs.Layout.{Layout};
-
     /// The layout is one of the type.
     ghost is_valid: { Self → Type 0 };
 
@@ -74,6 +72,19 @@ pub(crate) struct At<'a, 'c, Ty, C> {
 }
 
 impl<'a, 'c, Ty, C> At<'a, 'c, Ty, C> {
+    /// The type as walks go through it.
+    pub(crate) fn new(of: &TyAndLayout<'a, Ty>, cx: &'c C) -> Self
+    where
+        Ty: Copy,
+        ensures { record { ty = result.ty; layout = result.layout } ≡ of.now }
+    {
+        At {
+            ty: of.ty,
+            layout: of.layout,
+            cx,
+        }
+    }
+
     /// The type alone.
     pub(crate) fn alone(self) -> TyAndLayout<'a, Ty>
         ensures { result ≡ record { ty = self.entry.ty; layout = self.entry.layout } }
@@ -101,21 +112,13 @@ impl<'a, 'c, C, Ty: TyAbiInterface<'a, C> + Copy> Walk for At<'a, 'c, Ty, C> {
     fn field(self, i: usize) -> Self {
         let cx = self.cx;
         let field = Ty::ty_and_layout_field(self.alone(), cx, i);
-        At {
-            ty: field.ty,
-            layout: field.layout,
-            cx,
-        }
+        At::new(&field, cx)
     }
 
     fn variant(self, index: VariantIdx) -> Self {
         let cx = self.cx;
         let variant = Ty::ty_and_layout_for_variant(self.alone(), cx, index);
-        At {
-            ty: variant.ty,
-            layout: variant.layout,
-            cx,
-        }
+        At::new(&variant, cx)
     }
 
     fn is_transparent(self) -> bool {
