@@ -6,6 +6,7 @@ use Rattle.abi_index.specs.Runs.{moved_to, repeated}
 use Rattle.abi_scalar.specs.declared.variants.Variants.{Variants}
 use Rattle.abi_scalar.specs.declared.variants.Variants.TheVariants.{Multiple}
 use Rattle.abi_scalar.specs.Shape.{field_offset}
+use Rattle.abi_scalar.specs.Variant.{variants_of}
 use Rattle.abi_types.specs.Ty.Typed.{Typed, field_in, layout_in}
 use Rattle.abi_types.specs.Ty.Places.{covers_element, is_place, is_unused}
 
@@ -29,8 +30,7 @@ IsVariantOfSeveral _ i = ⊥
 
 -- how many variants a tag tells apart
 abbrev pub variant_count : Variants ℕ ℕ → ℕ
-variant_count (Multiple tag encoding at layouts) = length layouts
-variant_count _ = 0
+variant_count variants = length (variants_of variants)
 
 -- a set for each of the first n variants that a tag tells apart: the bytes that this variant leaves unused
 abbrev pub AreUnusedOf : Typed → (n : ℕ) → List (List (ℕ × ℕ)) → Type 0
