@@ -5,7 +5,7 @@ ghost use Rattle.abi_base.specs.ErrorText.{data_layout_error_text};
 
 use crate::align::AlignFromBytesError;
 use crate::parse_number::NumberError;
-use std::alloc::{AllocError, AllocFailed};
+use std::alloc::AllocError;
 use std::error::Error;
 use std::fmt;
 use std::fmt::Display;
@@ -120,17 +120,6 @@ impl<'a> From<AllocError> for TargetDataLayoutError<'a> {
     ghost from_gives = { λ _ error. error ≡ OutOfMemory };
 
     fn from(_error: AllocError) -> Self {
-        TargetDataLayoutError::OutOfMemory
-    }
-}
-
-impl<'a, T: Drop> From<AllocFailed<T>> for TargetDataLayoutError<'a> {
-    ghost use Rattle.std.specs.Prelude.{◌≡◌};
-    ghost use Rattle.abi_base.specs.declared.parse_error.TargetDataLayoutError.TheVariants.{OutOfMemory};
-
-    ghost from_gives = { λ _ error. error ≡ OutOfMemory };
-
-    fn from(_error: AllocFailed<T>) -> Self {
         TargetDataLayoutError::OutOfMemory
     }
 }

@@ -1,13 +1,14 @@
 //! Ranges of numbers that may wrap round.
 
-ghost use Rattle.std.specs.Prelude.{◌≡◌, ℕ, ◌≤◌, ◌<◌, ◌-◌, ◌↔◌, IsTrue, Some, IsErr, IfOk};
+ghost use Rattle.std.specs.Prelude.{◌≡◌, ℕ, ◌≤◌, ◌<◌, ◌-◌, ◌↔◌, IsTrue, Some, IsErr, IfOk, codes};
 ghost use Rattle.abi_scalar.specs.Range.{numbers_of, IsIn, IsBetween, IsFree, IsFull, Includes, AreWithin, free_count, full_range, steps_between};
 ghost use Rattle.abi_scalar.specs.Wraparound.{unsigned_place, signed_place, HasNoGap};
 ghost use Rattle.abi_scalar.specs.RangeText.{range_text};
 
 use abi_base::Size;
+use std::error::Error;
 use std::fmt;
-use std::fmt::Debug;
+use std::fmt::{Debug, Display};
 
 /// The numbers that are met when counting from `start` to `end`, modulo 2 to the width in bits that the range
 /// is read at. It wraps round where `start` is above `end`.
@@ -75,6 +76,16 @@ fn place(n: u128, size: Size) -> u128
 /// A range with every number, of which it can't be said whether it wraps round.
 #[derive(Clone, Copy, PartialEq, Eq, Debug)]
 pub struct RangeFull;
+
+impl Display for RangeFull {
+    ghost output = { λ _. Some (codes "a range with every number") };
+
+    fn fmt<W: fmt::Write>(&self, f: &mut fmt::Formatter<W>) -> fmt::Result {
+        f.write_str("a range with every number")
+    }
+}
+
+impl Error for RangeFull {}
 
 impl WrappingRange {
     /// The range of every number of `size` bytes, from 0 on.
