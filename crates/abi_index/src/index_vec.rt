@@ -1,6 +1,6 @@
 //! Lists whose places are named by an index type.
 
-ghost use Rattle.std.specs.Prelude.{◌≡◌, ℕ, ◌≤◌, ◌<◌, ◌+◌, List, [], ◌∷◌, ◌++◌, length, OnOk, OnErr, IfOk, IfSome, slice_get, Some, map, IsOk};
+ghost use Rattle.std.specs.Prelude.{◌≡◌, ◌≤◌, ◌<◌, ◌+◌, List, [], ◌∷◌, ◌++◌, length, OnOk, OnErr, IfOk, slice_get, map, IsOk};
 ghost use Rattle.abi_index.specs.Few.{TwoFit};
 ghost use Rattle.std.specs.List.{range_with_len};
 ghost use Rattle.std.specs.Slice.Iter.{iter_rest};
@@ -85,8 +85,8 @@ impl<I: Idx, T> IndexVec<I, T> {
         }
     }
 
-    /// An empty list with room for `capacity` items, which are then put into it without a growth. `AllocError` where
-    /// the room is refused.
+    /// An empty list with room for `capacity` items, which is asked for once, here: `push` asks for none before there
+    /// are so many. `AllocError` where the room is refused.
     pub fn with_capacity(alloc: Global, capacity: usize) -> Result<Self, AllocError>
         ensures ok { IfOk result (λ list. list ≡ []) }
         // Room for at most two items is in the list itself, and isn't asked for.

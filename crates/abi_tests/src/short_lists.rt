@@ -1,4 +1,5 @@
-//! Lists of at most two items, and layouts of two scalars and of vectors, which ask for no memory.
+//! Lists of at most two items, layouts of two scalars, of vectors and without parts, and the empty set of bytes, which ask
+//! for no memory.
 //!
 //! `scripts/try_memory` runs each of these tests, as the gate built them, and counts its requests: those that its table has
 //! are made and no more, also where the next one would be refused.
@@ -6,7 +7,7 @@
 ghost use Rattle.abi_base.specs.DataLayout.{IsLawfulDataLayout};
 
 use abi_base::{Align, Integer, Primitive, Size, TargetDataLayout};
-use abi_index::{FieldIdx, IndexVec, VariantIdx};
+use abi_index::{FieldIdx, IndexVec, RangeSet, VariantIdx};
 use abi_scalar::{FieldsShape, LayoutData, Scalar, WrappingRange};
 use rustc_abi::LayoutCalculator;
 use std::alloc::{AllocError, Global};
@@ -69,6 +70,35 @@ fn pairs_and_vectors_ask_for_no_memory(rt: HostRuntime) -> Result<(), Fail> {
     assert!(rt; is_laid(pair(rt.alloc(), &dl), 8, Align::FOUR, &offsets));
     let sixteen = Align::max_aligned_factor(Size::from_bytes(16));
     assert!(rt; is_laid(vector(rt.alloc(), &dl), 16, sixteen, &[Size::ZERO]));
+    Ok(())
+}
+
+/// A unit.
+fn unit(alloc: Global, dl: &TargetDataLayout) -> Option<Layout>
+    requires { IsLawfulDataLayout dl.now }
+{
+    Some(LayoutData::unit(alloc, &dl, true))
+}
+
+/// Whether a variant with so many fields and no values is there.
+fn is_absent(alloc: Global, dl: &TargetDataLayout, fields: usize) -> bool
+    requires { IsLawfulDataLayout dl.now }
+{
+    let layout: Layout = LayoutData::uninhabited_variant(
+        alloc,
+        &dl,
+        VariantIdx::from_u32(2),
+        fields,
+    );
+    layout.uninhabited
+}
+
+#[test]
+fn bare_layouts_and_empty_sets_ask_for_no_memory(rt: HostRuntime) -> Result<(), Fail> {
+    let dl = TargetDataLayout::default_in(rt.alloc())?;
+    assert!(rt; is_laid(unit(rt.alloc(), &dl), 0, Align::ONE, &[]));
+    assert!(rt; is_absent(rt.alloc(), &dl, 0) && is_absent(rt.alloc(), &dl, 2));
+    assert!(rt; RangeSet::new(rt.alloc()).as_slice().is_empty());
     Ok(())
 }
 
