@@ -28,12 +28,12 @@ spec_parts_left mark (Some text) = spec_parts mark text
 abbrev pub begins : (b : ℕ) → List ℕ → Bool
 begins b text = slice_index text 0 == b
 
--- the text begins with a letter: a character of the class Alphabetic
+-- the first of the characters is a letter: one of the class Alphabetic
 abbrev pub begins_alphabetic_in : List ℕ → Bool
 begins_alphabetic_in [] = false
 begins_alphabetic_in (c ∷ cs) = is_alphabetic c
 
--- the text begins with a letter: a character of the class Alphabetic
+-- the text begins with a letter
 abbrev pub begins_alphabetic : List ℕ → Bool
 begins_alphabetic text = begins_alphabetic_in (chars text)
 

@@ -1,6 +1,6 @@
 //! Floating-point formats.
 
-ghost use Rattle.std.specs.Prelude.{◌≡◌, ℕ};
+ghost use Rattle.std.specs.Prelude.{◌≡◌};
 ghost use Rattle.abi_base.specs.Float.{float_size, float_align, float_text, is_ieee_float};
 
 use crate::align::Align;

@@ -1,6 +1,6 @@
 //! Reading a data layout string.
 
-ghost use Rattle.std.specs.Prelude.{◌≡◌, ◌∷◌, IfOk, IfErr, Ok, List, unwrap_or};
+ghost use Rattle.std.specs.Prelude.{◌≡◌, ◌∷◌, IfOk, IfErr, Ok, List};
 ghost use Rattle.std.specs.Result.{OnErr, OnOk};
 ghost use Rattle.abi_base.specs.declared.setting.Setting.{Setting};
 ghost use Rattle.abi_base.specs.declared.data_layout.TargetDataLayout.{TargetDataLayout};

@@ -1,10 +1,10 @@
 //! The specs of a data layout string, one by one.
 
-ghost use Rattle.std.specs.Prelude.{◌≡◌, ◌∷◌, ◌<◌, slice_index, true};
+ghost use Rattle.std.specs.Prelude.{◌≡◌, ◌<◌, slice_index, true};
 ghost use Rattle.std.specs.Option.{option_copied};
 ghost use Rattle.abi_base.specs.declared.endian.Endian.{Endian};
 ghost use Rattle.abi_base.specs.DataLayoutFault.{IsReading};
-ghost use Rattle.abi_base.specs.DataLayoutSpec.{aligned, aligned_word, alignment_in, begins, bits_in, index_text, instructions, integer, lettered_row, spec_parts_left, pointers_in, pointer_setting, pointer_space, row_of_spec, space_text, setting_in, setting_of, size_written, space_in, vector};
+ghost use Rattle.abi_base.specs.DataLayoutSpec.{aligned, aligned_word, alignment_in, begins, bits_in, index_text, instructions, integer, lettered_row, spec_parts_left, pointers_in, pointer_setting, pointer_space, space_text, setting_in, setting_of, size_written, space_in, vector};
 
 use crate::address_space::AddressSpace;
 use crate::align::Align;

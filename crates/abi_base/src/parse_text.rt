@@ -1,6 +1,6 @@
 //! The parts of a data layout string.
 
-ghost use Rattle.std.specs.Prelude.{◌≡◌, ◌<◌, ◌+◌, IfSome, length, drop, slice_index, ◌∷◌};
+ghost use Rattle.std.specs.Prelude.{◌≡◌, ◌<◌, IfSome, length, drop, slice_index, ◌∷◌};
 ghost use Rattle.std.specs.Option.{option_copied};
 ghost use Rattle.abi_base.specs.DataLayoutSpec.{begins, begins_alphabetic, has_parts, spec_parts_left, spec_parts};
 

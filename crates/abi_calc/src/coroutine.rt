@@ -108,9 +108,10 @@ impl<Cx: HasDataLayout> LayoutCalculator<Cx> {
     ///
     /// Some locals are promoted: they lie beside the prefix fields and the tag, where they share no byte with any
     /// other. A local that several states hold is promoted. Then the conflicts are gone through, by rows and in them by
-    /// columns, both ascending: of two locals that conflict, neither of them promoted and not of one state, the row's
-    /// is promoted where its row has more conflicts than the column's, else the column's. All are promoted where fewer
-    /// than two states hold another local.
+    /// columns, both ascending. A row is passed over whose local is promoted before it is come to, and a column whose
+    /// local is promoted or, while the row's isn't, of the row's state, or where no state holds either. Else the row's
+    /// is promoted where its row has more conflicts than the column's, and otherwise the column's; the row goes on
+    /// either way. All are promoted where fewer than two states hold another local.
     ///
     /// The tag is the least unsigned integer that has the number of each state, and `tag_to_layout` gives a handle of
     /// its layout. Prefix fields, tag and promoted locals are one list, whose fields may be moved, and each state's

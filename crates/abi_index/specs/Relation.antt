@@ -8,7 +8,7 @@ pub record Relation : Type 0 where
   pub rows : List (List ℕ)
   pub columns : ℕ
 
--- how many rows and columns there are
+-- how many rows the relation has
 abbrev pub row_count : Relation → ℕ
 row_count m = length m.rows
 

@@ -91,7 +91,7 @@ impl<I: Idx> DenseBitSet<I> {
         self.bits.as_mut_slice().fill(true);
     }
 
-    /// Whether an index is a member; none past the domain is one.
+    /// Whether an index, which has to be below the size, is a member.
     pub fn contains(&self, item: I) -> bool
         requires { I.number item < domain_size self.now }
         ensures { result ≡ is_member self.now (I.number item) }

@@ -4,7 +4,7 @@ ghost use Rattle.std.specs.Prelude.{◌≡◌, ℕ, ◌+◌, ◌%◌, ◌^◌};
 
 use std::marker::Model;
 
-/// A hash of 64 bits, by which seeds of layouts are told apart.
+/// A hash of 64 bits, as a seed for shuffles of fields.
 #[derive(Clone, Copy, PartialEq, Eq, PartialOrd, Ord, Hash, Debug, Default)]
 pub struct Hash64 {
     inner: u64,

@@ -1,6 +1,6 @@
 //! Lists whose places are named by an index type, with all items in an allocation.
 
-ghost use Rattle.std.specs.Prelude.{◌≡◌, ℕ, ◌≤◌, ◌+◌, length, slice_get, map};
+ghost use Rattle.std.specs.Prelude.{◌≡◌, ◌≤◌, ◌+◌, length, slice_get, map};
 ghost use Rattle.std.specs.List.{range_with_len};
 ghost use Rattle.std.specs.Slice.Iter.{iter_rest};
 ghost use Rattle.std.specs.Iterator.Adapters.{IterYieldsInOrder};

@@ -1,6 +1,6 @@
 //! Borrowed views of lists whose places are named by an index type.
 
-ghost use Rattle.std.specs.Prelude.{◌≡◌, ℕ, ◌≤◌, ◌+◌, length, slice_get, map};
+ghost use Rattle.std.specs.Prelude.{◌≡◌, ◌≤◌, ◌+◌, length, slice_get, map};
 
 use crate::idx::Idx;
 use crate::indices::Indices;

@@ -8,7 +8,7 @@ use Rattle.abi_scalar.specs.declared.wrapping_range.WrappingRange.{WrappingRange
 use Rattle.abi_scalar.specs.Range.{numbers_of, IsIn, IsFree, AreWithin}
 use Rattle.abi_scalar.specs.Niche.{niche_size}
 
--- the number so many steps further on, and so many steps back
+-- the number so many steps further on, in numbers of so many bytes
 abbrev pub stepped_on : (width : ℕ) → (n count : ℕ) → ℕ
 stepped_on width n count = (n + count) % numbers_of width
 
@@ -16,7 +16,7 @@ stepped_on width n count = (n + count) % numbers_of width
 abbrev pub stepped_back : (width : ℕ) → (n count : ℕ) → ℕ
 stepped_back width n count = (n + numbers_of width - count) % numbers_of width
 
--- the range with so many more numbers before its start, or after its end
+-- the range whose start is moved so far back
 abbrev pub start_moved : (width : ℕ) → WrappingRange → (count : ℕ) → WrappingRange
 start_moved width range count = record { start = stepped_back width range.start count; end = range.end }
 

@@ -1,14 +1,13 @@
 //! Niches: numbers that a place inside a type never holds.
 
 ghost use Rattle.std.specs.Prelude.{◌≡◌, ◌↔◌, IsSome};
-ghost use Rattle.abi_base.specs.Primitive.{KnowsPrimitive};
 ghost use Rattle.abi_scalar.specs.Count.{AreSoMany};
-ghost use Rattle.abi_scalar.specs.Range.{IsFree, AreWithin};
+ghost use Rattle.abi_scalar.specs.Range.{IsFree};
 ghost use Rattle.abi_scalar.specs.Scalar.{IsReadable};
 ghost use Rattle.abi_scalar.specs.Niche.{niche_size, available_in, niche_at, HasFreeNumber, IsReadableNiche};
 
 use crate::scalar::Scalar;
-use crate::wrapping_range::{WrappingRange, greatest_number};
+use crate::wrapping_range::WrappingRange;
 use abi_base::{HasDataLayout, Primitive, Size};
 
 /// A place inside a type, and the numbers that it holds there: all others of its width are free.

@@ -8,7 +8,7 @@ ghost use Rattle.abi_scalar.specs.Lawful.{IsLawfulLayout};
 ghost use Rattle.abi_scalar.specs.Niche.{niche_at};
 ghost use Rattle.abi_scalar.specs.declared.fields_shape.FieldsShape.TheVariants.{Arbitrary};
 ghost use Rattle.abi_scalar.specs.Order.{HasOrder};
-ghost use Rattle.abi_scalar.specs.Pair.{pair_align, second_offset, pair_size, larger_niche, pair_layout};
+ghost use Rattle.abi_scalar.specs.Pair.{pair_align, pair_size, larger_niche, pair_layout};
 
 use crate::backend_repr::BackendRepr;
 use crate::fields_shape::FieldsShape;

@@ -1,6 +1,6 @@
 //! What a `repr` attribute asks of a type.
 
-ghost use Rattle.std.specs.Prelude.{⊤, ◌≡◌, ◌↔◌, IsTrue, is_some, ◌||◌, ◌&&◌, not, ℕ, [], ◌∷◌, codes};
+ghost use Rattle.std.specs.Prelude.{⊤, ◌≡◌, ◌↔◌, IsTrue, is_some, ◌||◌, ◌&&◌, [], ◌∷◌, codes};
 ghost use Rattle.abi_scalar.specs.Repr.{is_c, is_simd, is_scalable, is_transparent, is_linear, is_rust, discr_type_of, has_fixed_order, is_abi_fixed, may_randomize, IsEqualUpToSeed};
 
 use abi_base::{Align, IntegerType, ScalableElt};
@@ -149,7 +149,8 @@ impl ReprOptions {
         self.flags.intersects(ReprFlags::ABI_UNOPTIMIZABLE)
     }
 
-    /// Whether fields stay in source order, as `repr(C)` and `linear` ask, and an integer for the tag.
+    /// Whether fields stay in source order, as `repr(C)`, `repr(simd)`, a scalable vector, `linear` and an integer for
+    /// the tag ask.
     pub fn inhibit_struct_field_reordering(&self) -> bool
         ensures { result ≡ has_fixed_order self.now }
     {

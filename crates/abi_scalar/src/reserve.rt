@@ -4,7 +4,7 @@ ghost use Rattle.std.specs.Prelude.{◌≡◌, ◌↔◌, ◌≤◌, ◌<◌, Is
 ghost use Rattle.abi_scalar.specs.Range.{numbers_of, AreWithin};
 ghost use Rattle.abi_scalar.specs.Scalar.{primitive_of, range_of};
 ghost use Rattle.abi_scalar.specs.Niche.{niche_size, available_in, IsReadableNiche};
-ghost use Rattle.abi_scalar.specs.Reserve.{stepped_on, stepped_back, magnitude, start_is_nearer, end_overshoots, start_gives_room, moves_start, reserved, HandsOut};
+ghost use Rattle.abi_scalar.specs.Reserve.{stepped_on, stepped_back, magnitude, start_is_nearer, start_gives_room, moves_start, reserved, HandsOut};
 
 use crate::niche::Niche;
 use crate::scalar::Scalar;

@@ -1,6 +1,6 @@
 //! The layouts of types without parts.
 
-ghost use Rattle.std.specs.Prelude.{◌≡◌, ℕ, ◌+◌, ◌*◌, ◌%◌, ◌^◌};
+ghost use Rattle.std.specs.Prelude.{◌≡◌, ◌%◌};
 ghost use Rattle.abi_base.specs.DataLayout.{IsLawfulDataLayout};
 ghost use Rattle.abi_scalar.specs.Scalar.{IsReadable, IsLawfulScalar};
 ghost use Rattle.abi_scalar.specs.Simple.{seed_kind, mixed, scalar_seed, scalar_layout, unit_layout, never_layout, uninhabited_layout};

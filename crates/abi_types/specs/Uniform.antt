@@ -65,7 +65,7 @@ AllRunBy (Multiple tag encoding at layouts) fields runs end r =
 AllRunBy (Single i) fields runs end r = fields end r
 AllRunBy Empty fields runs end r = ⊥
 
--- the register of a scalar, and of a fixed vector, of so many bytes
+-- the register of a scalar of so many bytes
 abbrev pub scalar_register : Primitive → (size : ℕ) → Reg
 scalar_register primitive size = record { kind = reg_kind_of primitive; size = size }
 

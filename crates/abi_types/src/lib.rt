@@ -1,4 +1,4 @@
-//! Calling conventions and registers.
+//! Types beside their layouts, walks over them, registers and calling conventions.
 #![tactic(auto)]
 
 // Types beside their layouts, and walks over them.

@@ -18,7 +18,7 @@ use Rattle.abi_scalar.specs.Shape.{field_count, field_offset}
 use Rattle.abi_types.specs.Ty.Typed.{Typed, typed, no_type, field_in, layout_in, marks_of}
 use Rattle.abi_scalar.specs.Layout.{Layout}
 
--- a view that has no size of its own, or one, as `Memory` says it
+-- the view is bytes in memory, whose size is known beforehand
 abbrev pub is_sized_memory : BackendRepr → Bool
 is_sized_memory (Memory sized) = sized
 is_sized_memory _ = false

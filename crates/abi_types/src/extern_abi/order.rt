@@ -1,6 +1,6 @@
 //! The order of calling conventions, which is that of their names.
 
-ghost use Rattle.std.specs.Prelude.{Some, refl, ◌++◌};
+ghost use Rattle.std.specs.Prelude.{Some, ◌++◌};
 ghost use Rattle.std.proofs.Common.{rules};
 ghost use Rattle.std.specs.Hash as fed;
 ghost use Rattle.std.specs.Cmp.Rules.{comparing, hashing};

@@ -1,6 +1,6 @@
 //! Calling conventions read from texts, and written.
 
-ghost use Rattle.std.specs.Prelude.{◌≡◌, ◌++◌, codes, Some};
+ghost use Rattle.std.specs.Prelude.{◌≡◌, Some};
 ghost use Rattle.std.specs.List.{find};
 ghost use Rattle.abi_base.specs.ErrorText.{quoted};
 ghost use Rattle.abi_types.specs.ExternAbi.{abi_name, has_name, IsAbiOfText};

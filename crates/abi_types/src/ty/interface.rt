@@ -1,6 +1,6 @@
 //! Types that tell how they are laid out.
 
-ghost use Rattle.std.specs.Prelude.{◌≡◌, ℕ, ◌<◌, ◌≤◌};
+ghost use Rattle.std.specs.Prelude.{◌≡◌, ℕ, ◌<◌};
 ghost use Rattle.abi_scalar.specs.Shape.{field_count};
 ghost use Rattle.abi_types.specs.Ty.Typed.{Typed, at_variant, field_in, layout_in, marks_of};
 ghost use Rattle.abi_types.specs.Ty.Lawful.{IsLawfulType, NamesVariant, DepthFalls};
