@@ -13,8 +13,9 @@ use Rattle.abi_scalar.specs.declared.fields_shape.FieldsShape.TheVariants.{Union
 use Rattle.abi_scalar.specs.declared.variants.Variants.TheVariants.{Single}
 use Rattle.abi_scalar.specs.Repr.{is_abi_fixed}
 use Rattle.abi_scalar.specs.Shape.{listed_offsets}
-use Rattle.abi_lists.specs.List.{IsListLayout, parts_of}
+use Rattle.abi_lists.specs.List.{IsListLayout}
 use Rattle.abi_lists.specs.ListView.{list_view}
+use Rattle.abi_lists.specs.Part.{parts_of}
 use Rattle.abi_lists.specs.Placement.{IsNonEmptyIfUnsized}
 use Rattle.abi_lists.specs.Union.{IsUnionAnswer, IsUnionView, union_align}
 use Rattle.abi_lists.proofs.Promised.LeastLemmas.{has_greatest_niche, has_own_niche}

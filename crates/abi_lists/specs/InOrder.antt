@@ -12,7 +12,8 @@ use Rattle.abi_lists.specs.declared.order.NicheBias.TheVariants.{Start}
 use Rattle.abi_lists.specs.declared.placing.ListFault.{ListFault}
 use Rattle.abi_lists.specs.Fault.{IsErrorOf, fault_in}
 use Rattle.abi_lists.specs.Least.{IsOrderOf}
-use Rattle.abi_lists.specs.List.{IsListBy, parts_of}
+use Rattle.abi_lists.specs.List.{IsListBy}
+use Rattle.abi_lists.specs.Part.{parts_of}
 use Rattle.abi_lists.specs.Placement.{list_repr}
 use Rattle.abi_lists.specs.Run.{IsPlacedIn}
 

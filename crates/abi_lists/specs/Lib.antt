@@ -4,6 +4,7 @@ pub mod Array
 -- parts, placed in an order, and their niches
 pub mod Apart
 pub mod Part
+pub mod LawfulPart
 pub mod Placement
 pub mod ListNiche
 -- the order that the rules name, and its faults

@@ -19,7 +19,7 @@ use Rattle.abi_lists.specs.Fields.{greatest_repr_align, lies_as_in_c, seed_with}
 use Rattle.abi_lists.specs.Fault.{IsErrorOf, fault_in}
 use Rattle.abi_lists.specs.ListView.{list_view, transparent_align}
 use Rattle.abi_lists.specs.Order.{IsNamedOrder, movable}
-use Rattle.abi_lists.specs.Part.{is_unsized, max_align, part_of}
+use Rattle.abi_lists.specs.Part.{is_unsized, max_align, parts_of}
 use Rattle.abi_lists.specs.Placement.{align_of, list_repr, unraised}
 use Rattle.abi_lists.specs.Run.{IsNamedLayout}
 
@@ -27,10 +27,6 @@ use Rattle.abi_lists.specs.Run.{IsNamedLayout}
 pub record HasLawfulAligns (repr : ReprOptions) : Type 0 where
   pub align : IfSome repr.align (λ a. a ≤ max_align)
   pub pack : IfSome repr.pack (λ a. a ≤ max_align)
-
--- what a list asks of each of these fields
-abbrev pub parts_of : {F V : Type 0} → TargetDataLayout → List (LayoutData F V) → List Part
-parts_of dl fields = map (λ f. part_of dl f) fields
 
 -- the alignment before `repr(align)` raised it
 abbrev pub unadjusted_of : TargetDataLayout → ReprOptions → StructKind → (size align : ℕ) → List Part → ℕ

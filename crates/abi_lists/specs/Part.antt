@@ -1,13 +1,11 @@
 -- What the layout of a list asks of its fields.
-use Rattle.std.specs.Prelude.{◌≡◌, ℕ, ◌-◌, ◌+◌, ◌^◌, ◌≤◌, ◌==◌, ◌&&◌, Bool, true, false, Option, IfSome}
-use Rattle.std.specs.Int.{◌∣◌}
+use Rattle.std.specs.Prelude.{ℕ, ◌-◌, ◌+◌, ◌==◌, ◌&&◌, Bool, true, false, List, map, Option}
 use Rattle.std.specs.Option.{option_map_or}
 use Rattle.abi_base.specs.declared.data_layout.TargetDataLayout.{TargetDataLayout}
 use Rattle.abi_scalar.specs.declared.backend_repr.BackendRepr.{BackendRepr}
 use Rattle.abi_scalar.specs.declared.backend_repr.BackendRepr.TheVariants.{Memory}
 use Rattle.abi_scalar.specs.declared.layout_data.LayoutData.{LayoutData}
 use Rattle.abi_scalar.specs.declared.niche.Niche.{Niche}
-use Rattle.abi_scalar.specs.Lawful.{IsLawfulNiche, IsLawfulView, IsNicheOfView}
 use Rattle.abi_scalar.specs.Niche.{available_in, niche_size}
 use Rattle.abi_lists.specs.declared.part.Part.{Part}
 
@@ -45,16 +43,6 @@ part_of dl layout = record {
   after = space_after dl layout.size layout.largest_niche;
 }
 
--- A part's alignment has its limit, and its size is a multiple.
-pub record IsAlignedPart (part : Part) : Type 0 where
-  pub aligned : part.align ≤ max_align
-  pub whole : 2 ^ part.align ∣ part.size
-
--- A part whose niche and view are lawful, and whose free numbers are the niche's.
-pub record IsLawfulPart (dl : TargetDataLayout) (part : Part) : Type 0 where
-  pub aligned : part.align ≤ max_align
-  pub whole : 2 ^ part.align ∣ part.size
-  pub niche : IfSome part.largest_niche (IsLawfulNiche dl part.size)
-  pub view : IsLawfulView dl part.size part.view
-  pub niche_of_view : IfSome part.largest_niche (IsNicheOfView part.view)
-  pub counted : part.free ≡ free_numbers dl part.largest_niche
+-- what a list asks of each of these fields
+abbrev pub parts_of : {F V : Type 0} → TargetDataLayout → List (LayoutData F V) → List Part
+parts_of dl fields = map (λ f. part_of dl f) fields

@@ -10,8 +10,9 @@ ghost use Rattle.abi_scalar.specs.Lawful.{IsLawfulLayout};
 ghost use Rattle.abi_scalar.specs.Repr.{is_abi_fixed};
 ghost use Rattle.abi_lists.specs.Fault.{IsErrorOf, IsFaultIndex};
 ghost use Rattle.abi_lists.specs.Fields.{greatest_repr_align, lies_as_in_c};
-ghost use Rattle.abi_lists.specs.List.{HasLawfulAligns, IsListAnswer, list_seed, parts_of, unadjusted_of};
+ghost use Rattle.abi_lists.specs.List.{HasLawfulAligns, IsListAnswer, list_seed, unadjusted_of};
 ghost use Rattle.abi_lists.specs.ListView.{bulk_of, bulky_parts, list_view};
+ghost use Rattle.abi_lists.specs.Part.{parts_of};
 ghost use Rattle.abi_lists.specs.Run.{IsInOrder};
 ghost use Rattle.abi_lists.specs.Placement.{IsLawfulPrefix, IsNonEmptyIfUnsized, align_of, list_repr};
 

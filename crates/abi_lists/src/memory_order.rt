@@ -3,7 +3,7 @@
 ghost use Rattle.std.specs.Prelude.{◌≡◌, ◌+◌, ◌<◌, ◌≤◌, ◌++◌, ◌∷◌, [], All, IfOk, IsPermutation, OnOk, length, map, slice_index};
 ghost use Rattle.std.specs.List.Sorted.{IsSortedByKey, IsStableByKey};
 ghost use Rattle.abi_lists.specs.Order.{compare_keys, key_at, sort_key};
-ghost use Rattle.abi_lists.specs.Part.{IsAlignedPart};
+ghost use Rattle.abi_lists.specs.LawfulPart.{IsAlignedPart};
 ghost use Rattle.abi_lists.specs.Placement.{source_order};
 
 use crate::order::{SortKey, SortRule, key_in};

@@ -2,7 +2,8 @@
 
 ghost use Rattle.std.specs.Prelude.{◌≡◌, ℕ, ◌+◌, ◌≤◌, All, IfOk, IsPermutation, OnOk, fold, map, max, length};
 ghost use Rattle.std.specs.List.Sorted.{IsSortedByKey, IsStableByKey};
-ghost use Rattle.abi_lists.specs.Part.{IsAlignedPart, max_align};
+ghost use Rattle.abi_lists.specs.Part.{max_align};
+ghost use Rattle.abi_lists.specs.LawfulPart.{IsAlignedPart};
 ghost use Rattle.abi_lists.specs.Placement.{IsNonEmptyIfUnsized};
 ghost use Rattle.abi_lists.specs.Order.{size_as_align, group_of, niche_from_front, niche_to_end, sort_key, compare_keys, key_at, IsSortedOrder, movable, is_prefixed, rule_of, IsSortedBefore, IsNamedOrder};
 

@@ -4,10 +4,9 @@ ghost use Rattle.std.specs.Prelude.{◌≡◌, ◌<◌, All, IfSome, length, map
 ghost use Rattle.std.specs.Option.{option_map_or};
 ghost use Rattle.abi_base.specs.DataLayout.{IsLawfulDataLayout};
 ghost use Rattle.abi_scalar.specs.Lawful.{IsLawfulLayout, IsLawfulNiche};
-ghost use Rattle.abi_lists.specs.List.{parts_of};
 ghost use Rattle.abi_lists.specs.ListView.{part_at};
 ghost use Rattle.abi_lists.specs.Order.{movable};
-ghost use Rattle.abi_lists.specs.Part.{free_numbers, space_after, part_of, is_unsized};
+ghost use Rattle.abi_lists.specs.Part.{free_numbers, space_after, part_of, is_unsized, parts_of};
 ghost use Rattle.abi_lists.specs.Placement.{IsNonEmptyIfUnsized};
 
 use crate::order::movable;
@@ -111,7 +110,7 @@ impl<'a, FieldIdx: Idx, VariantIdx: Idx, F: LayoutHandle<FieldIdx, VariantIdx>> 
     ghost use Rattle.std.specs.Prelude.{All, List, map};
     ghost use Rattle.abi_scalar.specs.Lawful.{IsLawfulLayout};
     ghost use Rattle.abi_lists.specs.declared.part.Part.{Part as OnePart};
-    ghost use Rattle.abi_lists.specs.List.{parts_of};
+    ghost use Rattle.abi_lists.specs.Part.{parts_of};
 
     ghost Value = { List OnePart };
 

@@ -2,11 +2,12 @@
 
 ghost use Rattle.std.specs.Prelude.{◌≡◌, ℕ, ◌+◌, ◌^◌, ◌<◌, ◌≤◌, ◌⊎◌, All, IfOk, IfErr, IfSome, List, Some, None, length, map, slice_index, IsPermutation, not, ◌&&◌};
 ghost use Rattle.abi_base.specs.DataLayout.{IsLawfulDataLayout, size_bound};
-ghost use Rattle.abi_lists.specs.Part.{IsLawfulPart, is_unsized, max_align};
+ghost use Rattle.abi_lists.specs.Part.{is_unsized, max_align};
 ghost use Rattle.abi_lists.specs.Placement.{align_of, prefix_align, end_from, in_order, IsLawfulPrefix, offsets_from, source_order, start_of};
 ghost use Rattle.abi_lists.specs.ListNiche.{niche_in};
 ghost use Rattle.abi_lists.specs.Fault.{fault_from, is_maybe_unsized};
 ghost use Rattle.abi_lists.specs.declared.placing.ListFault.TheVariants.{OutOfMemory};
+ghost use Rattle.abi_lists.specs.LawfulPart.{IsLawfulPart};
 
 use crate::list_niche::{GreatestNiche, NicheSoFar};
 use crate::list_repr::{ListRepr, cut_to, rounded};

@@ -4,12 +4,12 @@ ghost use Rattle.std.specs.Prelude.{◌≡◌, ℕ, ◌+◌, ◌^◌, ◌<◌, �
 ghost use Rattle.abi_base.specs.DataLayout.{IsLawfulDataLayout, size_bound};
 ghost use Rattle.abi_scalar.specs.Lawful.{IsLawfulNiche};
 ghost use Rattle.abi_scalar.specs.Niche.{IsReadableNiche};
-ghost use Rattle.abi_lists.specs.Part.{IsLawfulPart};
 ghost use Rattle.abi_lists.specs.Fault.{fault_in};
 ghost use Rattle.abi_lists.specs.Placement.{IsLawfulRepr, source_order};
 ghost use Rattle.abi_lists.specs.ListNiche.{begins_after, niche_in, space_beside};
 ghost use Rattle.abi_lists.specs.Order.{IsNamedOrder};
 ghost use Rattle.abi_lists.specs.declared.placing.ListFault.TheVariants.{OutOfMemory};
+ghost use Rattle.abi_lists.specs.LawfulPart.{IsLawfulPart};
 ghost use Rattle.abi_lists.specs.Run.{IsFaultOf, IsNamedLayout, IsPlacedIn, may_move};
 
 use crate::list_niche::space_beside;

@@ -30,7 +30,8 @@ use Rattle.abi_scalar.specs.Simple.{never_layout}
 use Rattle.abi_scalar.specs.Variant.{variant_of}
 use Rattle.abi_lists.specs.declared.part.Part.{Part}
 use Rattle.abi_lists.specs.Fields.{greatest}
-use Rattle.abi_lists.specs.List.{IsListAnswer, parts_of as asked_of}
+use Rattle.abi_lists.specs.List.{IsListAnswer}
+use Rattle.abi_lists.specs.Part.{parts_of as asked_of}
 use Rattle.abi_lists.specs.Placement.{align_of as list_align, cut, list_repr, prefix_align}
 use Rattle.abi_calc.specs.declared.enums.niche.Room.{Room}
 use Rattle.abi_calc.specs.declared.enums.path.Path.{Path}

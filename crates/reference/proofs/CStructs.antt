@@ -11,8 +11,7 @@ use Rattle.abi_scalar.specs.declared.repr.ReprOptions.{ReprOptions}
 use Rattle.abi_scalar.specs.Repr.{has_fixed_order}
 use Rattle.abi_scalar.specs.Shape.{listed_offsets}
 use Rattle.abi_lists.specs.declared.part.Part.{Part}
-use Rattle.abi_lists.specs.List.{parts_of}
-use Rattle.abi_lists.specs.Part.{part_of}
+use Rattle.abi_lists.specs.Part.{part_of, parts_of}
 use Rattle.abi_lists.specs.Placement.{cut, end_from, list_repr, offsets_from, own_align, prefix_align, start_of}
 use Rattle.abi_laid.specs.Nodes.{parts_at}
 use Rattle.abi_laid.specs.Placed.{Placed, layout_of}

@@ -26,8 +26,8 @@ use Rattle.abi_lists.specs.declared.order.SortKey.{SortKey}
 use Rattle.abi_lists.specs.declared.part.Part.{Part}
 use Rattle.abi_lists.specs.Array.{elements_layout}
 use Rattle.abi_lists.specs.Fields.{greatest}
-use Rattle.abi_lists.specs.List.{parts_of as parts_asked}
 use Rattle.abi_lists.specs.Order.{IsSortedBefore, compare_keys, key_at, rule_of, sort_key}
+use Rattle.abi_lists.specs.Part.{parts_of as parts_asked}
 use Rattle.abi_lists.specs.Placement.{list_repr}
 use Rattle.abi_lists.specs.Run.{IsPlacedIn, IsRun}
 use Rattle.abi_calc.specs.Coroutine.Lists.{default_repr}

@@ -20,8 +20,7 @@ use Rattle.abi_scalar.specs.Shape.{listed_offsets}
 use Rattle.abi_scalar.specs.Simple.{never_layout}
 use Rattle.abi_scalar.specs.Variant.{variant_of}
 use Rattle.abi_lists.specs.declared.part.Part.{Part}
-use Rattle.abi_lists.specs.List.{parts_of}
-use Rattle.abi_lists.specs.Part.{part_of}
+use Rattle.abi_lists.specs.Part.{part_of, parts_of}
 use Rattle.abi_lists.specs.Placement.{end_from, list_repr, own_align, prefix_align, start_of}
 use Rattle.abi_calc.specs.declared.enums.path.Path.{Path}
 use Rattle.abi_calc.specs.declared.enums.path.Path.TheVariants.{Several}

@@ -17,10 +17,9 @@ use Rattle.abi_lists.specs.declared.order.NicheBias.{NicheBias}
 use Rattle.abi_lists.specs.declared.order.NicheBias.TheVariants.{Start, End}
 use Rattle.abi_lists.specs.declared.part.Part.{Part}
 use Rattle.abi_lists.specs.Fields.{greatest, greatest_align}
-use Rattle.abi_lists.specs.List.{parts_of as asked_of}
 use Rattle.abi_lists.specs.ListNiche.{begins_after, niche_in}
 use Rattle.abi_lists.specs.Order.{IsNamedOrder}
-use Rattle.abi_lists.specs.Part.{part_of}
+use Rattle.abi_lists.specs.Part.{part_of, parts_of as asked_of}
 use Rattle.abi_lists.specs.Placement.{align_of as list_align, cut, list_repr, own_align, prefix_align}
 use Rattle.abi_lists.specs.Run.{IsPlacedIn, IsRun, space_wanted}
 use Rattle.abi_lists.specs.Union.{raised_to}

@@ -12,8 +12,7 @@ use Rattle.abi_scalar.specs.declared.repr.ReprOptions.{ReprOptions}
 use Rattle.abi_lists.specs.declared.list_repr.ListRepr.{ListRepr}
 use Rattle.abi_lists.specs.declared.part.Part.{Part}
 use Rattle.abi_lists.specs.Least.{IsPlacedBy}
-use Rattle.abi_lists.specs.List.{parts_of}
-use Rattle.abi_lists.specs.Part.{part_of}
+use Rattle.abi_lists.specs.Part.{part_of, parts_of}
 use Rattle.abi_lists.specs.Placement.{IsAllowed, KeepsTail, cut, end_from, in_order, list_repr, no_part, offsets_from, place_of, source_order, start_of}
 use Rattle.abi_laid.specs.Placed.{Parts, no_parts, part, layout_of}
 use Rattle.rustc_abi.specs.Lists.{offsets_of, types_of}

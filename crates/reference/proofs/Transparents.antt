@@ -24,9 +24,9 @@ use Rattle.abi_scalar.specs.Repr.{is_abi_fixed, is_c, is_simd}
 use Rattle.abi_scalar.specs.Shape.{listed_offsets}
 use Rattle.abi_scalar.specs.Simple.{never_layout}
 use Rattle.abi_lists.specs.declared.part.Part.{Part}
-use Rattle.abi_lists.specs.List.{IsListAnswer, parts_of as asked_of}
+use Rattle.abi_lists.specs.List.{IsListAnswer}
 use Rattle.abi_lists.specs.ListView.{any_unsized, list_view}
-use Rattle.abi_lists.specs.Part.{part_of}
+use Rattle.abi_lists.specs.Part.{part_of, parts_of as asked_of}
 use Rattle.abi_lists.specs.ListNiche.{greatest_niche}
 use Rattle.abi_lists.specs.Placement.{in_order, offsets_from, own_align, prefix_align, start_of}
 use Rattle.abi_calc.specs.declared.enums.path.Path.{Path}

@@ -29,8 +29,8 @@ use Rattle.abi_scalar.specs.Simple.{never_layout}
 use Rattle.abi_lists.specs.declared.part.Part.{Part}
 use Rattle.abi_lists.specs.Fields.{greatest}
 use Rattle.abi_lists.specs.Least.{IsPlacedBy, align_by}
-use Rattle.abi_lists.specs.List.{IsListAnswer, parts_of as asked_of}
-use Rattle.abi_lists.specs.Part.{part_of}
+use Rattle.abi_lists.specs.List.{IsListAnswer}
+use Rattle.abi_lists.specs.Part.{part_of, parts_of as asked_of}
 use Rattle.abi_lists.specs.Placement.{align_of as list_align, list_repr, own_align, prefix_align, start_of}
 use Rattle.abi_calc.specs.declared.enums.path.Path.{Path}
 use Rattle.abi_calc.specs.declared.enums.path.Path.TheVariants.{NoValue, OneList, Several}

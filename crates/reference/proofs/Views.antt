@@ -24,10 +24,10 @@ use Rattle.abi_scalar.specs.Simple.{never_layout}
 use Rattle.abi_scalar.specs.View.{union_view}
 use Rattle.abi_lists.specs.declared.part.Part.{Part}
 use Rattle.abi_lists.specs.Array.{elements_layout}
-use Rattle.abi_lists.specs.List.{IsListAnswer, parts_of as asked_of}
+use Rattle.abi_lists.specs.List.{IsListAnswer}
 use Rattle.abi_lists.specs.ListView.{any_unsized, bulky_parts, bulky_view, kept_view, list_view, pair_view, part_at, two_view}
 use Rattle.abi_lists.specs.declared.order.NicheBias.TheVariants.{Start}
-use Rattle.abi_lists.specs.Part.{is_unsized, part_of}
+use Rattle.abi_lists.specs.Part.{is_unsized, part_of, parts_of as asked_of}
 use Rattle.abi_lists.specs.Placement.{IsAllowed, IsNonEmptyIfUnsized, list_repr, start_of}
 use Rattle.abi_lists.specs.Simd.{after, element_scalar, if_below, is_tight, lanes_answer, simd_align, simd_answer, simd_view, vector_layout}
 use Rattle.abi_lists.specs.Union.{CountsForView, HasView, KeepsView}

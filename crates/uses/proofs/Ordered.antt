@@ -16,10 +16,9 @@ use Rattle.abi_lists.specs.declared.list_repr.ListRepr.{ListRepr}
 use Rattle.abi_lists.specs.declared.order.NicheBias.TheVariants.{Start, End}
 use Rattle.abi_lists.specs.declared.part.Part.{Part}
 use Rattle.abi_lists.specs.Least.{IsPlacedBy}
-use Rattle.abi_lists.specs.List.{parts_of}
 use Rattle.abi_lists.specs.ListNiche.{begins_after, niche_in}
 use Rattle.abi_lists.specs.Order.{IsNamedOrder}
-use Rattle.abi_lists.specs.Part.{part_of}
+use Rattle.abi_lists.specs.Part.{part_of, parts_of}
 use Rattle.abi_lists.specs.Placement.{IsAllowed, align_of as list_align, cut, end_from, in_order, list_repr, no_part, offsets_from, own_align, place_of, source_order}
 use Rattle.abi_lists.specs.Union.{raised_to}
 use Rattle.abi_lists.specs.Run.{IsPlacedIn, IsRun, space_wanted}

@@ -27,8 +27,8 @@ use Rattle.abi_scalar.specs.Range.{free_count, numbers_of}
 use Rattle.abi_scalar.specs.Repr.{is_c}
 use Rattle.abi_lists.specs.Fields.{greatest, greatest_size}
 use Rattle.abi_lists.specs.Least.{IsEachOrderTooLarge, align_by, size_by}
-use Rattle.abi_lists.specs.List.{AreSized, HasLawfulAligns, parts_of}
-use Rattle.abi_lists.specs.Part.{free_numbers}
+use Rattle.abi_lists.specs.List.{AreSized, HasLawfulAligns}
+use Rattle.abi_lists.specs.Part.{free_numbers, parts_of}
 use Rattle.abi_lists.specs.Placement.{list_repr}
 use Rattle.abi_lists.proofs.Offsets.Rounding.{round_below, round_multiple, rounded_to}
 use Rattle.abi_lists.proofs.Sorted.Prefixes.{round_lower}

@@ -13,7 +13,8 @@ use Rattle.abi_scalar.specs.declared.layout_data.LayoutData.{LayoutData}
 use Rattle.abi_scalar.specs.declared.repr.ReprOptions.{ReprOptions}
 use Rattle.abi_scalar.specs.Lawful.{IsLawfulLayout}
 use Rattle.abi_scalar.specs.Repr.{is_abi_fixed, is_c}
-use Rattle.abi_lists.specs.List.{HasLawfulAligns, IsListAnswer, parts_of}
+use Rattle.abi_lists.specs.List.{HasLawfulAligns, IsListAnswer}
+use Rattle.abi_lists.specs.Part.{parts_of}
 use Rattle.abi_lists.specs.Placement.{IsLawfulPrefix, IsNonEmptyIfUnsized, IsSized, align_of, end_from, in_order, list_repr, size_in, start_of}
 use Rattle.abi_lists.proofs.Promised.DeepLemmas.{biased_index, biased_inside}
 use Rattle.abi_lists.proofs.Placed.FaultLemmas.{clear_of}

@@ -20,9 +20,9 @@ use Rattle.abi_lists.specs.declared.placing.ListFault.TheVariants.{Unsized, TooL
 use Rattle.abi_lists.specs.Fault.{IsErrorOf, fault_in, is_maybe_unsized}
 use Rattle.abi_lists.specs.Fields.{greatest}
 use Rattle.abi_lists.specs.Least.{IsEachOrderTooLarge, IsLeastSize, align_by, size_by}
-use Rattle.abi_lists.specs.List.{AreSized, IsListError, parts_of}
+use Rattle.abi_lists.specs.List.{AreSized, IsListError}
 use Rattle.abi_lists.specs.Order.{IsNamedOrder}
-use Rattle.abi_lists.specs.Part.{is_unsized}
+use Rattle.abi_lists.specs.Part.{is_unsized, parts_of}
 use Rattle.abi_lists.specs.Placement.{IsNonEmptyIfUnsized, in_order, list_repr, no_part, source_order, start_of}
 use Rattle.abi_lists.proofs.Placed.FaultLemmas.{IsSizedAt, clear_of, memory_in, sized_of_faultless}
 use Rattle.abi_lists.proofs.Sorted.Least.{allowed_permutes, named_allowed}

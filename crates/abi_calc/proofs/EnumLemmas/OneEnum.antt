@@ -20,7 +20,8 @@ use Rattle.abi_lists.specs.declared.order.NicheBias.TheVariants.{Start}
 use Rattle.abi_lists.specs.declared.placing.ListFault.{ListFault}
 use Rattle.abi_lists.specs.declared.placing.ListFault.TheVariants.{Unsized, TooLarge, OutOfMemory}
 use Rattle.abi_lists.specs.Fault.{IsErrorOf, fault_in}
-use Rattle.abi_lists.specs.List.{IsListAnswer, IsListError, parts_of}
+use Rattle.abi_lists.specs.List.{IsListAnswer, IsListError}
+use Rattle.abi_lists.specs.Part.{parts_of}
 use Rattle.abi_lists.specs.Placement.{IsNonEmptyIfUnsized, IsSized, list_repr}
 use Rattle.abi_lists.proofs.Layouts.ListLemmas.{length-parts}
 use Rattle.abi_lists.proofs.Layouts.OneOrder.{never_refused, one_layout, one_named}

@@ -22,7 +22,8 @@ use Rattle.abi_scalar.specs.Shape.{listed_offsets, listed_order}
 use Rattle.abi_scalar.specs.Variant.{IsOrderedVariant, variant_of}
 use Rattle.abi_lists.specs.declared.part.Part.{Part}
 use Rattle.abi_lists.specs.Apart.{AreAligned}
-use Rattle.abi_lists.specs.List.{IsListAnswer, parts_of}
+use Rattle.abi_lists.specs.List.{IsListAnswer}
+use Rattle.abi_lists.specs.Part.{parts_of}
 use Rattle.abi_lists.specs.Placement.{IsNonEmptyIfUnsized, IsSized, cut, list_repr, prefix_align}
 use Rattle.abi_lists.proofs.Promised.LeastLemmas.{ascends, biased, has_places, lies_aligned, lies_in_order}
 use Rattle.abi_lists.proofs.Sorted.Least.{allowed_permutes}

@@ -25,8 +25,7 @@ use Rattle.abi_scalar.specs.Variant.{variant_of}
 use Rattle.abi_lists.specs.declared.part.Part.{Part}
 use Rattle.abi_lists.specs.Apart.{AreApart, IsBeside}
 use Rattle.abi_lists.specs.Fields.{greatest_size}
-use Rattle.abi_lists.specs.List.{parts_of}
-use Rattle.abi_lists.specs.Part.{is_unsized, max_align, part_of}
+use Rattle.abi_lists.specs.Part.{is_unsized, max_align, part_of, parts_of}
 use Rattle.abi_lists.specs.Placement.{IsAllowed, align_of, cut, end_from, in_order, list_repr, no_part, offsets_from, place_of, start_of}
 use Rattle.abi_lists.proofs.Offsets.Ends.{end_from-above}
 use Rattle.abi_lists.proofs.Sorted.Least.{allowed_permutes}

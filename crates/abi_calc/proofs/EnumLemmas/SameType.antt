@@ -19,8 +19,9 @@ use Rattle.abi_lists.specs.declared.order.NicheBias.TheVariants.{Start}
 use Rattle.abi_lists.specs.declared.placing.ListFault.{ListFault}
 use Rattle.abi_lists.specs.declared.placing.ListFault.TheVariants as fault
 use Rattle.abi_lists.specs.Fault.{IsErrorOf, fault_in}
-use Rattle.abi_lists.specs.List.{IsListAnswer, IsListError, IsListLayout, parts_of}
+use Rattle.abi_lists.specs.List.{IsListAnswer, IsListError, IsListLayout}
 use Rattle.abi_lists.specs.Order.{IsNamedOrder}
+use Rattle.abi_lists.specs.Part.{parts_of}
 use Rattle.abi_lists.specs.Placement.{list_repr}
 use Rattle.abi_calc.specs.declared.enums.path.Path.{Path}
 use Rattle.abi_calc.specs.declared.enums.path.Path.TheVariants.{NoValue, OneList, Several}

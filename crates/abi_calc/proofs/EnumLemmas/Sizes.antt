@@ -15,7 +15,8 @@ use Rattle.abi_scalar.specs.Lawful.{IsLawfulLayout}
 use Rattle.abi_lists.specs.declared.part.Part.{Part}
 use Rattle.abi_lists.specs.Fields.{greatest, greatest_size}
 use Rattle.abi_lists.specs.Least.{IsEachOrderTooLarge, IsLeastSize, align_by, size_by}
-use Rattle.abi_lists.specs.List.{AreSized, parts_of}
+use Rattle.abi_lists.specs.List.{AreSized}
+use Rattle.abi_lists.specs.Part.{parts_of}
 use Rattle.abi_lists.specs.Placement.{IsNonEmptyIfUnsized, IsSized, cut, list_repr, own_align, prefix_align}
 use Rattle.abi_lists.proofs.Promised.LeastLemmas.{large_in_each, sized_error}
 use Rattle.abi_lists.proofs.Sorted.Tight.{greatest_from}

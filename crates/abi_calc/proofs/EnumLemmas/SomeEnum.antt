@@ -29,9 +29,10 @@ use Rattle.abi_lists.specs.declared.placing.ListFault.{ListFault}
 use Rattle.abi_lists.specs.declared.placing.ListFault.TheVariants.{Unsized, TooLarge, OutOfMemory}
 use Rattle.abi_lists.specs.Fault.{IsErrorOf, IsFaultIndex, fault_in}
 use Rattle.abi_lists.specs.Fields.{greatest_repr_align, lies_as_in_c}
-use Rattle.abi_lists.specs.List.{IsListAnswer, IsListError, IsListLayout, list_seed, parts_of, unadjusted_of}
+use Rattle.abi_lists.specs.List.{IsListAnswer, IsListError, IsListLayout, list_seed, unadjusted_of}
 use Rattle.abi_lists.specs.ListView.{list_view}
 use Rattle.abi_lists.specs.Order.{IsNamedOrder}
+use Rattle.abi_lists.specs.Part.{parts_of}
 use Rattle.abi_lists.specs.Placement.{IsNonEmptyIfUnsized, list_repr}
 use Rattle.abi_lists.specs.Run.{IsNamedLayout}
 use Rattle.abi_lists.proofs.Placed.FaultLemmas.{memory_in}

@@ -17,8 +17,7 @@ use Rattle.abi_scalar.specs.declared.variants.VariantLayout.{VariantLayout}
 use Rattle.abi_lists.specs.declared.part.Part.{Part}
 use Rattle.abi_lists.specs.Apart.{AreApart, IsBeside}
 use Rattle.abi_lists.specs.Least.{IsOrderOf, align_by, size_by}
-use Rattle.abi_lists.specs.List.{parts_of}
-use Rattle.abi_lists.specs.Part.{part_of}
+use Rattle.abi_lists.specs.Part.{part_of, parts_of}
 use Rattle.abi_lists.specs.Placement.{IsAllowed, cut, end_from, in_order, list_repr, place_of, start_of}
 use Rattle.abi_lists.proofs.Offsets.Ends.{Capped, end_from-mono}
 use Rattle.abi_lists.proofs.Offsets.Rounding.{pow_dvd, round_add, round_mono, rounded_to}

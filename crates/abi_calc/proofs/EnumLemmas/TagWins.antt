@@ -27,8 +27,8 @@ use Rattle.abi_lists.specs.declared.part.Part.{Part}
 use Rattle.abi_lists.specs.Apart.{AreApart}
 use Rattle.abi_lists.specs.Fields.{greatest, greatest_align, greatest_size}
 use Rattle.abi_lists.specs.Least.{align_by}
-use Rattle.abi_lists.specs.List.{HasLawfulAligns, parts_of}
-use Rattle.abi_lists.specs.Part.{free_numbers, part_of}
+use Rattle.abi_lists.specs.List.{HasLawfulAligns}
+use Rattle.abi_lists.specs.Part.{free_numbers, part_of, parts_of}
 use Rattle.abi_lists.specs.Placement.{cut, list_repr}
 use Rattle.abi_lists.proofs.Sorted.Prefixes.{round_lower}
 use Rattle.abi_lists.proofs.Sorted.Tight.{greatest_above}

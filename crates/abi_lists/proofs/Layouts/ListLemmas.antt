@@ -19,10 +19,11 @@ use Rattle.abi_scalar.specs.declared.error.LayoutCalculatorError.{LayoutCalculat
 use Rattle.abi_scalar.specs.declared.error.LayoutCalculatorError.TheVariants.{SizeOverflow, UnexpectedUnsized, OutOfMemory as NoMemory}
 use Rattle.abi_lists.specs.Answer.{IsAnswer}
 use Rattle.abi_lists.specs.Fault.{IsErrorOf, IsFaultIndex, fault_in}
-use Rattle.abi_lists.specs.List.{HasLawfulAligns, IsListError, list_seed, parts_of}
+use Rattle.abi_lists.specs.List.{HasLawfulAligns, IsListError, list_seed}
 use Rattle.abi_lists.specs.ListView.{list_view}
 use Rattle.abi_lists.specs.Order.{IsNamedOrder, movable}
-use Rattle.abi_lists.specs.Part.{IsLawfulPart, part_of}
+use Rattle.abi_lists.specs.Part.{part_of, parts_of}
+use Rattle.abi_lists.specs.LawfulPart.{IsLawfulPart}
 use Rattle.abi_lists.specs.Placement.{IsLawfulPrefix, IsLawfulRepr, IsNonEmptyIfUnsized, list_repr, own_align}
 use Rattle.abi_lists.specs.Run.{IsFaultOf}
 use Rattle.abi_lists.proofs.Placed.FaultLemmas.{unsized_in}

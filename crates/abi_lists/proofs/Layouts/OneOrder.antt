@@ -23,11 +23,11 @@ use Rattle.abi_lists.specs.declared.part.Part.{Part}
 use Rattle.abi_lists.specs.declared.placing.ListFault.{ListFault}
 use Rattle.abi_lists.specs.Fault.{fault_in}
 use Rattle.abi_lists.specs.InOrder.{IsLaidInOrder, IsOrderedLayout}
-use Rattle.abi_lists.specs.List.{IsListBy, IsListLayout, parts_of, unadjusted_of}
+use Rattle.abi_lists.specs.List.{IsListBy, IsListLayout, unadjusted_of}
 use Rattle.abi_lists.specs.ListNiche.{begins_after, niche_in}
 use Rattle.abi_lists.specs.ListView.{list_view}
 use Rattle.abi_lists.specs.Order.{IsNamedOrder, IsSortedBefore, IsSortedOrder, compare_keys, key_at, movable, rule_of, sort_key, tail}
-use Rattle.abi_lists.specs.Part.{part_of}
+use Rattle.abi_lists.specs.Part.{part_of, parts_of}
 use Rattle.abi_lists.specs.Placement.{IsAllowed, IsNonEmptyIfUnsized, list_repr, source_order}
 use Rattle.abi_lists.specs.Run.{IsNamedLayout, IsPlacedIn, IsRun, space_wanted}
 use Rattle.abi_lists.proofs.Sorted.Least.{allowed_permutes, named_allowed}

@@ -22,7 +22,7 @@ use Rattle.abi_lists.specs.declared.order.NicheBias.TheVariants.{Start, End}
 use Rattle.abi_lists.specs.declared.placing.ListFault.{ListFault}
 use Rattle.abi_lists.specs.Fault.{fault_in}
 use Rattle.abi_lists.specs.ListNiche.{begins_after, niche_in}
-use Rattle.abi_lists.specs.Part.{IsLawfulPart}
+use Rattle.abi_lists.specs.LawfulPart.{IsLawfulPart}
 use Rattle.abi_lists.specs.Placement.{IsAllowed, IsNonEmptyIfUnsized, align_of, in_order, offsets_from, size_in, source_order, start_of}
 use Rattle.abi_lists.specs.Run.{IsNamedLayout, IsPlacedIn, space_wanted}
 use Rattle.abi_lists.proofs.Sorted.Least.{allowed_permutes, named_allowed}

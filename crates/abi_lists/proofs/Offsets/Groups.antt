@@ -10,7 +10,7 @@ use Rattle.abi_lists.specs.declared.part.Part.{Part}
 use Rattle.abi_lists.specs.declared.order.NicheBias.{NicheBias}
 use Rattle.abi_lists.specs.declared.order.NicheBias.TheVariants.{Start, End}
 use Rattle.abi_lists.specs.declared.order.SortRule.{SortRule}
-use Rattle.abi_lists.specs.Part.{IsAlignedPart}
+use Rattle.abi_lists.specs.LawfulPart.{IsAlignedPart}
 use Rattle.abi_lists.specs.Order.{size_as_align, biased_group, group_by_pack}
 use Rattle.abi_lists.proofs.Offsets.Rounding.{pow_dvd}
 use Rattle.abi_lists.proofs.Offsets.Ends.{IsGroup}

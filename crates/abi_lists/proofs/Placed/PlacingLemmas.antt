@@ -21,7 +21,8 @@ use Rattle.abi_lists.specs.declared.placing.ListFault.TheVariants.{Unsized, TooL
 use Rattle.abi_lists.specs.Fault.{fault_from, is_empty, is_maybe_unsized}
 use Rattle.abi_lists.specs.declared.list_niche.PlacedField.{PlacedField}
 use Rattle.abi_lists.specs.ListNiche.{IsPlacedField, greatest_niche, greater_niche, niche_of_part, niche_of_placed}
-use Rattle.abi_lists.specs.Part.{IsLawfulPart, is_unsized}
+use Rattle.abi_lists.specs.Part.{is_unsized}
+use Rattle.abi_lists.specs.LawfulPart.{IsLawfulPart}
 use Rattle.abi_lists.specs.Placement.{place_of, offsets_from, end_from, no_part, in_order, source_order}
 use Rattle.abi_lists.proofs.Offsets.Ends.{end_from-append}
 use Rattle.abi_lists.proofs.Views.NicheLemmas.{IsCounted, counted_more, counted_part, first_counted, greater_assoc, greater_none, none_greater}

@@ -16,7 +16,7 @@ use Rattle.abi_lists.specs.declared.placing.ListFault.{ListFault}
 use Rattle.abi_lists.specs.Fault.{fault_in, is_maybe_unsized}
 use Rattle.abi_lists.specs.ListNiche.{begins_after, biased_niche, greatest_niche, niche_in, space_beside}
 use Rattle.abi_lists.specs.Order.{IsNamedOrder, IsSortedBefore}
-use Rattle.abi_lists.specs.Part.{IsAlignedPart, IsLawfulPart}
+use Rattle.abi_lists.specs.LawfulPart.{IsAlignedPart, IsLawfulPart}
 use Rattle.abi_lists.specs.Placement.{IsNonEmptyIfUnsized, align_of, end_from, in_order, offsets_from, place_of, size_in, source_order, start_of}
 use Rattle.abi_lists.specs.Run.{IsFaultOf, IsNamedLayout, IsPlacedIn, may_move, space_wanted}
 use Rattle.abi_lists.proofs.Offsets.Ends.{end_from-above}

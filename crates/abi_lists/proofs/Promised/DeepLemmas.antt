@@ -13,8 +13,9 @@ use Rattle.abi_lists.specs.declared.order.NicheBias.TheVariants.{Start}
 use Rattle.abi_lists.specs.declared.placing.ListFault.{ListFault}
 use Rattle.abi_lists.specs.declared.placing.ListFault.TheVariants.{Unsized, TooLarge, OutOfMemory}
 use Rattle.abi_lists.specs.Fault.{fault_in}
-use Rattle.abi_lists.specs.List.{AreSized, parts_of}
-use Rattle.abi_lists.specs.Part.{IsLawfulPart, is_unsized}
+use Rattle.abi_lists.specs.List.{AreSized}
+use Rattle.abi_lists.specs.Part.{is_unsized, parts_of}
+use Rattle.abi_lists.specs.LawfulPart.{IsLawfulPart}
 use Rattle.abi_lists.specs.Placement.{IsAllowed, IsNonEmptyIfUnsized, IsSized, no_part, size_in, sum_rounded}
 use Rattle.abi_lists.specs.Run.{IsFaultOf, IsInOrder}
 use Rattle.abi_lists.proofs.Placed.FaultLemmas.{clear_of, large_in, memory_in, unsized_in}

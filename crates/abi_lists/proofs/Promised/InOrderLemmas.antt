@@ -22,8 +22,9 @@ use Rattle.abi_lists.specs.Apart.{AreAligned, AreApart}
 use Rattle.abi_lists.specs.Fault.{IsErrorOf, IsFaultIndex, fault_in}
 use Rattle.abi_lists.specs.InOrder.{IsOrderedAnswer, IsOrderedError, IsOrderedLayout}
 use Rattle.abi_lists.specs.Least.{IsOrderOf, IsPlacedBy, LiesInOrder, size_by}
-use Rattle.abi_lists.specs.List.{AreSized, parts_of}
+use Rattle.abi_lists.specs.List.{AreSized}
 use Rattle.abi_lists.specs.ListNiche.{HasLargestNiche, IsNicheOfPart}
+use Rattle.abi_lists.specs.Part.{parts_of}
 use Rattle.abi_lists.specs.Placement.{IsAllowed, cut, list_repr, source_order, start_of}
 use Rattle.abi_lists.specs.Run.{IsInOrder}
 use Rattle.abi_lists.proofs.Offsets.ByNumber.{named_again}

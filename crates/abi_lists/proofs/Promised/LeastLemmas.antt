@@ -18,9 +18,9 @@ use Rattle.abi_lists.specs.Answer.{IsAnswer}
 use Rattle.abi_lists.specs.Apart.{AreAligned, AreApart}
 use Rattle.abi_lists.specs.Fault.{fault_in}
 use Rattle.abi_lists.specs.Least.{IsEachOrderTooLarge, IsLeastSize, IsOrderOf, IsPlacedBy, LiesInSomeOrder}
-use Rattle.abi_lists.specs.List.{AreSized, IsFirstFaultless, IsListAnswer, IsListError, IsListLayout, parts_of}
+use Rattle.abi_lists.specs.List.{AreSized, IsFirstFaultless, IsListAnswer, IsListError, IsListLayout}
 use Rattle.abi_lists.specs.ListNiche.{HasLargestNiche, IsNicheOfPart}
-use Rattle.abi_lists.specs.Part.{part_of}
+use Rattle.abi_lists.specs.Part.{part_of, parts_of}
 use Rattle.abi_lists.specs.Placement.{IsAllowed, IsNonEmptyIfUnsized, IsSized, cut, list_repr, start_of, sum_rounded}
 use Rattle.abi_lists.specs.Run.{IsFaultOf, IsInOrder}
 use Rattle.abi_lists.proofs.Promised.DeepLemmas.{biased_fits, biased_least, biased_sum, fault_large_all, in_order_of, sized_fault}

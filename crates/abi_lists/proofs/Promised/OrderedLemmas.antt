@@ -9,9 +9,9 @@ use Rattle.abi_scalar.specs.Lawful.{IsLawfulNiche}
 use Rattle.abi_lists.specs.declared.part.Part.{Part}
 use Rattle.abi_lists.specs.declared.list_repr.ListRepr.{ListRepr}
 use Rattle.abi_lists.specs.Apart.{AreAligned, AreApart}
-use Rattle.abi_lists.specs.List.{parts_of}
 use Rattle.abi_lists.specs.ListNiche.{HasLargestNiche, IsNicheOfPart, niche_in}
-use Rattle.abi_lists.specs.Part.{IsLawfulPart}
+use Rattle.abi_lists.specs.LawfulPart.{IsLawfulPart}
+use Rattle.abi_lists.specs.Part.{parts_of}
 use Rattle.abi_lists.specs.Placement.{align_of, cut, end_from, in_order, offsets_from, source_order, start_of}
 use Rattle.abi_lists.specs.Run.{IsInOrder}
 use Rattle.abi_lists.proofs.Sorted.Least.{allowed_permutes}

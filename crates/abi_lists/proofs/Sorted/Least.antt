@@ -16,7 +16,8 @@ use Rattle.abi_base.specs.declared.struct_kind.StructKind.TheVariants.{AlwaysSiz
 use Rattle.abi_lists.specs.declared.order.NicheBias.{NicheBias}
 use Rattle.abi_lists.specs.declared.order.NicheBias.TheVariants.{Start, End}
 use Rattle.abi_lists.specs.declared.order.SortRule.{SortRule}
-use Rattle.abi_lists.specs.Part.{max_align, IsAlignedPart}
+use Rattle.abi_lists.specs.Part.{max_align}
+use Rattle.abi_lists.specs.LawfulPart.{IsAlignedPart}
 use Rattle.abi_lists.specs.Placement.{IsLawfulRepr, IsLawfulPrefix, IsNonEmptyIfUnsized, cut, start_of, end_from, align_of, prefix_align, no_part, in_order, source_order, size_in, KeepsTail, IsAllowed, IsSized, sum_rounded}
 use Rattle.abi_lists.specs.Order.{sort_key, descending_key, group_of, movable, tail, rule_of, IsSortedOrder, IsSortedBefore, IsNamedOrder}
 use Rattle.abi_lists.proofs.Offsets.Rounding.{round_mono, rounded_to}

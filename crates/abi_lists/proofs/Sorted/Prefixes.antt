@@ -9,7 +9,7 @@ use Rattle.abi_scalar.specs.declared.layout_data.LayoutData.{LayoutData}
 use Rattle.abi_scalar.specs.declared.repr.ReprOptions.{ReprOptions}
 use Rattle.abi_lists.specs.declared.part.Part.{Part}
 use Rattle.abi_lists.specs.Least.{size_by}
-use Rattle.abi_lists.specs.List.{parts_of}
+use Rattle.abi_lists.specs.Part.{parts_of}
 use Rattle.abi_lists.specs.Placement.{align_of, cut, in_order, list_repr, prefix_align, size_in, start_of}
 use Rattle.abi_lists.proofs.Offsets.Ends.{end_from-mono}
 use Rattle.abi_lists.proofs.Offsets.Rounding.{pow_dvd, rounded_to}

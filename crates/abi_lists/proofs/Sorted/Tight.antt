@@ -9,7 +9,7 @@ use Rattle.std.proofs.lemmas.List.Sorted.{All-permutation}
 use Rattle.abi_lists.specs.declared.part.Part.{Part}
 use Rattle.abi_lists.specs.declared.order.SortKey.{SortKey}
 use Rattle.abi_lists.specs.declared.order.SortRule.{SortRule}
-use Rattle.abi_lists.specs.Part.{IsAlignedPart}
+use Rattle.abi_lists.specs.LawfulPart.{IsAlignedPart}
 use Rattle.abi_lists.specs.Placement.{cut, end_from, no_part, in_order, source_order}
 use Rattle.abi_lists.specs.Order.{key_at, sort_key, group_of, IsSortedOrder}
 use Rattle.abi_lists.proofs.Offsets.Ends.{IsGroup, Grouped, FallsFrom, RisesFrom, Capped, total, end_from-falling, end_from-rising}

@@ -19,7 +19,8 @@ use Rattle.abi_scalar.specs.Scalar.{scalar_align, scalar_size}
 use Rattle.abi_lists.specs.declared.part.Part.{Part}
 use Rattle.abi_lists.specs.ListNiche.{IsNicheAt}
 use Rattle.abi_lists.specs.ListView.{any_unsized, bulky_parts, bulky_view, is_bulky, kept_view, list_view, one_view, pair_view, part_at, two_view}
-use Rattle.abi_lists.specs.Part.{IsLawfulPart, is_empty_view}
+use Rattle.abi_lists.specs.Part.{is_empty_view}
+use Rattle.abi_lists.specs.LawfulPart.{IsLawfulPart}
 use Rattle.abi_lists.specs.Placement.{no_part, source_order}
 use Rattle.abi_lists.proofs.Views.NicheLemmas.{IsNicheOfIndex, readable_size, weaken_niche}
 use Rattle.abi_lists.proofs.Offsets.Rounding.{rounded_to}

@@ -20,8 +20,8 @@ use Rattle.abi_lists.specs.declared.order.NicheBias.{NicheBias}
 use Rattle.abi_lists.specs.declared.order.NicheBias.TheVariants.{Start, End}
 use Rattle.abi_lists.specs.ListNiche.{HasLargestNiche, IsNicheAt, IsNicheOfPart, greater_niche, greatest_niche, niche_of_part}
 use Rattle.abi_lists.specs.declared.part.Part.{Part}
-use Rattle.abi_lists.specs.List.{parts_of}
-use Rattle.abi_lists.specs.Part.{IsLawfulPart, free_numbers, part_of}
+use Rattle.abi_lists.specs.Part.{free_numbers, part_of, parts_of}
+use Rattle.abi_lists.specs.LawfulPart.{IsLawfulPart}
 use Rattle.abi_lists.specs.Placement.{no_part}
 
 larger_by : (dl : TargetDataLayout) (x : Option Niche) (b : Bool) (y z : Niche) → larger_niche dl x (if b then Some z else Some y) ≡ (if b then larger_niche dl x (Some z) else larger_niche dl x (Some y))

@@ -17,8 +17,9 @@ use Rattle.abi_scalar.specs.Shape.{listed_offsets}
 use Rattle.abi_scalar.specs.Simple.{never_layout}
 use Rattle.abi_scalar.proofs.LawfulLemmas.{empty_lawful}
 use Rattle.abi_scalar.proofs.ReadableLemmas.{lawful_readable}
-use Rattle.abi_lists.specs.List.{HasLawfulAligns, parts_of}
+use Rattle.abi_lists.specs.List.{HasLawfulAligns}
 use Rattle.abi_lists.specs.ListView.{list_view}
+use Rattle.abi_lists.specs.Part.{parts_of}
 use Rattle.abi_calc.specs.declared.enums.path.Path.{Path}
 use Rattle.abi_calc.specs.declared.enums.path.Path.TheVariants.{NoValue, OneList, Several}
 use Rattle.abi_calc.specs.Enums.Answer.{HasOneEach, IsTypeAnswer}

@@ -28,7 +28,8 @@ use Rattle.abi_scalar.specs.Simple.{never_layout}
 use Rattle.abi_scalar.specs.Variant.{variant_of, variants_of}
 use Rattle.abi_lists.specs.Apart.{AreApart}
 use Rattle.abi_lists.specs.Fields.{greatest_size}
-use Rattle.abi_lists.specs.List.{HasLawfulAligns, IsListAnswer, parts_of}
+use Rattle.abi_lists.specs.List.{HasLawfulAligns, IsListAnswer}
+use Rattle.abi_lists.specs.Part.{parts_of}
 use Rattle.abi_lists.specs.Placement.{IsLawfulPrefix, IsSized, align_of, cut, end_from, in_order, list_repr, start_of}
 use Rattle.abi_lists.proofs.Offsets.Ends.{end_from-above}
 use Rattle.abi_lists.proofs.Offsets.Rounding.{rounded_to}

@@ -19,7 +19,7 @@ use Rattle.abi_lists.specs.declared.placing.ListFault.{ListFault}
 use Rattle.abi_lists.specs.declared.placing.ListFault.TheVariants.{Unsized, TooLarge, OutOfMemory}
 use Rattle.abi_lists.specs.Array.{elements_layout}
 use Rattle.abi_lists.specs.Fault.{IsErrorOf, fault_in}
-use Rattle.abi_lists.specs.List.{AreSized, parts_of as asked_of}
+use Rattle.abi_lists.specs.List.{AreSized}
 use Rattle.abi_lists.specs.Order.{IsNamedOrder}
 use Rattle.abi_lists.specs.Simd.{simd_answer, IsVectorTooLarge}
 use Rattle.abi_lists.specs.Placement.{IsAllowed, IsNonEmptyIfUnsized, list_repr, size_in}
@@ -32,6 +32,7 @@ use Rattle.abi_lists.proofs.Promised.LeastLemmas.{has_least, never_large as list
 use Rattle.abi_lists.proofs.Placed.RunLemmas.{biased_of}
 use Rattle.abi_lists.proofs.UnionsVectors.TooLarge.{union_sized, vector_sized}
 use Rattle.abi_lists.specs.Answer.{IsAnswer}
+use Rattle.abi_lists.specs.Part.{parts_of as asked_of}
 use Rattle.abi_calc.specs.Coroutine.Layout.{IsStateTag}
 use Rattle.abi_calc.specs.Coroutine.Promised.{IsSizedPromoted}
 use Rattle.abi_calc.specs.Coroutine.Promotion.{promoted_of}

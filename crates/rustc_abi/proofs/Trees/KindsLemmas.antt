@@ -25,8 +25,9 @@ use Rattle.abi_scalar.specs.Shape.{listed_offsets, listed_order}
 use Rattle.abi_scalar.specs.Simple.{never_layout, unit_layout}
 use Rattle.abi_scalar.specs.Variant.{variants_of}
 use Rattle.abi_lists.specs.Array.{elements_layout}
-use Rattle.abi_lists.specs.List.{IsListBy, parts_of}
+use Rattle.abi_lists.specs.List.{IsListBy}
 use Rattle.abi_lists.specs.ListView.{list_view}
+use Rattle.abi_lists.specs.Part.{parts_of}
 use Rattle.abi_lists.specs.Placement.{source_order}
 use Rattle.abi_lists.specs.Simd.{is_tight, lanes_answer, simd_align, simd_answer, simd_view, vector_layout}
 use Rattle.abi_calc.specs.declared.enums.path.Path.{Path}

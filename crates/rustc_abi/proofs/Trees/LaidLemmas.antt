@@ -29,9 +29,10 @@ use Rattle.abi_scalar.proofs.PairLemmas.{pair_lawful_at}
 use Rattle.abi_scalar.proofs.ReadableLemmas.{lawful_readable}
 use Rattle.abi_lists.specs.declared.part.Part.{Part}
 use Rattle.abi_lists.specs.Array.{elements_layout}
-use Rattle.abi_lists.specs.List.{AreSized, parts_of, HasLawfulAligns}
+use Rattle.abi_lists.specs.List.{AreSized, HasLawfulAligns}
 use Rattle.abi_lists.specs.ListView.{any_unsized, bulky_parts, bulky_view, kept_view, list_view, pair_view, part_at, two_view}
-use Rattle.abi_lists.specs.Part.{IsAlignedPart, IsLawfulPart, is_unsized, part_of}
+use Rattle.abi_lists.specs.Part.{is_unsized, part_of, parts_of}
+use Rattle.abi_lists.specs.LawfulPart.{IsAlignedPart, IsLawfulPart}
 use Rattle.abi_lists.specs.Placement.{IsLawfulPrefix, IsNonEmptyIfUnsized, align_of, end_from, in_order, list_repr, size_in, start_of}
 use Rattle.abi_lists.specs.Simd.{if_below, is_tight, lanes_answer, simd_align, simd_answer, simd_view, vector_layout}
 use Rattle.abi_lists.specs.Union.{CountsForView, HasView, IsUnionView, fault_before, first_unsized, sized_fault, union_size}

@@ -9,7 +9,7 @@ use Rattle.abi_scalar.specs.declared.repr.ReprOptions.{ReprOptions}
 use Rattle.abi_scalar.specs.declared.niche.Niche.{Niche}
 use Rattle.abi_scalar.specs.Lawful.{IsLawfulLayout}
 use Rattle.abi_lists.specs.Apart.{AreApart}
-use Rattle.abi_lists.specs.List.{HasLawfulAligns, parts_of}
+use Rattle.abi_lists.specs.List.{HasLawfulAligns}
 use Rattle.abi_base.specs.declared.struct_kind.StructKind.TheVariants.{AlwaysSized, MaybeUnsized}
 use Rattle.abi_lists.specs.ListView.{list_view}
 use Rattle.abi_scalar.specs.Repr.{is_abi_fixed}
@@ -44,6 +44,7 @@ use Rattle.rustc_abi.specs.Adding.{IsAdded, EachFits, VariantsFit, AreAdded}
 use Rattle.rustc_abi.proofs.Values.ElementsLemmas.{IsElementNiche, Fits-elements}
 use Rattle.rustc_abi.proofs.Values.FieldsLemmas.{part_of_list, Fits-fields}
 use Rattle.abi_lists.specs.ListNiche.{IsNicheOfPart}
+use Rattle.abi_lists.specs.Part.{parts_of}
 use Rattle.std.proofs.lemmas.Option.{IfSome_then}
 use Rattle.abi_scalar.specs.Shape.{listed_offsets}
 use Rattle.rustc_abi.proofs.Trees.ListLemmas.{chosen}

@@ -20,8 +20,9 @@ use Rattle.abi_lists.specs.declared.placing.ListFault.TheVariants as fault
 use Rattle.abi_lists.specs.Fault.{IsErrorOf, fault_in}
 use Rattle.abi_lists.specs.InOrder.{IsOrderedAnswer, IsOrderedError}
 use Rattle.abi_lists.specs.Least.{IsOrderOf}
-use Rattle.abi_lists.specs.List.{IsListAnswer, parts_of}
+use Rattle.abi_lists.specs.List.{IsListAnswer}
 use Rattle.abi_lists.specs.Order.{IsNamedOrder}
+use Rattle.abi_lists.specs.Part.{parts_of}
 use Rattle.abi_lists.specs.Placement.{list_repr}
 use Rattle.rustc_abi.specs.declared.error.LayError.{LayError}
 use Rattle.abi_laid.specs.Placed.{Placed, layout_of, size_of}

@@ -14,8 +14,9 @@ use Rattle.abi_lists.specs.declared.placing.ListFault.{ListFault}
 use Rattle.abi_lists.specs.declared.placing.ListFault.TheVariants.{Unsized, TooLarge, OutOfMemory}
 use Rattle.abi_lists.specs.Fault.{IsErrorOf, fault_in}
 use Rattle.abi_lists.specs.InOrder.{IsOrderedError}
-use Rattle.abi_lists.specs.List.{IsListError, parts_of}
+use Rattle.abi_lists.specs.List.{IsListError}
 use Rattle.abi_lists.specs.Order.{IsNamedOrder}
+use Rattle.abi_lists.specs.Part.{parts_of}
 use Rattle.abi_lists.specs.Placement.{IsNonEmptyIfUnsized, list_repr}
 use Rattle.abi_lists.specs.Union.{union_fault, union_layout}
 use Rattle.abi_lists.proofs.UnionsVectors.UnionLemmas.{one_union_view}

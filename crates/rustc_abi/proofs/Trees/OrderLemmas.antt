@@ -10,8 +10,8 @@ use Rattle.abi_scalar.specs.Repr.{has_fixed_order, may_randomize}
 use Rattle.abi_scalar.specs.Shape.{listed_offsets}
 use Rattle.abi_lists.specs.declared.order.NicheBias.TheVariants.{Start}
 use Rattle.abi_lists.specs.Least.{IsOrderOf, IsPlacedBy}
-use Rattle.abi_lists.specs.List.{HasLawfulAligns, parts_of}
-use Rattle.abi_lists.specs.Part.{part_of}
+use Rattle.abi_lists.specs.List.{HasLawfulAligns}
+use Rattle.abi_lists.specs.Part.{part_of, parts_of}
 use Rattle.abi_base.specs.declared.struct_kind.StructKind.TheVariants.{AlwaysSized, MaybeUnsized}
 use Rattle.abi_lists.specs.Placement.{IsAllowed, IsNonEmptyIfUnsized, list_repr}
 use Rattle.abi_scalar.specs.declared.error.LayoutCalculatorError.TheVariants as calculator

@@ -27,9 +27,10 @@ use Rattle.abi_lists.specs.Fault.{IsErrorOf, fault_in}
 use Rattle.abi_lists.specs.Fields.{greatest_repr_align, lies_as_in_c}
 use Rattle.abi_lists.specs.InOrder.{IsLaidInOrder}
 use Rattle.abi_lists.specs.Least.{IsOrderOf}
-use Rattle.abi_lists.specs.List.{AreSized, IsListBy, list_seed, parts_of as asked_of, unadjusted_of}
+use Rattle.abi_lists.specs.List.{AreSized, IsListBy, list_seed, unadjusted_of}
 use Rattle.abi_lists.specs.ListView.{list_view}
 use Rattle.abi_lists.specs.Order.{IsNamedOrder}
+use Rattle.abi_lists.specs.Part.{parts_of as asked_of}
 use Rattle.abi_base.specs.declared.struct_kind.StructKind.{StructKind}
 use Rattle.abi_lists.specs.Placement.{IsNonEmptyIfUnsized, KeepsTail, list_repr, source_order}
 use Rattle.abi_lists.specs.Run.{IsNamedLayout}

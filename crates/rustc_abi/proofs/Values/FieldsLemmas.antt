@@ -28,8 +28,8 @@ use Rattle.abi_laid.specs.Untagged.{UntaggedNamedOf}
 use Rattle.abi_laid.specs.Nodes.{parts_at}
 use Rattle.rustc_abi.specs.Adding.{EachFits}
 use Rattle.std.specs.List.{list_any}
-use Rattle.abi_lists.specs.List.{parts_of}
 use Rattle.abi_lists.specs.ListView.{list_view}
+use Rattle.abi_lists.specs.Part.{parts_of}
 use Rattle.rustc_abi.proofs.Values.FlagLemmas.{flag-fields}
 use Rattle.rustc_abi.proofs.Values.ViewLemmas.{part_true, list_view_true}
 use Rattle.abi_laid.proofs.Bytes.HoldLemmas.{IsNicheAt, niche_in_part, niche_in_whole}

@@ -14,9 +14,8 @@ use Rattle.abi_scalar.specs.declared.backend_repr.BackendRepr.TheVariants.{Scala
 use Rattle.abi_scalar.specs.Lawful.{IsLawfulLayout, IsLawfulView}
 use Rattle.abi_scalar.specs.Pair.{pair_align, pair_size, second_offset}
 use Rattle.abi_lists.specs.declared.part.Part.{Part}
-use Rattle.abi_lists.specs.List.{parts_of}
 use Rattle.abi_lists.specs.ListView.{any_unsized, bulky_parts, bulky_view, kept_view, list_view, pair_view, part_at, two_view}
-use Rattle.abi_lists.specs.Part.{part_of}
+use Rattle.abi_lists.specs.Part.{part_of, parts_of}
 use Rattle.abi_lists.specs.Placement.{no_part}
 use Rattle.abi_laid.specs.Tree.{Trees, no_trees, more_trees}
 use Rattle.abi_laid.specs.Bytes.{bytes_at, number_of}

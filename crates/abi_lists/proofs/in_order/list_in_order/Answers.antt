@@ -9,7 +9,7 @@ use Rattle.abi_lists.specs.declared.part.Part.{Part}
 use Rattle.abi_base.specs.declared.data_layout.TargetDataLayout.{TargetDataLayout}
 use Rattle.abi_scalar.specs.declared.layout_data.LayoutData.{LayoutData}
 use Rattle.abi_scalar.specs.declared.niche.Niche.{Niche}
-use Rattle.abi_lists.specs.List.{parts_of}
+use Rattle.abi_lists.specs.Part.{parts_of}
 use Rattle.abi_lists.specs.Placement.{IsAllowed, IsLawfulRepr, source_order}
 use Rattle.abi_lists.specs.Run.{IsInOrder, IsPlacedIn}
 use Rattle.abi_lists.proofs.Promised.InOrderLemmas.{error_in_order, fault_placed}

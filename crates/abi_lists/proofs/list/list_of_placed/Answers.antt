@@ -3,7 +3,8 @@ use Rattle.std.specs.Int.{next_multiple_of}
 use Rattle.abi_base.specs.DataLayout.{size_bound}
 use Rattle.abi_scalar.specs.declared.fields_shape.FieldsShape.TheVariants.{Arbitrary}
 use Rattle.abi_lists.specs.declared.list_repr.ListRepr.{ListRepr}
-use Rattle.abi_lists.specs.List.{parts_of, unadjusted_of}
+use Rattle.abi_lists.specs.List.{unadjusted_of}
+use Rattle.abi_lists.specs.Part.{parts_of}
 use Rattle.abi_lists.specs.Placement.{IsLawfulRepr, IsNonEmptyIfUnsized, align_of, end_from, in_order, start_of}
 use Rattle.abi_lists.proofs.Views.LawfulList.{made_lawful}
 use Rattle.abi_lists.proofs.Sorted.Least.{align_small}

@@ -2,7 +2,7 @@
 use Rattle.std.proofs.Common.{arith, rules, length, ◌≡◌, ◌<◌, ◌≤◌, ap, append-nil, map, subst, sym}
 use Rattle.std.proofs.lemmas.List.{length-map}
 use Rattle.abi_lists.specs.Order.{IsSortedBefore, movable, sort_key}
-use Rattle.abi_lists.specs.Part.{IsAlignedPart}
+use Rattle.abi_lists.specs.LawfulPart.{IsAlignedPart}
 use Rattle.abi_lists.specs.Placement.{source_order}
 use Rattle.abi_lists.proofs.Sorted.Orders.{order_length}
 use Rattle.abi_lists.proofs.Sorted.Sorting.{few_named, items_have, movable_all, tail_of_all, tail_of_front}

@@ -1,7 +1,7 @@
 use Rattle.std.proofs.Common.{rules, arith, ◌≡◌, ◌<◌, ap, length, inl, nat_lt, sym, ◌∙◌}
 use Rattle.std.specs.Prelude.{if◌then◌else◌}
 use Rattle.abi_lists.specs.ListNiche.{IsPlacedField, niche_found, niche_of_part, niche_of_placed, placed_field}
-use Rattle.abi_lists.specs.Part.{IsLawfulPart}
+use Rattle.abi_lists.specs.LawfulPart.{IsLawfulPart}
 use Rattle.abi_lists.specs.Placement.{start_of}
 use Rattle.abi_lists.proofs.Views.NicheLemmas.{part_fits}
 use Rattle.abi_lists.proofs.Sorted.Sorting.{within_order}

@@ -1,5 +1,5 @@
 use Rattle.std.proofs.Common.{arith, sym, subst}
-use Rattle.abi_lists.specs.Part.{IsAlignedPart}
+use Rattle.abi_lists.specs.LawfulPart.{IsAlignedPart}
 use Rattle.abi_lists.specs.Placement.{no_part}
 use Rattle.abi_lists.proofs.order.SortRule.key_at.Goals as goal
 
