@@ -25,7 +25,7 @@ module _ {F V H : Type 0} (layout_of : H → LayoutData F V) (at : ℕ → F) (f
     least = has_least layout_of at first dl repr kind hs order offsets list law tail r;
     view = list_viewed layout_of at first dl repr kind hs order offsets list r;
     niche = has_own_niche layout_of at first dl repr kind hs order offsets list tail r;
-    largest = has_greatest_niche layout_of at first dl repr kind hs order offsets list tail r;
+    largest = has_greatest_niche layout_of at first dl repr kind hs order offsets list law tail r;
     marks = list_marks layout_of at first dl repr kind hs order offsets list r;
   }
 

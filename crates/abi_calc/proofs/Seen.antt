@@ -1,6 +1,6 @@
 -- How lists, unions and types of one list are seen, from the answers that the rules give them.
 use Rattle.std.proofs.Common.{◌≡◌, ℕ, ◌∙◌, List, ap, length, map, refl, subst, sym}
-use Rattle.std.specs.Prelude.{IfOk, Result, Ok, Err}
+use Rattle.std.specs.Prelude.{All, IfOk, Result, Ok, Err}
 use Rattle.std.proofs.lemmas.List.{length-map}
 use Rattle.abi_base.specs.declared.data_layout.TargetDataLayout.{TargetDataLayout}
 use Rattle.abi_base.specs.declared.niche_optimizations.NicheOptimizations.{NicheOptimizations}
@@ -11,6 +11,7 @@ use Rattle.abi_scalar.specs.declared.layout_data.LayoutData.{LayoutData}
 use Rattle.abi_scalar.specs.declared.repr.ReprOptions.{ReprOptions}
 use Rattle.abi_scalar.specs.declared.fields_shape.FieldsShape.TheVariants.{Union}
 use Rattle.abi_scalar.specs.declared.variants.Variants.TheVariants.{Single}
+use Rattle.abi_scalar.specs.Lawful.{IsLawfulLayout}
 use Rattle.abi_scalar.specs.Repr.{is_abi_fixed}
 use Rattle.abi_scalar.specs.Shape.{listed_offsets}
 use Rattle.abi_lists.specs.List.{IsListLayout}
@@ -40,16 +41,16 @@ module _ {F V H : Type 0} (layout_of : H → LayoutData F V) (at : ℕ → F) (f
       r.view ∙ ap (λ os. list_view dl (is_abi_fixed repr) l.size l.align.abi (parts_of dl (map layout_of hs)) os) (sym (ap listed_offsets r.shape))
 
   -- as a type it is seen so
-  as_type : (optimizations : NicheOptimizations) (index : V) (order offsets : List ℕ) (l : LayoutData F V) → IsNonEmptyIfUnsized kind (length hs) → IsListLayout at first dl repr kind (map layout_of hs) order offsets l
+  as_type : (optimizations : NicheOptimizations) (index : V) (order offsets : List ℕ) (l : LayoutData F V) → All (λ h. IsLawfulLayout dl (layout_of h)) hs → IsNonEmptyIfUnsized kind (length hs) → IsListLayout at first dl repr kind (map layout_of hs) order offsets l
       → IsSeenAsList index dl repr kind optimizations (map layout_of hs) (single_layout index dl optimizations l)
-  as_type Enabled index order offsets l tail r = record {
+  as_type Enabled index order offsets l law tail r = record {
     variants = refl;
     view = list_viewed order offsets l r;
     niche = has_own_niche layout_of at first dl repr kind hs order offsets l tail r;
-    largest = has_greatest_niche layout_of at first dl repr kind hs order offsets l tail r;
+    largest = has_greatest_niche layout_of at first dl repr kind hs order offsets l law tail r;
     marks = record { uninhabited = r.uninhabited; max_repr_align = r.max_repr_align; unadjusted_abi_align = r.unadjusted_abi_align; repr_c = r.repr_c; seed = r.seed };
   }
-  as_type Disabled index order offsets l tail r = record {
+  as_type Disabled index order offsets l law tail r = record {
     variants = refl;
     view = ap (widened_view dl) (list_viewed order offsets l r);
     niche = tt;
@@ -57,11 +58,11 @@ module _ {F V H : Type 0} (layout_of : H → LayoutData F V) (at : ℕ → F) (f
     marks = record { uninhabited = r.uninhabited; max_repr_align = r.max_repr_align; unadjusted_abi_align = r.unadjusted_abi_align; repr_c = r.repr_c; seed = r.seed };
   }
 
-  pub single_seen : (optimizations : NicheOptimizations) (index : V) (result : Result (LayoutData F V) (LayoutCalculatorError H)) → IsNonEmptyIfUnsized kind (length hs)
+  pub single_seen : (optimizations : NicheOptimizations) (index : V) (result : Result (LayoutData F V) (LayoutCalculatorError H)) → All (λ h. IsLawfulLayout dl (layout_of h)) hs → IsNonEmptyIfUnsized kind (length hs)
       → IsSingleAnswer layout_of at first index dl repr kind optimizations hs result → IfOk result (IsSeenAsList index dl repr kind optimizations (map layout_of hs))
-  single_seen optimizations index (Ok l) tail (list, (order, offsets, r), is) =
-      subst (IsSeenAsList index dl repr kind optimizations (map layout_of hs)) (sym is) (as_type optimizations index order offsets list tail r)
-  single_seen optimizations index (Err e) tail h = tt
+  single_seen optimizations index (Ok l) law tail (list, (order, offsets, r), is) =
+      subst (IsSeenAsList index dl repr kind optimizations (map layout_of hs)) (sym is) (as_type optimizations index order offsets list law tail r)
+  single_seen optimizations index (Err e) law tail h = tt
 
 -- a union has one variant, is aligned as its fields ask, and is seen as they tell
 pub union_fields : {F V H : Type 0} (layout_of : H → LayoutData F V) (first : V) (dl : TargetDataLayout) (repr : ReprOptions) (fields : List H) (result : Result (LayoutData F V) (LayoutCalculatorError H))

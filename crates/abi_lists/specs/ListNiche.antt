@@ -3,8 +3,10 @@ use Rattle.std.specs.Prelude.{◌≡◌, ℕ, ◌+◌, ◌-◌, ◌^◌, ◌<◌
 use Rattle.abi_base.specs.declared.data_layout.TargetDataLayout.{TargetDataLayout}
 use Rattle.abi_scalar.specs.declared.niche.Niche.{Niche}
 use Rattle.abi_scalar.specs.declared.layout_data.LayoutData.{LayoutData}
-use Rattle.abi_scalar.specs.Niche.{niche_size, available_in}
+use Rattle.abi_scalar.specs.Count.{AreSoMany}
+use Rattle.abi_scalar.specs.Niche.{niche_size}
 use Rattle.abi_scalar.specs.Pair.{larger_niche}
+use Rattle.abi_scalar.specs.Range.{IsFree}
 use Rattle.abi_lists.specs.declared.list_niche.GreatestNiche.{GreatestNiche}
 use Rattle.abi_lists.specs.declared.list_niche.NicheSoFar.{NicheSoFar}
 use Rattle.abi_lists.specs.declared.list_niche.PlacedField.{PlacedField}
@@ -85,7 +87,15 @@ abbrev pub IsNicheOfPart : {F V : Type 0} → (offsets : List ℕ) → List (Lay
 IsNicheOfPart (o ∷ offsets) (f ∷ fields) niche = IsNicheAt o f.largest_niche niche ⊎ IsNicheOfPart offsets fields niche
 IsNicheOfPart _ _ niche = ⊥
 
+-- so many numbers of the niche's width are free
+abbrev pub HasFree : TargetDataLayout → Niche → (count : ℕ) → Type 0
+HasFree dl niche count = AreSoMany (IsFree (niche_size dl niche) niche.valid_range) count
+
+-- a niche has no more free numbers than another
+abbrev pub HasNoMoreFree : TargetDataLayout → (niche other : Niche) → Type 0
+HasNoMoreFree dl niche other = (few many : ℕ) × HasFree dl niche few × HasFree dl other many × (few ≤ many)
+
 -- no part's niche has more free numbers than this one, which is missing only where no part has a niche
 abbrev pub HasLargestNiche : {F V : Type 0} → TargetDataLayout → Option Niche → List (LayoutData F V) → Type 0
 HasLargestNiche dl None fields = All (λ f. f.largest_niche ≡ None) fields
-HasLargestNiche dl (Some niche) fields = All (λ f. IfSome f.largest_niche (λ own. available_in dl own ≤ available_in dl niche)) fields
+HasLargestNiche dl (Some niche) fields = All (λ f. IfSome f.largest_niche (λ own. HasNoMoreFree dl own niche)) fields

@@ -58,7 +58,7 @@ good_list layout_of at first dl repr kind fields list law all aligns prefix tail
     (lies_in_order layout_of at first dl repr kind fields order offsets list tail answer.2) (has_places layout_of at first dl repr kind fields order offsets list tail answer.2)
     (has_least layout_of at first dl repr kind fields order offsets list all tail answer.2) (keeps_apart layout_of at first dl repr kind fields order offsets list tail answer.2)
     (lies_after layout_of at first dl repr kind fields order offsets list tail answer.2) (has_own_niche layout_of at first dl repr kind fields order offsets list tail answer.2)
-    (has_greatest_niche layout_of at first dl repr kind fields order offsets list tail answer.2)
+    (has_greatest_niche layout_of at first dl repr kind fields order offsets list all tail answer.2)
 
 -- so is each list that the rules answer with
 pub good_answer : {F V H : Type 0} (layout_of : H → LayoutData F V) (at : ℕ → F) (first : V) (dl : TargetDataLayout) (repr : ReprOptions) (kind : StructKind) (fields : List H) (answer : Result (LayoutData F V) (LayoutCalculatorError H)) → IsLawfulDataLayout dl

@@ -38,7 +38,7 @@ no_fewer P few many a b =
     (λ q h. (is_member-Decides Decides-eqb b.members q).1 ((b.exact q).1 ((a.exact q).0 ((is_member-Decides Decides-eqb a.members q).0 h)))) in
     omega (arith, le, a.number, b.number)
 
-one_number : (P : ℕ → Type 0) (few many : ℕ) → AreSoMany P few → AreSoMany P many → few ≡ many
+pub one_number : (P : ℕ → Type 0) (few many : ℕ) → AreSoMany P few → AreSoMany P many → few ≡ many
 one_number P few many a b = omega (arith, no_fewer P few many a b, no_fewer P many few b a)
 
 -- ---- the best range is one

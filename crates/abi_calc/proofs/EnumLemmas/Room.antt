@@ -1,6 +1,6 @@
 -- An enum's lists leave room for a niche that tells the variants apart exactly where there is a layout with such a niche.
 use Rattle.std.proofs.Common.{◌≡◌, ℕ, zero, suc, ◌+◌, ◌^◌, ◌==◌, ◌<◌, ◌≤◌, ◌∙◌, Bool, true, false, List, [], ◌∷◌, Option, None, Some, ap, ap₂, arith, inl, inr, map, refl, subst, sym, ⊎_elim}
-use Rattle.std.specs.Prelude.{◌≢◌, ◌⊎◌, IfSome, if◌then◌else◌, nat_le, slice_get}
+use Rattle.std.specs.Prelude.{◌≢◌, ◌⊎◌, Contains, IfSome, if◌then◌else◌, nat_le, slice_get}
 use Rattle.std.specs.Int.{next_multiple_of}
 use Rattle.std.proofs.lemmas.Bool.{eq-eqb, eqb-true, leb-false, leb-true}
 use Rattle.std.proofs.lemmas.List.Elements.{All-contains}
@@ -12,11 +12,13 @@ use Rattle.abi_scalar.specs.declared.layout_data.LayoutData.{LayoutData}
 use Rattle.abi_scalar.specs.declared.niche.Niche.{Niche}
 use Rattle.abi_scalar.specs.declared.repr.ReprOptions.{ReprOptions}
 use Rattle.abi_scalar.specs.declared.variants.VariantLayout.{VariantLayout}
+use Rattle.abi_scalar.specs.Lawful.{IsLawfulLayout, IsLawfulNiche}
 use Rattle.abi_scalar.specs.Niche.{available_in, niche_size}
-use Rattle.abi_scalar.specs.Range.{free_count}
+use Rattle.abi_scalar.specs.Range.{AreWithin, IsFree, free_count}
 use Rattle.abi_scalar.specs.Shape.{listed_offsets}
 use Rattle.abi_scalar.specs.Variant.{variant_of}
-use Rattle.abi_lists.specs.ListNiche.{HasLargestNiche, IsNicheAt, IsNicheOfPart}
+use Rattle.abi_scalar.proofs.CountLemmas.{free_counted}
+use Rattle.abi_lists.specs.ListNiche.{HasLargestNiche, HasNoMoreFree, IsNicheAt, IsNicheOfPart}
 use Rattle.abi_calc.specs.declared.enums.niche.Room.{Room}
 use Rattle.abi_calc.specs.Enums.Lists.{AreGoodLists, IsGoodList}
 use Rattle.abi_calc.specs.Enums.Niche.{beside_niche, if_list, if_niche, if_placed, if_span, moved_on, needing_numbers, niche_layout, niche_of_list, place_after, room_beside, span_count, span_of, untagged_of, variants_from, with_first, without_niche}
@@ -24,6 +26,7 @@ use Rattle.abi_calc.specs.Enums.Path.{variant_at}
 use Rattle.abi_calc.specs.Enums.Room.{HasFreeNumbers, HasRoomBeside, LeaveRoom}
 use Rattle.abi_calc.specs.Enums.Tagged.{lists_size}
 use Rattle.abi_calc.proofs.EnumLemmas.InNiche.{enough, niche_known, of_some}
+use Rattle.abi_calc.proofs.EnumLemmas.OneRange.{one_number}
 
 -- ---- one variant
 
@@ -112,36 +115,58 @@ module _ {F V : Type 0} (place width whole untagged : ℕ) where
 
 -- ---- the free numbers
 
--- a niche that is a field's own, moved, has as many free numbers
-own_numbers : {F V : Type 0} (dl : TargetDataLayout) (offset : ℕ) (field : LayoutData F V) (fields : List (LayoutData F V)) (niche : Niche) → IsNicheAt offset field.largest_niche niche
-    → HasFreeNumbers dl (available_in dl niche) (field ∷ fields)
-own_numbers dl offset field fields niche h = by field.largest_niche refl h
+-- the ends of the niche's range are numbers of its width
+abbrev HasEnds : TargetDataLayout → Niche → Type 0
+HasEnds dl niche = AreWithin (niche_size dl niche) niche.valid_range
+
+-- some field has at least so many free numbers, as the formula counts them
+abbrev pub HasAvailable : {F V : Type 0} → TargetDataLayout → (count : ℕ) → List (LayoutData F V) → Type 0
+HasAvailable dl count fields =
+    (field : LayoutData _ _) × Contains fields field × (niche : Niche) × (field.largest_niche ≡ Some niche) × HasEnds dl niche × (count ≤ available_in dl niche)
+
+-- which are so many
+counted_numbers : {F V : Type 0} (dl : TargetDataLayout) (count : ℕ) (fields : List (LayoutData F V)) → HasAvailable dl count fields → HasFreeNumbers dl count fields
+counted_numbers dl count fields h = (h.0, h.1, h.2, h.3, available_in dl h.2, free_counted (niche_size dl h.2) h.2.valid_range h.4, h.5)
+
+-- a niche that is a field's own, moved, has its ends
+own_ends : (dl : TargetDataLayout) (offset : ℕ) (own niche : Niche) → IsNicheAt offset (Some own) niche → HasEnds dl niche → HasEnds dl own
+own_ends dl offset own niche at ends =
+    subst (λ range. AreWithin (niche_size dl own) range) at.2 (subst (λ value. AreWithin (primitive_size dl value) niche.valid_range) at.1 ends)
+
+-- and as many free numbers
+own_numbers : {F V : Type 0} (dl : TargetDataLayout) (offset : ℕ) (field : LayoutData F V) (fields : List (LayoutData F V)) (niche : Niche) → HasEnds dl niche → IsNicheAt offset field.largest_niche niche
+    → HasAvailable dl (available_in dl niche) (field ∷ fields)
+own_numbers dl offset field fields niche ends h = by field.largest_niche refl h
   where
-    by : (o : Option Niche) → field.largest_niche ≡ o → IsNicheAt offset o niche → HasFreeNumbers dl (available_in dl niche) (field ∷ fields)
+    by : (o : Option Niche) → field.largest_niche ≡ o → IsNicheAt offset o niche → HasAvailable dl (available_in dl niche) (field ∷ fields)
     by None known at = absurd at
     by (Some own) known at =
         let same : available_in dl niche ≡ available_in dl own = ap₂ (λ value range. free_count (primitive_size dl value) range) at.1 at.2 in
-        (field, (0, omega arith, refl), own, known, omega (arith, same))
+        (field, (0, omega arith, refl), own, known, own_ends dl offset own niche at ends, omega (arith, same))
 
 -- some field has as many free numbers as the list's niche
-part_numbers : {F V : Type 0} (dl : TargetDataLayout) (offsets : List ℕ) (fields : List (LayoutData F V)) (niche : Niche) → IsNicheOfPart offsets fields niche → HasFreeNumbers dl (available_in dl niche) fields
-part_numbers dl [] fields niche h = absurd h
-part_numbers dl (o ∷ offsets) [] niche h = absurd h
-part_numbers dl (o ∷ offsets) (f ∷ fields) niche (inl h) = own_numbers dl o f fields niche h
-part_numbers dl (o ∷ offsets) (f ∷ fields) niche (inr h) =
-    let rest = part_numbers dl offsets fields niche h in
-    (rest.0, (suc rest.1.0, omega (arith, rest.1.1), rest.1.2), rest.2, rest.3, rest.4)
+part_numbers : {F V : Type 0} (dl : TargetDataLayout) (offsets : List ℕ) (fields : List (LayoutData F V)) (niche : Niche) → HasEnds dl niche → IsNicheOfPart offsets fields niche → HasAvailable dl (available_in dl niche) fields
+part_numbers dl [] fields niche ends h = absurd h
+part_numbers dl (o ∷ offsets) [] niche ends h = absurd h
+part_numbers dl (o ∷ offsets) (f ∷ fields) niche ends (inl h) = own_numbers dl o f fields niche ends h
+part_numbers dl (o ∷ offsets) (f ∷ fields) niche ends (inr h) =
+    let rest = part_numbers dl offsets fields niche ends h in
+    (rest.0, (suc rest.1.0, omega (arith, rest.1.1), rest.1.2), rest.2, rest.3, rest.4, rest.5)
 
 -- and so it has fewer
-fewer_numbers : {F V : Type 0} (dl : TargetDataLayout) (few many : ℕ) (fields : List (LayoutData F V)) → few ≤ many → HasFreeNumbers dl many fields → HasFreeNumbers dl few fields
-fewer_numbers dl few many fields less h = (h.0, h.1, h.2, h.3, omega (arith, less, h.4))
+fewer_numbers : {F V : Type 0} (dl : TargetDataLayout) (few many : ℕ) (fields : List (LayoutData F V)) → few ≤ many → HasAvailable dl many fields → HasAvailable dl few fields
+fewer_numbers dl few many fields less h = (h.0, h.1, h.2, h.3, h.4, omega (arith, less, h.5))
 
 -- no field has more than the largest niche
-most_numbers : {F V : Type 0} (dl : TargetDataLayout) (count : ℕ) (fields : List (LayoutData F V)) (niche : Niche) → HasLargestNiche dl (Some niche) fields → HasFreeNumbers dl count fields → count ≤ available_in dl niche
-most_numbers dl count fields niche largest h =
-    let one = All-contains (λ f. IfSome f.largest_niche (λ own. available_in dl own ≤ available_in dl niche)) fields h.0 largest h.1 in
-    let below : available_in dl h.2 ≤ available_in dl niche = of_some (λ own. available_in dl own ≤ available_in dl niche) h.0.largest_niche h.2 h.3 one in
-    omega (arith, below, h.4)
+most_numbers : {F V : Type 0} (dl : TargetDataLayout) (count : ℕ) (fields : List (LayoutData F V)) (niche : Niche) → HasEnds dl niche → HasLargestNiche dl (Some niche) fields → HasFreeNumbers dl count fields
+    → count ≤ available_in dl niche
+most_numbers dl count fields niche ends largest h =
+    let one = All-contains (λ f. IfSome f.largest_niche (λ own. HasNoMoreFree dl own niche)) fields h.0 largest h.1 in
+    let most : HasNoMoreFree dl h.2 niche = of_some (λ own. HasNoMoreFree dl own niche) h.0.largest_niche h.2 h.3 one in
+    let few : h.4 ≡ most.0 = one_number (IsFree (niche_size dl h.2) h.2.valid_range) h.4 most.0 h.5 most.2 in
+    let many : most.1 ≡ available_in dl niche
+    = one_number (IsFree (niche_size dl niche) niche.valid_range) most.1 (available_in dl niche) most.3 (free_counted (niche_size dl niche) niche.valid_range ends) in
+    omega (arith, few, many, most.4, h.6)
 
 module _ {F V H : Type 0} (layout_of : H → LayoutData F V) (at : ℕ → F) (first : V) (dl : TargetDataLayout) (repr : ReprOptions) (kind : StructKind) where
   -- the list at a place is that of the variant at that place
@@ -155,20 +180,26 @@ module _ {F V H : Type 0} (layout_of : H → LayoutData F V) (at : ℕ → F) (f
       (fields, subst (IsGoodList layout_of at first dl repr kind fields) same good.0, refl)
   good_at (fields ∷ variants) (l ∷ lists) (suc i) list good is = good_at variants lists i list good.1 is
 
+  -- its niche has its ends
+  good_ends : (list : LayoutData F V) (niche : Niche) → IsLawfulLayout dl list → list.largest_niche ≡ Some niche → HasEnds dl niche
+  good_ends list niche lawful known = (of_some (IsLawfulNiche dl list.size) list.largest_niche niche known lawful.niche).within
+
   -- where its niche has enough free numbers, so has one of that variant's fields
   pub field_enough : (variants : List (List H)) (lists : List (LayoutData F V)) (i : ℕ) (list : LayoutData F V) (niche : Niche) (count : ℕ) → AreGoodLists layout_of at first dl repr kind variants lists
-      → slice_get lists i ≡ Some list → list.largest_niche ≡ Some niche → count ≤ available_in dl niche → HasFreeNumbers dl count (variant_at (map (map layout_of) variants) i)
+      → slice_get lists i ≡ Some list → list.largest_niche ≡ Some niche → count ≤ available_in dl niche → HasAvailable dl count (variant_at (map (map layout_of) variants) i)
   field_enough variants lists i list niche count good is known much =
       let there = good_at variants lists i list good is in
       let part = of_some (IsNicheOfPart (listed_offsets list.fields) (map layout_of there.0)) list.largest_niche niche known there.1.niche in
-      subst (HasFreeNumbers dl count) (sym there.2) (fewer_numbers dl count (available_in dl niche) (map layout_of there.0) much (part_numbers dl (listed_offsets list.fields) (map layout_of there.0) niche part))
+      subst (HasAvailable dl count) (sym there.2)
+      (fewer_numbers dl count (available_in dl niche) (map layout_of there.0) much
+      (part_numbers dl (listed_offsets list.fields) (map layout_of there.0) niche (good_ends list niche there.1.lawful known) part))
 
   -- and the other way round
   niche_enough : (variants : List (List H)) (lists : List (LayoutData F V)) (i : ℕ) (list : LayoutData F V) (niche : Niche) (count : ℕ) → AreGoodLists layout_of at first dl repr kind variants lists
       → slice_get lists i ≡ Some list → list.largest_niche ≡ Some niche → HasFreeNumbers dl count (variant_at (map (map layout_of) variants) i) → count ≤ available_in dl niche
   niche_enough variants lists i list niche count good is known numbers =
       let there = good_at variants lists i list good is in
-      most_numbers dl count (map layout_of there.0) niche (subst (λ o. HasLargestNiche dl o (map layout_of there.0)) known there.1.largest) (subst (HasFreeNumbers dl count) there.2 numbers)
+      most_numbers dl count (map layout_of there.0) niche (good_ends list niche there.1.lawful known) (subst (λ o. HasLargestNiche dl o (map layout_of there.0)) known there.1.largest) (subst (HasFreeNumbers dl count) there.2 numbers)
 
 -- ---- together
 
@@ -180,7 +211,8 @@ module _ {F V H : Type 0} (layout_of : H → LayoutData F V) (at : ℕ → F) (i
   leave good span list niche placed ends is known much all = record {
     span = span;
     ends = ends;
-    numbers = field_enough layout_of at (index 0) dl repr AlwaysSized variants lists (untagged_of lists) list niche (span_count span) good is known much;
+    numbers = counted_numbers dl (span_count span) (variant_at (map (map layout_of) variants) (untagged_of lists))
+        (field_enough layout_of at (index 0) dl repr AlwaysSized variants lists (untagged_of lists) list niche (span_count span) good is known much);
     niche = niche;
     largest = ap niche_of_list is ∙ known;
     beside = λ i other there apart. each_room niche.offset (niche_size dl niche) (lists_size dl lists) (untagged_of lists) 0 lists placed all i other there (λ so. apart (omega (arith, so)));

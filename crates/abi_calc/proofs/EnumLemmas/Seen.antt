@@ -1,12 +1,13 @@
 -- How a type of one list is seen, by the way that its variants tell.
 use Rattle.std.proofs.Common.{◌≡◌, ℕ, ◌∙◌, Bool, List, ap, length, map, subst}
-use Rattle.std.specs.Prelude.{IfOk, Result}
+use Rattle.std.specs.Prelude.{All, IfOk, Result}
 use Rattle.abi_base.specs.declared.data_layout.TargetDataLayout.{TargetDataLayout}
 use Rattle.abi_base.specs.declared.niche_optimizations.NicheOptimizations.{NicheOptimizations}
 use Rattle.abi_base.specs.declared.struct_kind.StructKind.{StructKind}
 use Rattle.abi_scalar.specs.declared.error.LayoutCalculatorError.{LayoutCalculatorError}
 use Rattle.abi_scalar.specs.declared.layout_data.LayoutData.{LayoutData}
 use Rattle.abi_scalar.specs.declared.repr.ReprOptions.{ReprOptions}
+use Rattle.abi_scalar.specs.Lawful.{IsLawfulLayout}
 use Rattle.abi_lists.specs.Placement.{IsNonEmptyIfUnsized}
 use Rattle.abi_calc.specs.declared.enums.path.Path.{Path}
 use Rattle.abi_calc.specs.declared.enums.path.Path.TheVariants.{OneList}
@@ -24,10 +25,10 @@ same_place i j here there = cc
 -- the list that was read is seen as that of the variant that the type's way names
 pub seen_at : {F V H : Type 0} (layout_of : H → LayoutData F V) (at : ℕ → F) (index : ℕ → V) (dl : TargetDataLayout) (repr : ReprOptions) (variants : List (List H)) (is_enum always_sized : Bool)
     (optimizations : NicheOptimizations) (path : Path) (r : Result (LayoutData F V) (LayoutCalculatorError H)) (i : ℕ) (kind : StructKind) (fields : List H) (named : V)
-    → IsReadAt is_enum always_sized variants path i kind fields → named ≡ index i → IsNonEmptyIfUnsized kind (length fields)
+    → IsReadAt is_enum always_sized variants path i kind fields → named ≡ index i → All (λ f. IsLawfulLayout dl (layout_of f)) fields → IsNonEmptyIfUnsized kind (length fields)
     → IsSingleAnswer layout_of at (index 0) named dl repr kind optimizations fields r
     → (j : ℕ) → path ≡ OneList j → IfOk r (IsSeenAsList (index j) dl repr (kind_at is_enum always_sized variants j) optimizations (map layout_of (variant_at variants j)))
-seen_at layout_of at index dl repr variants is_enum always_sized optimizations path r i kind fields named read same tail h j there =
-    let here : IfOk r (IsSeenAsList named dl repr kind optimizations (map layout_of fields)) = single_seen layout_of at (index 0) dl repr kind fields optimizations named r tail h in
+seen_at layout_of at index dl repr variants is_enum always_sized optimizations path r i kind fields named read same law tail h j there =
+    let here : IfOk r (IsSeenAsList named dl repr kind optimizations (map layout_of fields)) = single_seen layout_of at (index 0) dl repr kind fields optimizations named r law tail h in
     at_listed (λ k fs. IfOk r (IsSeenAsList (index j) dl repr k optimizations (map layout_of fs))) is_enum always_sized variants path i kind fields read
     (subst (λ v. IfOk r (IsSeenAsList v dl repr kind optimizations (map layout_of fields))) (same ∙ ap index (same_place i j read.way there)) here) j there

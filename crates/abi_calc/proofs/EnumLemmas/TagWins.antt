@@ -37,14 +37,13 @@ use Rattle.abi_calc.specs.Enums.Choice.{IsNicheAnswer, better, takes_niche}
 use Rattle.abi_calc.specs.Enums.Lists.{AreGoodLists, AreListLayouts, IsGoodList, align_with_all}
 use Rattle.abi_calc.specs.Enums.Niche.{span_count, untagged_of}
 use Rattle.abi_calc.specs.Enums.Path.{variant_at}
-use Rattle.abi_calc.specs.Enums.Room.{HasFreeNumbers}
 use Rattle.abi_calc.specs.Enums.Several.{IsBestAnswer, IsBetterAnswer, better_of}
 use Rattle.abi_calc.specs.Enums.Tagged.{IsTaggedAnswer, lists_align, lists_size}
 use Rattle.abi_calc.proofs.EnumLemmas.Bounds.{beside_niche}
 use Rattle.abi_calc.proofs.EnumLemmas.GoodLists.{good_lists}
 use Rattle.abi_calc.proofs.EnumLemmas.Lists.{good_lawful}
 use Rattle.abi_calc.proofs.EnumLemmas.NicheLawful.{niche_parts, niche_size_is, own_niche}
-use Rattle.abi_calc.proofs.EnumLemmas.Room.{field_enough}
+use Rattle.abi_calc.proofs.EnumLemmas.Room.{HasAvailable, field_enough}
 use Rattle.abi_calc.proofs.EnumLemmas.SomeEnum.{some_niche}
 use Rattle.abi_calc.proofs.EnumLemmas.Sums.{apart_sum}
 
@@ -64,12 +63,12 @@ most_above h a (x ∷ xs) =
 
 module _ {F V : Type 0} (dl : TargetDataLayout) where
   -- no field of these has more free numbers
-  numbers_below : (count : ℕ) (fields : List (LayoutData F V)) → HasFreeNumbers dl count fields → count ≤ greatest_free dl fields
+  numbers_below : (count : ℕ) (fields : List (LayoutData F V)) → HasAvailable dl count fields → count ≤ greatest_free dl fields
   numbers_below count fields h =
       let most : free_numbers dl h.0.largest_niche ≤ greatest_free dl fields
       = All-contains (λ f. free_numbers dl f.largest_niche ≤ greatest_free dl fields) fields h.0 (most_above (λ f. free_numbers dl f.largest_niche) 0 fields) h.1 in
       let same : free_numbers dl h.0.largest_niche ≡ available_in dl h.2 = ap (free_numbers dl) h.3 in
-      omega (arith, most, same, h.4)
+      omega (arith, most, same, h.5)
 
   -- nor has any variant
   variant_below : (a : ℕ) (variants : List (List (LayoutData F V))) (i : ℕ) → greatest_free dl (variant_at variants i) ≤ fold (λ most fields. max most (greatest_free dl fields)) a variants
@@ -80,7 +79,7 @@ module _ {F V : Type 0} (dl : TargetDataLayout) where
       omega (arith, rest)
   variant_below a (fields ∷ variants) (suc i) = variant_below (max a (greatest_free dl fields)) variants i
 
-  all_below : (count : ℕ) (variants : List (List (LayoutData F V))) (i : ℕ) → HasFreeNumbers dl count (variant_at variants i) → count ≤ greatest_of_all dl variants
+  all_below : (count : ℕ) (variants : List (List (LayoutData F V))) (i : ℕ) → HasAvailable dl count (variant_at variants i) → count ≤ greatest_of_all dl variants
   all_below count variants i h = omega (arith, numbers_below count (variant_at variants i) h, variant_below 0 variants i)
 
 -- numbers that are handed out are free no more

@@ -7,7 +7,8 @@ use Rattle.abi_base.specs.declared.struct_kind.StructKind.TheVariants.{AlwaysSiz
 use Rattle.abi_scalar.specs.declared.layout_data.LayoutData.{LayoutData}
 use Rattle.abi_scalar.specs.declared.niche.Niche.{Niche}
 use Rattle.abi_scalar.specs.declared.repr.ReprOptions.{ReprOptions}
-use Rattle.abi_scalar.specs.Niche.{available_in, niche_size}
+use Rattle.abi_scalar.specs.Niche.{niche_size}
+use Rattle.abi_lists.specs.ListNiche.{HasFree}
 use Rattle.abi_calc.specs.Enums.Lists.{AreListLayouts}
 use Rattle.abi_calc.specs.Enums.Niche.{needing_numbers, niche_of_list, span_count, span_of, untagged_of}
 use Rattle.abi_calc.specs.Enums.Path.{is_free, variant_at}
@@ -17,7 +18,7 @@ use Rattle.abi_calc.specs.Enums.Tagged.{lists_size}
 -- some field has at least so many free numbers
 abbrev pub HasFreeNumbers : {F V : Type 0} → TargetDataLayout → (count : ℕ) → List (LayoutData F V) → Type 0
 HasFreeNumbers dl count fields =
-    (field : LayoutData _ _) × Contains fields field × (niche : Niche) × (field.largest_niche ≡ Some niche) × (count ≤ available_in dl niche)
+    (field : LayoutData _ _) × Contains fields field × (niche : Niche) × (field.largest_niche ≡ Some niche) × (free : ℕ) × HasFree dl niche free × (count ≤ free)
 
 -- the list ends before a niche of so many bytes at this place; or, laid at the first multiple of its alignment after it, inside
 -- the whole

@@ -10,6 +10,7 @@ use Rattle.abi_scalar.specs.declared.error.LayoutCalculatorError.TheVariants.{Ba
 use Rattle.abi_scalar.specs.declared.fields_shape.FieldsShape.TheVariants.{Arbitrary}
 use Rattle.abi_scalar.specs.declared.layout_data.LayoutData.{LayoutData}
 use Rattle.abi_scalar.specs.declared.repr.ReprOptions.{ReprOptions}
+use Rattle.abi_scalar.specs.Lawful.{IsLawfulLayout}
 use Rattle.abi_scalar.specs.Order.{HasPlaceForEach, IsAscending}
 use Rattle.abi_scalar.specs.Shape.{listed_offsets}
 use Rattle.abi_lists.specs.declared.list_repr.ListRepr.{ListRepr}
@@ -104,8 +105,9 @@ module _ {F V H : Type 0} (layout_of : H → LayoutData F V) (at : ℕ → F) (f
   handed_niche offsets l r = rw r.shape (ordered_of_part layout_of dl (list_repr dl repr kind) hs order offsets l.size l.align.abi l.largest_niche (handed offsets l r))
 
   -- and no field's is greater
-  pub handed_largest : (offsets : List ℕ) (l : LayoutData F V) → IsOrderedLayout at first dl repr kind (map layout_of hs) order offsets l → HasLargestNiche dl l.largest_niche (map layout_of hs)
-  handed_largest offsets l r = ordered_largest layout_of dl (list_repr dl repr kind) hs order offsets l.size l.align.abi l.largest_niche (handed offsets l r)
+  pub handed_largest : (offsets : List ℕ) (l : LayoutData F V) → All (λ h. IsLawfulLayout dl (layout_of h)) hs → IsOrderedLayout at first dl repr kind (map layout_of hs) order offsets l
+      → HasLargestNiche dl l.largest_niche (map layout_of hs)
+  handed_largest offsets l law r = ordered_largest layout_of dl (list_repr dl repr kind) hs order offsets l.size l.align.abi l.largest_niche law (handed offsets l r)
 
   -- its memory order has a place for each field
   pub handed_places : (offsets : List ℕ) (l : LayoutData F V) → IsOrderedLayout at first dl repr kind (map layout_of hs) order offsets l → HasPlaceForEach l.fields

@@ -118,10 +118,10 @@ module _ {F V H : Type 0} (layout_of : H → LayoutData F V) (at : ℕ → F) (f
       rw r.shape (ordered_of_part layout_of dl (list_repr dl repr kind) hs order offsets l.size l.align.abi l.largest_niche (laid order offsets l tail r))
 
   -- and no field's is greater
-  pub has_greatest_niche : (order offsets : List ℕ) (l : LayoutData F V) → IsNonEmptyIfUnsized kind (length hs) → IsListLayout at first dl repr kind (map layout_of hs) order offsets l
-      → HasLargestNiche dl l.largest_niche (map layout_of hs)
-  has_greatest_niche order offsets l tail r =
-      ordered_largest layout_of dl (list_repr dl repr kind) hs order offsets l.size l.align.abi l.largest_niche (laid order offsets l tail r)
+  pub has_greatest_niche : (order offsets : List ℕ) (l : LayoutData F V) → All (λ h. IsLawfulLayout dl (layout_of h)) hs → IsNonEmptyIfUnsized kind (length hs)
+      → IsListLayout at first dl repr kind (map layout_of hs) order offsets l → HasLargestNiche dl l.largest_niche (map layout_of hs)
+  has_greatest_niche order offsets l law tail r =
+      ordered_largest layout_of dl (list_repr dl repr kind) hs order offsets l.size l.align.abi l.largest_niche law (laid order offsets l tail r)
 
   -- in free order its size is the sum of the fields', rounded up once
   pub sums_up : (order offsets : List ℕ) (l : LayoutData F V) → All (λ h. IsLawfulLayout dl (layout_of h)) hs → IsTrue (list_repr dl repr kind).reorderable → IsSized kind

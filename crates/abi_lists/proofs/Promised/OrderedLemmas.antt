@@ -5,7 +5,7 @@ use Rattle.std.proofs.lemmas.List.Sorted.{All-permutation, IsPermutation-sym}
 use Rattle.abi_base.specs.declared.data_layout.TargetDataLayout.{TargetDataLayout}
 use Rattle.abi_scalar.specs.declared.layout_data.LayoutData.{LayoutData}
 use Rattle.abi_scalar.specs.declared.niche.Niche.{Niche}
-use Rattle.abi_scalar.specs.Lawful.{IsLawfulNiche}
+use Rattle.abi_scalar.specs.Lawful.{IsLawfulLayout, IsLawfulNiche}
 use Rattle.abi_lists.specs.declared.part.Part.{Part}
 use Rattle.abi_lists.specs.declared.list_repr.ListRepr.{ListRepr}
 use Rattle.abi_lists.specs.Apart.{AreAligned, AreApart}
@@ -94,15 +94,17 @@ ordered_of_part layout_of dl repr hs order offsets size align niche b =
     (ordered_index dl repr (parts_of dl (map layout_of hs)) order offsets size align niche b)
 
 pub ordered_largest : {F V H : Type 0} (layout_of : H → LayoutData F V) (dl : TargetDataLayout) (repr : ListRepr) (hs : List H) (order offsets : List ℕ) (size align : ℕ) (niche : Option Niche)
-    → IsInOrder dl repr (parts_of dl (map layout_of hs)) order offsets size align niche
+    → All (λ h. IsLawfulLayout dl (layout_of h)) hs → IsInOrder dl repr (parts_of dl (map layout_of hs)) order offsets size align niche
     → HasLargestNiche dl niche (map layout_of hs)
-ordered_largest layout_of dl repr hs order offsets size align niche b =
+ordered_largest layout_of dl repr hs order offsets size align niche law b =
     let parts = parts_of dl (map layout_of hs) in
     let from = start_of repr.pack repr.kind in
     let p = ordered_permutes dl repr (parts_of dl (map layout_of hs)) order offsets size align niche b in
     let many : length (offsets_from repr.pack (start_of repr.pack repr.kind) (in_order (parts_of dl (map layout_of hs)) order)) ≡ length (in_order (parts_of dl (map layout_of hs)) order)
     = length-offsets repr.pack (start_of repr.pack repr.kind) (in_order (parts_of dl (map layout_of hs)) order) in
-    rw b.placed.largest (largest_of_parts layout_of dl (niche_in dl repr b.bias (parts_of dl (map layout_of hs)) order) hs
+    let own : IfSome (niche_in dl repr b.bias (parts_of dl (map layout_of hs)) order) (IsNicheOfPart offsets (map layout_of hs))
+    = subst (λ n. IfSome n (IsNicheOfPart offsets (map layout_of hs))) b.placed.largest (ordered_of_part layout_of dl repr hs order offsets size align niche b) in
+    rw b.placed.largest (largest_of_parts layout_of dl (niche_in dl repr b.bias (parts_of dl (map layout_of hs)) order) hs offsets law own
     (All-permutation (λ p. IsBelow dl p.largest_niche (niche_in dl repr b.bias (parts_of dl (map layout_of hs)) order)) (in_order (parts_of dl (map layout_of hs)) order) (parts_of dl (map layout_of hs))
     (IsPermutation-sym (parts_of dl (map layout_of hs)) (in_order (parts_of dl (map layout_of hs)) order) (in_order-permutation (parts_of dl (map layout_of hs)) order p))
     (greatest_below b.bias dl (offsets_from repr.pack (start_of repr.pack repr.kind) (in_order (parts_of dl (map layout_of hs)) order)) (in_order (parts_of dl (map layout_of hs)) order) many)))

@@ -12,13 +12,15 @@ use Rattle.abi_base.specs.declared.primitive.Primitive.TheVariants.{Int, Float a
 use Rattle.abi_base.specs.Primitive.{primitive_size, IsLawfulPrimitive, KnowsPrimitive}
 use Rattle.abi_scalar.specs.declared.niche.Niche.{Niche}
 use Rattle.abi_scalar.specs.declared.layout_data.LayoutData.{LayoutData}
-use Rattle.abi_scalar.specs.Lawful.{IsLawfulNiche}
+use Rattle.abi_scalar.specs.Lawful.{IsLawfulLayout, IsLawfulNiche}
 use Rattle.abi_scalar.specs.Niche.{IsReadableNiche, available_in, niche_size}
+use Rattle.abi_scalar.specs.Range.{AreWithin}
+use Rattle.abi_scalar.proofs.CountLemmas.{free_counted}
 use Rattle.abi_scalar.proofs.RangeLemmas.{none_free}
 use Rattle.abi_scalar.specs.Pair.{larger_niche}
 use Rattle.abi_lists.specs.declared.order.NicheBias.{NicheBias}
 use Rattle.abi_lists.specs.declared.order.NicheBias.TheVariants.{Start, End}
-use Rattle.abi_lists.specs.ListNiche.{HasLargestNiche, IsNicheAt, IsNicheOfPart, greater_niche, greatest_niche, niche_of_part}
+use Rattle.abi_lists.specs.ListNiche.{HasLargestNiche, HasNoMoreFree, IsNicheAt, IsNicheOfPart, greater_niche, greatest_niche, niche_of_part}
 use Rattle.abi_lists.specs.declared.part.Part.{Part}
 use Rattle.abi_lists.specs.Part.{free_numbers, part_of, parts_of}
 use Rattle.abi_lists.specs.LawfulPart.{IsLawfulPart}
@@ -224,7 +226,7 @@ greatest_below bias dl (o ∷ offsets) (p ∷ parts) e =
     (below_earlier bias dl p.largest_niche here later (below_part dl o p.largest_niche))
     (below_all bias dl here later parts (greatest_below bias dl offsets parts (omega arith)))
 
--- what is below for parts makes the largest for their layouts
+-- what is below for parts is below for their layouts
 below_layouts : {F V H : Type 0} (layout_of : H → LayoutData F V) (dl : TargetDataLayout) (best : Option Niche) (hs : List H)
     → All (λ p. IsBelow dl p.largest_niche best) (parts_of dl (map layout_of hs)) → All (λ f. IsBelow dl f.largest_niche best) (map layout_of hs)
 below_layouts layout_of dl best [] h = All-nil (λ f. IsBelow dl f.largest_niche best)
@@ -232,14 +234,6 @@ below_layouts layout_of dl best (x ∷ hs) h =
     All-cons (λ f. IsBelow dl f.largest_niche best) (layout_of x) (map layout_of hs)
     (All-head (λ p. IsBelow dl p.largest_niche best) (part_of dl (layout_of x)) (parts_of dl (map layout_of hs)) h)
     (below_layouts layout_of dl best hs (All-tail (λ p. IsBelow dl p.largest_niche best) (part_of dl (layout_of x)) (parts_of dl (map layout_of hs)) h))
-
-largest_of_below : {F V : Type 0} (dl : TargetDataLayout) (best : Option Niche) (fields : List (LayoutData F V)) → All (λ f. IsBelow dl f.largest_niche best) fields → HasLargestNiche dl best fields
-largest_of_below dl None fields h = h
-largest_of_below dl (Some niche) fields h = h
-
-pub largest_of_parts : {F V H : Type 0} (layout_of : H → LayoutData F V) (dl : TargetDataLayout) (best : Option Niche) (hs : List H)
-    → All (λ p. IsBelow dl p.largest_niche best) (parts_of dl (map layout_of hs)) → HasLargestNiche dl best (map layout_of hs)
-largest_of_parts layout_of dl best hs h = largest_of_below dl best (map layout_of hs) (below_layouts layout_of dl best hs h)
 
 -- ---- which part's niche it is
 
@@ -277,3 +271,53 @@ of_part layout_of dl offsets [] n i e short h = absurd (omega arith)
 of_part layout_of dl [] (x ∷ hs) n i e short h = cc
 of_part layout_of dl (o ∷ offsets) (x ∷ hs) n zero e short h = inl h
 of_part layout_of dl (o ∷ offsets) (x ∷ hs) n (suc i) e short h = inr (of_part layout_of dl offsets hs n i (omega arith) (omega arith) h)
+
+-- ---- the free numbers are as many as the formula says
+
+-- the ends of the niche's range are numbers of its width
+abbrev HasEnds : TargetDataLayout → Niche → Type 0
+HasEnds dl niche = AreWithin (niche_size dl niche) niche.valid_range
+
+ends_at : (dl : TargetDataLayout) (offset : ℕ) (own : Option Niche) (niche : Niche) → IsNicheAt offset own niche → IfSome own (HasEnds dl) → HasEnds dl niche
+ends_at dl offset None niche at h = absurd at
+ends_at dl offset (Some own) niche at h =
+    subst (λ range. AreWithin (primitive_size dl niche.value) range) (sym at.2) (subst (λ value. AreWithin (primitive_size dl value) own.valid_range) (sym at.1) h)
+
+ends_of_part : {F V : Type 0} (dl : TargetDataLayout) (offsets : List ℕ) (fields : List (LayoutData F V)) (niche : Niche) → IsNicheOfPart offsets fields niche
+    → All (λ f. IfSome f.largest_niche (HasEnds dl)) fields → HasEnds dl niche
+ends_of_part dl [] fields niche h ends = absurd h
+ends_of_part dl (o ∷ offsets) [] niche h ends = absurd h
+ends_of_part dl (o ∷ offsets) (f ∷ fields) niche (inl at) ends = ends_at dl o f.largest_niche niche at (All-head (λ f. IfSome f.largest_niche (HasEnds dl)) f fields ends)
+ends_of_part dl (o ∷ offsets) (f ∷ fields) niche (inr h) ends = ends_of_part dl offsets fields niche h (All-tail (λ f. IfSome f.largest_niche (HasEnds dl)) f fields ends)
+
+ends_of_lawful : {F V H : Type 0} (layout_of : H → LayoutData F V) (dl : TargetDataLayout) (hs : List H) → All (λ h. IsLawfulLayout dl (layout_of h)) hs
+    → All (λ f. IfSome f.largest_niche (HasEnds dl)) (map layout_of hs)
+ends_of_lawful layout_of dl [] law = All-nil (λ f. IfSome f.largest_niche (HasEnds dl))
+ends_of_lawful layout_of dl (x ∷ hs) law =
+    All-cons (λ f. IfSome f.largest_niche (HasEnds dl)) (layout_of x) (map layout_of hs)
+    (weaken (IsLawfulNiche dl (layout_of x).size) (HasEnds dl) (layout_of x).largest_niche (λ n h. h.within) (All-head (λ h. IsLawfulLayout dl (layout_of h)) x hs law).niche)
+    (ends_of_lawful layout_of dl hs (All-tail (λ h. IsLawfulLayout dl (layout_of h)) x hs law))
+
+no_more : (dl : TargetDataLayout) (own : Option Niche) (niche : Niche) → IfSome own (HasEnds dl) → HasEnds dl niche → IsBelow dl own (Some niche) → IfSome own (λ o. HasNoMoreFree dl o niche)
+no_more dl None niche a b h = tt
+no_more dl (Some own) niche a b h = (
+  available_in dl own,
+  available_in dl niche,
+  free_counted (niche_size dl own) own.valid_range a,
+  free_counted (niche_size dl niche) niche.valid_range b,
+  h,
+)
+
+largest_of_below : {F V : Type 0} (dl : TargetDataLayout) (best : Option Niche) (fields : List (LayoutData F V)) → All (λ f. IfSome f.largest_niche (HasEnds dl)) fields → IfSome best (HasEnds dl)
+    → All (λ f. IsBelow dl f.largest_niche best) fields → HasLargestNiche dl best fields
+largest_of_below dl None fields ends own h = h
+largest_of_below dl (Some niche) fields ends own h = λ k d l. no_more dl (get_or fields k d).largest_niche niche (ends k d l) own (h k d l)
+
+-- what is below for parts makes the largest for their layouts, of which one has it
+pub largest_of_parts : {F V H : Type 0} (layout_of : H → LayoutData F V) (dl : TargetDataLayout) (best : Option Niche) (hs : List H) (offsets : List ℕ) → All (λ h. IsLawfulLayout dl (layout_of h)) hs
+    → IfSome best (IsNicheOfPart offsets (map layout_of hs)) → All (λ p. IsBelow dl p.largest_niche best) (parts_of dl (map layout_of hs)) → HasLargestNiche dl best (map layout_of hs)
+largest_of_parts layout_of dl best hs offsets law own h =
+    let ends = ends_of_lawful layout_of dl hs law in
+    largest_of_below dl best (map layout_of hs) ends
+    (weaken (IsNicheOfPart offsets (map layout_of hs)) (HasEnds dl) best (λ n part. ends_of_part dl offsets (map layout_of hs) n part ends) own)
+    (below_layouts layout_of dl best hs h)

@@ -173,9 +173,9 @@ module _ (dl : TargetDataLayout) (law : IsLawfulDataLayout dl) (repr : ReprOptio
       (variant_at variants i) (Ok l) → With l l.variants
   taken_one i l h =
       let ps : List Placed = variant_at variants i in
-      let list = field_list layout_of (λ i. i) 0 dl repr AlwaysSized ps h.0
-      (lawful_at dl law repr (discriminants_of all) variants none long whole i) tt h.1 in
-      let seen = single_seen layout_of (λ i. i) 0 dl repr AlwaysSized ps Enabled i (Ok l) tt h in
+      let own = lawful_at dl law repr (discriminants_of all) variants none long whole i in
+      let list = field_list layout_of (λ i. i) 0 dl repr AlwaysSized ps h.0 own tt h.1 in
+      let seen = single_seen layout_of (λ i. i) 0 dl repr AlwaysSized ps Enabled i (Ok l) own tt h in
       let fields : listed_offsets l.fields ≡ listed_offsets h.0.fields = ap (λ (m : Layout). listed_offsets m.fields) h.2 in
       let count : length (listed_offsets l.fields) ≡ length ps
       = ap length fields ∙ list.placed.2.count ∙ length-map ps layout_of in
@@ -329,10 +329,10 @@ module _ (dl : TargetDataLayout) (law : IsLawfulDataLayout dl) where
       (taken.0, taken.1, (refl, taken.2))
 
   taken_ordered : (repr : ReprOptions) (always_sized : Bool) (order : List ℕ) (all : Trees) (ps : List Placed)
-      (layout : Layout)
+      (layout : Layout) → AreLaying dl all (Ok ps)
       → IsListedInOrder dl (randomized repr) (kind_of always_sized ps) order (map layout_of ps) (Ok layout)
       → IsTaken dl (struct repr always_sized (Some order) all) (placed_fields repr ps layout)
-  taken_ordered repr always_sized order all ps layout listed =
+  taken_ordered repr always_sized order all ps layout there listed =
       let free : ReprOptions = randomized repr in
       let kind = kind_of always_sized ps in
       let lies = in_this_order dl free kind order ps layout listed in
@@ -340,7 +340,7 @@ module _ (dl : TargetDataLayout) (law : IsLawfulDataLayout dl) where
       let own = ordered_of_part layout_of dl (list_repr dl free kind) ps order listed.0 layout.size layout.align.abi
       layout.largest_niche lies in
       let most = ordered_largest layout_of dl (list_repr dl free kind) ps order listed.0 layout.size layout.align.abi
-      layout.largest_niche lies in
+      layout.largest_niche (whole_lawful dl ps (all_whole dl law all ps there)) lies in
       let taken = taken_there dl free (kind_of always_sized) ps layout (ordered_count dl free kind order ps layout listed) (
         record {
           own = subst (λ os. IfSome layout.largest_niche (IsNicheOfPart os (map layout_of ps))) at own;
@@ -452,7 +452,7 @@ module _ (dl : TargetDataLayout) (law : IsLawfulDataLayout dl) where
       (IsListedInOrder dl (randomized repr) (kind_of always_sized ps) order (map layout_of ps))
       (placed_fields repr ps) p answer in
       subst (IsTaken dl (struct repr always_sized (Some order) all)) found.2
-      (taken_ordered repr always_sized order all ps found.0 found.1)
+      (taken_ordered repr always_sized order all ps found.0 there found.1)
   laid_taken (union repr all) p (inl f) = absurd (cc f.2)
   laid_taken (union repr all) p (inr (ps, there, answer)) =
       let found = laid_by (fields_fault repr ps) (IsUnited dl repr (map layout_of ps)) (placed_together repr ps) p

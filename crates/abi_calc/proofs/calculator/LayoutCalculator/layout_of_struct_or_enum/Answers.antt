@@ -77,6 +77,16 @@ layout_of_single-requires-clause-fields g c =
     fields_hold (λ f. IsLawfulLayout (g.Cx.HasDataLayout.target c.args.self.now.cx) (g.F.LayoutHandle.layout_of f)) c.as_raw-all.result.now (items_of c.args.variants) c.in-OneList.index c.index-all-index.result (items_of c.as_slice.result)
     c.as_raw-all.ensures.items below c.index-all-index.is c.as_slice.ensures c.requires.fields
 
+-- the fields of the variant at the index are lawful
+lawful_fields : (g : given.Over) (c : goal.After-drop-discr_range_of_repr-in-OneList-1 g)
+    → All (λ f. IsLawfulLayout (g.Cx.HasDataLayout.target c.args.self.now.cx) (g.F.LayoutHandle.layout_of f)) (items_of c.as_slice.result)
+lawful_fields g c =
+    let below : c.in-OneList.index < length c.as_raw-all.result.now =
+    index_within g.F.LayoutHandle.layout_of c.args.repr.now c.as_raw-all.result.now c.args.is_enum c.in-OneList.index (λ struct. ap length c.as_raw-all.ensures.items ∙ c.requires.one struct)
+    (sym c.path_of.ensures ∙ c.in-OneList.is) in
+    fields_hold (λ f. IsLawfulLayout (g.Cx.HasDataLayout.target c.args.self.now.cx) (g.F.LayoutHandle.layout_of f)) c.as_raw-all.result.now (items_of c.args.variants) c.in-OneList.index c.index-all-index.result (items_of c.as_slice.result)
+    c.as_raw-all.ensures.items below c.index-all-index.is c.as_slice.ensures c.requires.fields
+
 -- what was read are the fields of the variant at the index
 read : (g : given.Over) (c : goal.After-drop-discr_range_of_repr-in-OneList-1 g)
     → IsReadAt c.args.is_enum c.args.always_sized (items_of c.args.variants) (path_of c.args.is_enum c.args.repr.now (map (map g.F.LayoutHandle.layout_of) (items_of c.args.variants))) c.in-OneList.index c.single_kind-kind.result (items_of c.as_slice.result)
@@ -116,7 +126,7 @@ returns-in-OneList-clause-told g c =
             (good_single lo g.FieldIdx.Idx.at g.FieldIdx.Idx.number dl repr kind fields result
             c.layout_of_single.ensures.apart c.layout_of_single.ensures.placed c.layout_of_single.ensures.least c.layout_of_single.ensures.places c.layout_of_single.ensures.ascending) i is;
         seen = seen_at lo g.FieldIdx.Idx.at g.VariantIdx.Idx.at dl repr vs c.args.is_enum c.args.always_sized c.args.niche_optimizations path result c.in-OneList.index kind fields c.new.result (read g c) c.new.ensures
-            (subst (IsNonEmptyIfUnsized kind) count c.single_kind-kind.ensures.tail) c.layout_of_single.ensures.exact i is;
+            (lawful_fields g c) (subst (IsNonEmptyIfUnsized kind) count c.single_kind-kind.ensures.tail) c.layout_of_single.ensures.exact i is;
         too_large = at_listed (λ k fs. result ≡ Err SizeOverflow → IsEachOrderTooLarge dl repr k (map lo fs)) c.args.is_enum c.args.always_sized vs path c.in-OneList.index kind fields (read g c)
             c.layout_of_single.ensures.too_large i is;
         refused = at_listed (λ k fs. AreSized (map lo fs) → IsEachOrderTooLarge dl repr k (map lo fs) → IsAnswer (Err SizeOverflow) result) c.args.is_enum c.args.always_sized vs path c.in-OneList.index kind fields (read g c)
