@@ -6,3 +6,5 @@ pub mod DataPlacesLemmas
 pub mod NeededLemmas
 pub mod MadeLemmas
 pub mod MarkedLemmas
+pub mod UnusedLemmas
+pub mod PartsLemmas

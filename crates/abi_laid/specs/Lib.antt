@@ -34,6 +34,8 @@ pub mod Seen
 -- padding, as runs, and the nodes that it rests on
 pub mod Runs
 pub mod Needed
+-- the parts of a type
+pub mod Parts
 -- what errors say
 pub mod ErrorText
 -- bytes that decide, and values put over bytes

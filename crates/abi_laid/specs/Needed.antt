@@ -1,5 +1,5 @@
 -- The nodes that a node's data places rest on, and the runs that are made of those of the nodes that it names.
-use Rattle.std.specs.Prelude.{◌≡◌, ◌↔◌, ℕ, ◌+◌, ◌-◌, ◌==◌, ◌<◌, ◌≤◌, ◌||◌, Bool, true, false, List, [], ◌∷◌, ◌++◌, None, Option, Some, get_or, length, map, take}
+use Rattle.std.specs.Prelude.{◌≡◌, ◌↔◌, ℕ, ◌+◌, ◌-◌, ◌==◌, ◌<◌, ◌≤◌, ◌&&◌, ◌||◌, Bool, true, false, not, List, [], ◌∷◌, ◌++◌, None, Option, Some, get_or, length, map, take}
 use Rattle.std.specs.List.{list_any}
 use Rattle.abi_index.specs.RangeSet.{AreMaximalRuns, is_in_ranges}
 use Rattle.abi_index.specs.Runs.{moved_to}
@@ -118,3 +118,25 @@ parts_cover _ _ k = false
 -- one of these sets has the byte
 abbrev pub some_covers : List (List (ℕ × ℕ)) → (k : ℕ) → Bool
 some_covers sets k = list_any (λ set. is_in_ranges set k) sets
+
+-- a child lies at an offset in so many bytes, and ends inside; its set is made, where there are any
+abbrev pub IsPartMade : List Placed → (done : List (List (ℕ × ℕ))) → (size offset child : ℕ) → Type 0
+IsPartMade types done size offset child =
+    (0 < size → IsMade (placed_in types child) done child) × (offset + size_of (placed_in types child) ≤ size) × (has_room (placed_in types child) ≡ true)
+
+-- so do children, each at its offset
+abbrev pub ArePartsMade : List Placed → (done : List (List (ℕ × ℕ))) → (size : ℕ) → (offsets children : List ℕ) → Type 0
+ArePartsMade types done size offsets children =
+    (i : ℕ) → i < length offsets → i < length children → IsPartMade types done size (get_or offsets i 0) (get_or children i 0)
+
+-- the numbers and the nodes of the variants or states that a tag tells apart
+abbrev pub numbered_nodes : Shape → List (ℕ × ℕ)
+numbered_nodes (Tagged mark tag variants) = variants.items
+numbered_nodes (States prefix tag all) = all.items
+numbered_nodes _ = []
+
+-- a set for each of the first variants, so many: of these bytes those that the variant's own set doesn't have
+abbrev pub LeaveOut : (bytes : List (ℕ × ℕ)) → (done : List (List (ℕ × ℕ))) → (variants : List (ℕ × ℕ)) → (count : ℕ) → (sets : List (List (ℕ × ℕ))) → Type 0
+LeaveOut bytes done variants count sets =
+    (length sets ≡ count)
+    × ((v k : ℕ) → v < count → is_in_ranges (get_or sets v []) k ≡ (is_in_ranges bytes k && not (is_in_ranges (get_or done (get_or variants v (0, 0)).1 []) k)))

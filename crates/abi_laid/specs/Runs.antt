@@ -1,5 +1,5 @@
 -- The maximal runs of places that a test picks: padding, and what a variant leaves unused.
-use Rattle.std.specs.Prelude.{ℕ, zero, suc, ◌+◌, ◌-◌, ◌&&◌, ◌||◌, Bool, not, nat_le, nat_lt, List, [], ◌∷◌, Option, Some, None, if◌then◌else◌}
+use Rattle.std.specs.Prelude.{ℕ, zero, suc, ◌+◌, ◌-◌, ◌&&◌, ◌||◌, Bool, false, not, nat_le, nat_lt, List, [], ◌∷◌, Option, Some, None, if◌then◌else◌}
 use Rattle.abi_laid.specs.Placed.{Placed, tagged, states, parts_of_arm, size_of}
 use Rattle.abi_laid.specs.Places.{is_data_place, is_place_of_part}
 
@@ -18,6 +18,12 @@ is_padding_of placed k = nat_lt k (size_of placed) && not (is_data_place placed 
 -- the maximal runs of a type's padding, ascending, each as its first byte and how many bytes it has
 abbrev pub padding_of : Placed → List (ℕ × ℕ)
 padding_of placed = runs_from (λ k. not (is_data_place placed k)) None 0 (size_of placed)
+
+-- byte k is a data place of the tag, or of a prefix field, which every variant or state has; a type without a tag has none
+abbrev pub is_place_of_each : Placed → (k : ℕ) → Bool
+is_place_of_each (tagged layout mark offset tag encoding arms) k = nat_le offset k && is_data_place tag (k - offset)
+is_place_of_each (states layout prefix offset tag arms) k = is_place_of_part prefix k || (nat_le offset k && is_data_place tag (k - offset))
+is_place_of_each placed k = false
 
 -- byte k is a data place of the tag, or of the variant or state with this index, or of a prefix field, which every state has; or,
 -- of a type without a tag, a data place

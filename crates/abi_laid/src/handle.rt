@@ -46,7 +46,7 @@ pub(crate) fn handle_at(laid: &Laid, node: usize) -> TyAndLayout<'_, TreeTy<'_>>
 {
     TyAndLayout {
         ty: TreeTy { laid, node },
-        layout: Layout(laid.layout_at(node)),
+        layout: Layout(laid.nodes.layout(node)),
     }
 }
 
@@ -122,7 +122,7 @@ fn mark_of(this: TyAndLayout<'_, TreeTy<'_>>) -> Mark
     requires { IsHandle this }
     ensures { marks_by result ≡ marks_of (tree_type this.entry) }
 {
-    mark_in(this.ty.laid.node_at(this.ty.node).shape)
+    mark_in(this.ty.laid.nodes.node(this.ty.node).shape)
 }
 
 /// A handle needs no context to answer, so any serves.
@@ -166,7 +166,7 @@ impl<'a, C> TyAbiInterface<'a, C> for TreeTy<'a> {
                 variants: _,
             } => {
                 let laid = this.ty.laid;
-                let shape = laid.node_at(this.ty.node).shape;
+                let shape = laid.nodes.node(this.ty.node).shape;
                 handle_at(laid, variant_node(shape, variant_index.as_usize()))
             }
             Variants::Single { index: _ } => this,
@@ -189,7 +189,7 @@ impl<'a, C> TyAbiInterface<'a, C> for TreeTy<'a> {
         ensures falls { tree_depth result < tree_depth this.entry }
     {
         let laid = this.ty.laid;
-        let shape = laid.node_at(this.ty.node).shape;
+        let shape = laid.nodes.node(this.ty.node).shape;
         handle_at(laid, field_node(shape, i))
     }
 

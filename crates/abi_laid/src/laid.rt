@@ -1,7 +1,7 @@
 //! Types that were laid out.
 
-ghost use Rattle.std.specs.Prelude.{◌≡◌, ℕ, ◌-◌, ◌<◌, ◌≤◌, [], IfOk, get_or, length, true};
-ghost use Rattle.abi_laid.specs.Nodes.{lent_node, root_of};
+ghost use Rattle.std.specs.Prelude.{◌≡◌, ℕ, ◌-◌, ◌<◌, ◌≤◌, [], IfOk, get_or, length, map, true};
+ghost use Rattle.abi_laid.specs.Nodes.{root_of};
 ghost use Rattle.abi_laid.specs.Well.{AreWell, are_nodes};
 ghost use Rattle.abi_laid.specs.Laws.{keep_laws};
 ghost use Rattle.abi_laid.specs.Widths.{have_widths};
@@ -9,12 +9,13 @@ ghost use Rattle.abi_laid.specs.Room.{has_room};
 
 use crate::counted::Counted;
 use crate::handle::{TreeTy, handle_at};
-use crate::node::NodeRef;
 use crate::nodes::Nodes;
+use crate::parts::{PartBytes, parts};
 use crate::runs_of::padding;
+use crate::unused::variant_padding;
 use crate::value::decide::decider;
 use abi_base::Endian;
-use abi_index::{FieldIdx, RangeSet, VariantIdx};
+use abi_index::{FieldIdx, IndexVec, RangeSet, VariantIdx};
 use abi_scalar::LayoutData;
 use abi_types::TyAndLayout;
 use std::alloc::{AllocError, Global};
@@ -25,7 +26,7 @@ use std::fmt::Debug;
 /// order. How it prints isn't promised.
 #[derive(Drop, PartialEq, Eq)]
 pub struct Laid {
-    nodes: Nodes,
+    pub(crate) nodes: Nodes,
     endian: Endian,
     ghost some: { 0 < length nodes },
     ghost earlier: { are_nodes 0 nodes ≡ true },
@@ -49,15 +50,18 @@ impl Laid {
     ghost use Rattle.abi_laid.specs.Handles.{IsHandle, tree_type};
     ghost use Rattle.abi_laid.specs.Seen.{Sees};
     ghost use Rattle.abi_laid.specs.Needed.{AreVisits};
-    ghost use Rattle.abi_laid.specs.Nodes.{placed_at};
     ghost use Rattle.abi_laid.specs.Placed.{layout_of, size_of};
     ghost use Rattle.abi_laid.specs.Places.{is_data_place};
     ghost use Rattle.std.specs.Prelude.{◌&&◌, IfSome, None, false};
     ghost use Rattle.abi_base.specs.declared.data_layout.TargetDataLayout.{TargetDataLayout};
     ghost use Rattle.abi_laid.specs.Tree.{Tree};
-    ghost use Rattle.abi_laid.specs.Deciding.{all_inhabited_of, are_inhabited, Decide, KeepsPlaces};
+    ghost use Rattle.abi_laid.specs.Deciding.{all_inhabited_of, are_inhabited, Decide};
+    ghost use Rattle.abi_laid.specs.OfTree.{KeepsTree};
     ghost use Rattle.abi_laid.specs.Runs.{is_padding_of};
     ghost use Rattle.abi_index.specs.RangeSet.{is_in_ranges};
+    ghost use Rattle.abi_types.specs.Ty.Runs.{IsVariantIndex};
+    ghost use Rattle.abi_laid.specs.Parts.{all_parts, kept_part};
+    ghost use Rattle.abi_laid.specs.Unused.{is_left_unused};
 
     /// The type of the last node, as it was laid out. For `lay_out` alone, which makes the nodes.
     pub fn new(nodes: Nodes, endian: Endian) -> Laid
@@ -83,28 +87,11 @@ impl Laid {
         &self.nodes
     }
 
-    /// The node at a place.
-    pub(crate) fn node_at(&self, at: usize) -> NodeRef<'_>
-        requires { at < length self.now.nodes }
-        ensures { lent_node result ≡ get_or self.now.nodes at (lent_node result) }
-    {
-        let mut visits = 0;
-        self.nodes.read(at, &mut visits)
-    }
-
-    /// The layout of the node at a place.
-    pub(crate) fn layout_at(&self, at: usize) -> &LayoutData<FieldIdx, VariantIdx>
-        requires { at < length self.now.nodes }
-        ensures { result.now ≡ layout_of (placed_at self.now.nodes at) }
-    {
-        self.nodes.layout(at)
-    }
-
     /// The layout of the whole type, as the calculator answered it.
     pub fn layout(&self) -> &LayoutData<FieldIdx, VariantIdx>
         ensures { result.now ≡ layout_of (placed_of self.now) }
     {
-        self.layout_at(self.nodes.len() - 1)
+        self.nodes.layout(self.nodes.len() - 1)
     }
 
     /// The type as a handle, beside its layout: what asks types for their fields and variants takes it. All data places
@@ -141,13 +128,46 @@ impl Laid {
         padding(alloc, Counted::new(&self.nodes), self.nodes.len() - 1)
     }
 
+    /// What each variant that a tag tells apart leaves unused: the bytes that some variant covers, and neither this one nor
+    /// what all have, as the tag; none where no tag does. And how many nodes were read to tell, as `padding` has it. What
+    /// `variant_dependent_padding_ranges` answers of the handle, for each variant in one call: all of it lies below the
+    /// type's size. `AllocError` where memory is refused.
+    pub fn variant_padding(
+        &self,
+        alloc: Global,
+    ) -> Result<(IndexVec<VariantIdx, RangeSet>, usize), AllocError>
+        ensures unused { IfOk result (λ r. (v k : ℕ) →
+            IsVariantIndex (layout_of (placed_of self.now)).variants v →
+            is_in_ranges (get_or r.0 v []) k ≡ is_left_unused (placed_of self.now) v k) }
+        ensures within { IfOk result (λ r. (v k : ℕ) →
+            IsVariantIndex (layout_of (placed_of self.now)).variants v →
+            is_in_ranges (get_or r.0 v []) k ≡ true → k < size_of (placed_of self.now)) }
+        ensures visits { IfOk result (λ r.
+            AreVisits self.now.nodes (node_count_of self.now - 1) r.1) }
+        ensures few { IfOk result (λ r. r.1 ≤ node_count_of self.now) }
+    {
+        variant_padding(alloc, Counted::new(&self.nodes), self.nodes.len() - 1)
+    }
+
+    /// The parts of the type, each with its data places: its number, elements or lanes, or its fields and its tag, and
+    /// behind these the fields of all variants that the tag tells apart. A type without bytes has none. And how many nodes
+    /// were read to tell, as `padding` has it. `AllocError` where memory is refused.
+    pub fn parts(&self, alloc: Global) -> Result<(Vec<PartBytes>, usize), AllocError>
+        ensures parts { IfOk result (λ r. map kept_part r.0.items ≡ all_parts (placed_of self.now)) }
+        ensures visits { IfOk result (λ r.
+            AreVisits self.now.nodes (node_count_of self.now - 1) r.1) }
+        ensures few { IfOk result (λ r. r.1 ≤ node_count_of self.now) }
+    {
+        parts(alloc, Counted::new(&self.nodes), self.nodes.len() - 1)
+    }
+
     /// Whether each type in the type has a value: no layout in it is flagged as having none, be it that of a variant that
     /// is left out, of a local that no state holds, or of an element of which there is none.
     pub fn all_inhabited(&self) -> bool
         ensures { result ≡ all_inhabited_of self.now }
     {
         for i in 0..self.nodes.len() {
-            if self.layout_at(i).uninhabited {
+            if self.nodes.layout(i).uninhabited {
                 return false;
             }
         }
@@ -169,9 +189,9 @@ impl Laid {
         ensures none { IfOk result (λ found. found ≡ None →
             (all_inhabited_of self.now && is_data_place (placed_of self.now) place) ≡ false) }
 
-        // What it is, for each tree whose places the layout keeps.
+        // What it is, for each tree that the laid-out type keeps, as `lay_out` says of its own.
         ensures decides { IfOk result (λ found. IfSome found (λ pair.
-            (dl : TargetDataLayout) (tree : Tree) → KeepsPlaces dl tree self.now →
+            (dl : TargetDataLayout) (tree : Tree) → KeepsTree dl tree self.now →
             Decide (endian_of self.now) (placed_of self.now) place pair.0.items pair.1.items)) }
     {
         if self.all_inhabited() {

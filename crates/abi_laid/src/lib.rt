@@ -3,9 +3,11 @@
 
 // Types as trees, and as they were laid out.
 mod laid;
+mod layouts;
 mod mark;
 mod node;
 mod nodes;
+mod reading;
 mod same_layout;
 mod tree;
 
@@ -13,7 +15,9 @@ mod tree;
 mod counted;
 mod handle;
 mod needed;
+mod parts;
 mod runs_of;
+mod unused;
 
 // Values, and the bytes that hold them.
 mod value;
@@ -23,6 +27,7 @@ pub use laid::Laid;
 pub use mark::Mark;
 pub use node::{Node, Shape};
 pub use nodes::Nodes;
+pub use parts::{PartBytes, PartName};
 pub use tree::TypeTree;
 pub use value::Value;
 pub use value::error::ValueError;

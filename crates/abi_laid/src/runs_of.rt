@@ -32,7 +32,7 @@ pub(crate) fn set_at(done: &[RangeSet], place: usize) -> &RangeSet
 }
 
 /// Puts in the sets of fields, each at its offset.
-fn put_parts(
+pub(crate) fn put_parts(
     runs: &mut RangeSetBuilder,
     offsets: &[Size],
     children: &[usize],

@@ -5,7 +5,6 @@ pub(crate) mod error;
 pub(crate) mod named;
 pub(crate) mod number;
 pub(crate) mod read;
-mod read_one;
 pub(crate) mod same;
 pub(crate) mod walk;
 pub(crate) mod write;

@@ -14,11 +14,11 @@ use Rattle.std.proofs.lemmas.List.Sorted.{searched}
 use Rattle.std.proofs.Math.Bool.{and-false, or-false}
 use Rattle.abi_index.specs.RangeSet.{AreMaximalRuns, is_in_ranges, is_in_run}
 use Rattle.abi_index.proofs.UncutLemmas.{none_below}
-use Rattle.abi_map.specs.declared.part.Name.{Name}
-use Rattle.abi_map.specs.declared.part.PartBytes.{PartBytes}
+use Rattle.abi_laid.specs.declared.parts.PartName.{PartName}
+use Rattle.abi_laid.specs.declared.parts.PartBytes.{PartBytes}
 use Rattle.abi_map.specs.Covering.{AreAscending, PutsNames, name_at, name_of, names_of}
 use Rattle.abi_map.specs.Map.{names_at}
-use Rattle.abi_map.specs.Parts.{Part, part_told}
+use Rattle.abi_laid.specs.Parts.{Part, kept_part}
 
 -- ---- places among numbers that ascend
 
@@ -58,13 +58,13 @@ behind_run : (k : ℕ) (run : ℕ × ℕ) → run.0 + run.1 ≤ k → is_in_run 
 behind_run k run le = ap (λ b. nat_le run.0 k && b) (le-ltb k (run.0 + run.1) le) ∙ and-false (nat_le run.0 k)
 
 -- Of the starts from one on up to another each has got the name; the others are as they were.
-pub record IsPutting (name : Name) (first s : ℕ) (old new : List (Vec Name Global)) : Type 0 where
+pub record IsPutting (name : PartName) (first s : ℕ) (old new : List (Vec PartName Global)) : Type 0 where
   pub long : length new ≡ length old
   pub before : (j : ℕ) → j < first → names_of new j ≡ names_of old j
   pub put : (j : ℕ) → first ≤ j → j < s → names_of new j ≡ names_of old j ++ name ∷ []
   pub behind : (j : ℕ) → s ≤ j → names_of new j ≡ names_of old j
 
-pub putting_none : (name : Name) (first : ℕ) (all : List (Vec Name Global)) → IsPutting name first first all all
+pub putting_none : (name : PartName) (first : ℕ) (all : List (Vec PartName Global)) → IsPutting name first first all all
 putting_none name first all = record {
   long = refl;
   before = λ j lt. refl;
@@ -72,12 +72,12 @@ putting_none name first all = record {
   behind = λ j le. refl;
 }
 
-pub putting_more : (name : Name) (first s m : ℕ) (old now new : List (Vec Name Global)) (v : Vec Name Global) → first ≤ s → m ≡ s + 1 → s < length now → IsPutting name first s old now → new ≡ set now s v →
+pub putting_more : (name : PartName) (first s m : ℕ) (old now new : List (Vec PartName Global)) (v : Vec PartName Global) → first ≤ s → m ≡ s + 1 → s < length now → IsPutting name first s old now → new ≡ set now s v →
     v.items ≡ names_of now s ++ name ∷ [] → IsPutting name first m old new
 putting_more name first s m old now new v le more lt inv is pushed =
-    let lists : map (λ (w : Vec Name Global). w.items) new ≡ set (map (λ (w : Vec Name Global). w.items) now) s v.items = ap (map (λ (w : Vec Name Global). w.items)) is ∙ map-set (λ (w : Vec Name Global). w.items) now s v in
-    let here : names_of new s ≡ v.items = ap (λ ls. get_or ls s []) lists ∙ get_or-set_same (map (λ (w : Vec Name Global). w.items) now) s v.items [] (omega (arith, lt, length-map now (λ (w : Vec Name Global). w.items))) in
-    let other = λ (j : ℕ) (ne : j ≡ s → ⊥). ap (λ ls. get_or ls j []) lists ∙ get_or-set_other (map (λ (w : Vec Name Global). w.items) now) s j v.items [] ne in
+    let lists : map (λ (w : Vec PartName Global). w.items) new ≡ set (map (λ (w : Vec PartName Global). w.items) now) s v.items = ap (map (λ (w : Vec PartName Global). w.items)) is ∙ map-set (λ (w : Vec PartName Global). w.items) now s v in
+    let here : names_of new s ≡ v.items = ap (λ ls. get_or ls s []) lists ∙ get_or-set_same (map (λ (w : Vec PartName Global). w.items) now) s v.items [] (omega (arith, lt, length-map now (λ (w : Vec PartName Global). w.items))) in
+    let other = λ (j : ℕ) (ne : j ≡ s → ⊥). ap (λ ls. get_or ls j []) lists ∙ get_or-set_other (map (λ (w : Vec PartName Global). w.items) now) s j v.items [] ne in
     record {
       long = ap length is ∙ length-set now s v ∙ inv.long;
       before = λ j below. other j (λ e. omega (arith, e, below, le)) ∙ inv.before j below;
@@ -91,7 +91,7 @@ putting_more name first s m old now new v le more lt inv is pushed =
     }
 
 -- where the starts from the second on lie behind the run
-pub put_all : (starts : List ℕ) (name : Name) (run : ℕ × ℕ) (first s : ℕ) (old new : List (Vec Name Global)) → IsPutting name first s old new
+pub put_all : (starts : List ℕ) (name : PartName) (run : ℕ × ℕ) (first s : ℕ) (old new : List (Vec PartName Global)) → IsPutting name first s old new
     → ((j : ℕ) → j < first → j < length starts → get_or starts j 0 < run.0) → ((j : ℕ) → first ≤ j → j < length starts → run.0 ≤ get_or starts j 0)
     → ((j : ℕ) → first ≤ j → j < s → j < length starts → get_or starts j 0 < run.0 + run.1) → ((j : ℕ) → s ≤ j → j < length starts → run.0 + run.1 ≤ get_or starts j 0) → first ≤ s
     → PutsNames starts old new (name_at name run)
@@ -119,28 +119,28 @@ past_all starts s end asc le j from lt = omega (arith, le, rises starts asc s j 
 -- ---- all runs of a part
 
 -- the name, as often as one of the runs has the byte
-abbrev pub name_in_each : Name → List (ℕ × ℕ) → (k : ℕ) → List Name
+abbrev pub name_in_each : PartName → List (ℕ × ℕ) → (k : ℕ) → List PartName
 name_in_each name runs k = flat_map (λ run. name_at name run k) runs
 
-pub puts_none : (starts : List ℕ) (all : List (Vec Name Global)) → PutsNames starts all all (λ k. [])
+pub puts_none : (starts : List ℕ) (all : List (Vec PartName Global)) → PutsNames starts all all (λ k. [])
 puts_none starts all = (refl, λ s lt. sym (append-nil (names_of all s)))
 
-pub puts_both : (starts : List ℕ) (old middle new : List (Vec Name Global)) (p q : ℕ → List Name) → PutsNames starts old middle p → PutsNames starts middle new q → PutsNames starts old new (λ k. p k ++ q k)
+pub puts_both : (starts : List ℕ) (old middle new : List (Vec PartName Global)) (p q : ℕ → List PartName) → PutsNames starts old middle p → PutsNames starts middle new q → PutsNames starts old new (λ k. p k ++ q k)
 puts_both starts old middle new p q first next = (
   next.0 ∙ first.0,
   λ s lt. next.1 s lt ∙ ap (λ ns. ns ++ q (get_or starts s 0)) (first.1 s lt) ∙ append_assoc (names_of old s) (p (get_or starts s 0)) (q (get_or starts s 0)),
 )
 
-pub puts_same : (starts : List ℕ) (old new : List (Vec Name Global)) (p q : ℕ → List Name) → PutsNames starts old new p → ((k : ℕ) → p k ≡ q k) → PutsNames starts old new q
+pub puts_same : (starts : List ℕ) (old new : List (Vec PartName Global)) (p q : ℕ → List PartName) → PutsNames starts old new p → ((k : ℕ) → p k ≡ q k) → PutsNames starts old new q
 puts_same starts old new p q puts same = (puts.0, λ s lt. puts.1 s lt ∙ ap (λ ns. names_of old s ++ ns) (same (get_or starts s 0)))
 
-pub each_more : (name : Name) (runs : List (ℕ × ℕ)) (i : ℕ) (d : ℕ × ℕ) → i < length runs → (k : ℕ) → (name_in_each name (take i runs) k ++ name_at name (get_or runs i d) k) ≡ name_in_each name (take (i + 1) runs) k
+pub each_more : (name : PartName) (runs : List (ℕ × ℕ)) (i : ℕ) (d : ℕ × ℕ) → i < length runs → (k : ℕ) → (name_in_each name (take i runs) k ++ name_at name (get_or runs i d) k) ≡ name_in_each name (take (i + 1) runs) k
 each_more name runs i d lt k =
     let f = λ (run : ℕ × ℕ). name_at name run k in
     sym (ap (flat_map f) (take_more runs i d lt) ∙ flat_map-append f (take i runs) (get_or runs i d ∷ []) ∙ ap (λ ns. flat_map f (take i runs) ++ ns) (append-nil (name_at name (get_or runs i d) k)))
 
 -- at most one of runs that don't meet has the byte
-pub each_once : (name : Name) (k low : ℕ) (runs : List (ℕ × ℕ)) → AreMaximalRuns low runs → name_in_each name runs k ≡ (if is_in_ranges runs k then name ∷ [] else [])
+pub each_once : (name : PartName) (k low : ℕ) (runs : List (ℕ × ℕ)) → AreMaximalRuns low runs → name_in_each name runs k ≡ (if is_in_ranges runs k then name ∷ [] else [])
 each_once name k low [] maximal = refl
 each_once name k low (run ∷ runs) maximal =
     elim (cases_lt k (run.0 + run.1 + 1)) [
@@ -163,20 +163,20 @@ filter_one p k = by (p.has k) refl
     by true e = rw e refl
     by false e = rw e refl
 
-pub names_more : (ps : List PartBytes) (i : ℕ) (d : PartBytes) → i < length ps → (k : ℕ) → names_at (map part_told (take (i + 1) ps)) k ≡ names_at (map part_told (take i ps)) k ++ name_of (part_told (get_or ps i d)) k
+pub names_more : (ps : List PartBytes) (i : ℕ) (d : PartBytes) → i < length ps → (k : ℕ) → names_at (map kept_part (take (i + 1) ps)) k ≡ names_at (map kept_part (take i ps)) k ++ name_of (kept_part (get_or ps i d)) k
 names_more ps i d lt k =
     let test = λ (q : Part). q.has k in
-    let front : List Part = map part_told (take i ps) in
-    let last : Part = part_told (get_or ps i d) in
-    ap (λ xs. names_at (map part_told xs) k) (take_more ps i d lt)
-    ∙ ap (λ xs. names_at xs k) (map-append part_told (take i ps) (get_or ps i d ∷ []))
+    let front : List Part = map kept_part (take i ps) in
+    let last : Part = kept_part (get_or ps i d) in
+    ap (λ xs. names_at (map kept_part xs) k) (take_more ps i d lt)
+    ∙ ap (λ xs. names_at xs k) (map-append kept_part (take i ps) (get_or ps i d ∷ []))
     ∙ ap (map (λ (q : Part). q.name)) (filter-append test front (last ∷ []))
     ∙ map-append (λ (q : Part). q.name) (filter test front) (filter test (last ∷ []))
     ∙ ap (λ ns. names_at front k ++ ns) (filter_one last k)
 
 -- the names at a place are those of the list that stands there
-pub names_there : (names : List (Vec Name Global)) (s : ℕ) (v : Vec Name Global) → s < length names → v ≡ get_or names s v → v.items ≡ names_of names s
-names_there names s v lt e = ap (λ (w : Vec Name Global). w.items) e ∙ sym (get_or-map (λ (w : Vec Name Global). w.items) names s v [] lt)
+pub names_there : (names : List (Vec PartName Global)) (s : ℕ) (v : Vec PartName Global) → s < length names → v ≡ get_or names s v → v.items ≡ names_of names s
+names_there names s v lt e = ap (λ (w : Vec PartName Global). w.items) e ∙ sym (get_or-map (λ (w : Vec PartName Global). w.items) names s v [] lt)
 
 pub passed_more : (starts : List ℕ) (first s end : ℕ) → ((j : ℕ) → first ≤ j → j < s → j < length starts → get_or starts j 0 < end) → get_or starts s 0 < end
     → (j : ℕ) → first ≤ j → j < s + 1 → j < length starts → get_or starts j 0 < end

@@ -1,156 +1,94 @@
 -- The bytes that no part has.
-use Rattle.std.proofs.Common.{◌≡◌, ℕ, zero, suc, ◌+◌, ◌<◌, ◌≤◌, List, [], ◌∷◌, Bool, true, false, arith, length, map, refl, subst, sym, ap, ◌∙◌}
-use Rattle.std.specs.Prelude.{◌||◌, cond, if◌then◌else◌}
-use Rattle.std.specs.List.{filter, flat_map, list_any, range_with_len}
-use Rattle.std.proofs.lemmas.Bool.{le-ltb}
+use Rattle.std.proofs.Common.{◌≡◌, ℕ, suc, ◌<◌, List, [], ◌∷◌, ◌++◌, Bool, Option, None, Some, true, false, arith, map, refl, sym, ap, ◌∙◌}
+use Rattle.std.specs.Prelude.{◌&&◌, ◌||◌, ◌-◌, ◌↔◌, cond, if◌then◌else◌, nat_le, nat_lt, not}
+use Rattle.std.specs.List.{filter, list_any}
+use Rattle.std.proofs.lemmas.Bool.{lt-ltb}
 use Rattle.std.proofs.lemmas.List.Folds.{list_any-append}
 use Rattle.std.proofs.Math.Bool.{or-false}
-use Rattle.abi_index.specs.Runs.{moved_to}
 use Rattle.abi_index.proofs.RunsLemmas.{moved-zero}
-use Rattle.abi_scalar.specs.declared.fields_shape.FieldsShape.{FieldsShape}
-use Rattle.abi_scalar.specs.declared.fields_shape.FieldsShape.TheVariants.{Primitive, Union, Array, Arbitrary}
-use Rattle.abi_scalar.specs.declared.variants.Variants.{Variants}
-use Rattle.abi_scalar.specs.declared.variants.Variants.TheVariants.{Empty, Single, Multiple}
-use Rattle.abi_scalar.specs.declared.variants.VariantLayout.{VariantLayout}
-use Rattle.abi_scalar.specs.Shape.{IsListed, field_count, field_offset}
-use Rattle.abi_scalar.specs.Variant.{variants_of}
-use Rattle.abi_types.specs.Ty.Places.{fields_cover, is_place, is_shared_place, variants_cover}
-use Rattle.abi_types.specs.Ty.Runs.{IsVariantOfSeveral}
-use Rattle.abi_types.specs.Ty.Typed.{Typed, typed, no_type, field_in, layout_in, variant_in}
-use Rattle.abi_map.specs.declared.part.Name.{Name}
-use Rattle.abi_map.specs.declared.part.Name.TheVariants.{Elements, Lanes, Number, VariantField}
+use Rattle.abi_laid.specs.declared.parts.PartName.{PartName}
+use Rattle.abi_laid.specs.declared.parts.PartName.TheVariants.{Elements, Lanes, Number, Tag}
+use Rattle.abi_laid.specs.Parts.{Part, all_parts, common_parts, field_parts, parts_of_arms, placed_part, variant_parts}
+use Rattle.abi_laid.specs.Placed.{Placed, scalar, pair, never, elements, vector, fields, union, single, tagged, states, Parts, no_parts, part, Arms, no_arms, arm, size_of}
+use Rattle.abi_laid.specs.Places.{is_data_place, is_place_of_arm, is_place_of_part}
+use Rattle.abi_laid.specs.Runs.{is_padding_of}
 use Rattle.abi_map.specs.Map.{names_at}
-use Rattle.abi_map.specs.Parts.{Part, parts_of_variants, field_name, field_part, field_parts, is_vector, common_parts, all_parts, variant_parts, variants_parts, whole_part}
-
--- ---- bytes without a name
+use Rattle.abi_map.specs.Runs.{PaddingHasNoName}
 
 -- some part has the byte
-abbrev pub any_has : List Part → (k : ℕ) → Bool
-any_has parts k = list_any (λ (part : Part). part.has k) parts
+abbrev any_has : List Part → (k : ℕ) → Bool
+any_has parts k = list_any (λ (one : Part). one.has k) parts
 
-pub no_names : (parts : List Part) (k : ℕ) → any_has parts k ≡ false → names_at parts k ≡ []
+no_names : (parts : List Part) (k : ℕ) → any_has parts k ≡ false → names_at parts k ≡ []
 no_names [] k none = refl
-no_names (part ∷ parts) k none = by (part.has k) (no_names parts k) none
+no_names (one ∷ parts) k none = by (one.has k) (no_names parts k) none
   where
-    by : (b : Bool) → (any_has parts k ≡ false → names_at parts k ≡ []) → (b || any_has parts k) ≡ false → map (λ (p : Part). p.name) (cond b (part ∷ filter (λ p. p.has k) parts) (filter (λ p. p.has k) parts)) ≡ []
+    by : (b : Bool) → (any_has parts k ≡ false → names_at parts k ≡ []) → (b || any_has parts k) ≡ false → map (λ (p : Part). p.name) (cond b (one ∷ filter (λ p. p.has k) parts) (filter (λ p. p.has k) parts)) ≡ []
     by true rest e = absurd (cc)
     by false rest e = rest e
 
-pub none_has : (parts : List Part) (k : ℕ) → names_at parts k ≡ [] → any_has parts k ≡ false
+none_has : (parts : List Part) (k : ℕ) → names_at parts k ≡ [] → any_has parts k ≡ false
 none_has [] k none = refl
-none_has (part ∷ parts) k none = by (part.has k) (none_has parts k) none
+none_has (one ∷ parts) k none = by (one.has k) (none_has parts k) none
   where
-    by : (b : Bool) → (names_at parts k ≡ [] → any_has parts k ≡ false) → map (λ (p : Part). p.name) (cond b (part ∷ filter (λ p. p.has k) parts) (filter (λ p. p.has k) parts)) ≡ [] → (b || any_has parts k) ≡ false
+    by : (b : Bool) → (names_at parts k ≡ [] → any_has parts k ≡ false) → map (λ (p : Part). p.name) (cond b (one ∷ filter (λ p. p.has k) parts) (filter (λ p. p.has k) parts)) ≡ [] → (b || any_has parts k) ≡ false
     by true rest e = absurd (cc)
     by false rest e = rest e
 
--- ---- parts of a list
+or_assoc : (a b c : Bool) → ((a || b) || c) ≡ (a || (b || c))
+or_assoc true b c = refl
+or_assoc false b c = refl
 
-any_map : (f : ℕ → Part) (k : ℕ) (is : List ℕ) → any_has (map f is) k ≡ list_any (λ i. (f i).has k) is
-any_map f k [] = refl
-any_map f k (i ∷ is) = ap (λ b. (f i).has k || b) (any_map f k is)
+-- fields have their places
+fields_have : (v : Option ℕ) (i k : ℕ) (parts : Parts) → any_has (field_parts v i parts) k ≡ is_place_of_part parts k
+fields_have v i k no_parts = refl
+fields_have v i k (part offset placed parts) = ap (λ b. (nat_le offset k && is_data_place placed (k - offset)) || b) (fields_have v (suc i) k parts)
 
-any_flat : (f : ℕ → List Part) (k : ℕ) (vs : List ℕ) → any_has (flat_map f vs) k ≡ list_any (λ v. any_has (f v) k) vs
-any_flat f k [] = refl
-any_flat f k (v ∷ vs) = list_any-append (λ (part : Part). part.has k) (f v) (flat_map f vs) ∙ ap (λ b. any_has (f v) k || b) (any_flat f k vs)
+arms_have : (v k : ℕ) (arms : Arms) → any_has (parts_of_arms v arms) k ≡ is_place_of_arm arms k
+arms_have v k no_arms = refl
+arms_have v k (arm number layout mark parts arms) =
+    list_any-append (λ (one : Part). one.has k) (field_parts (Some v) 0 parts) (parts_of_arms (suc v) arms)
+    ∙ ap (λ b. b || any_has (parts_of_arms (suc v) arms) k) (fields_have (Some v) 0 k parts) ∙ ap (λ b. is_place_of_part parts k || b) (arms_have (suc v) k arms)
 
-pub any_same : (p q : ℕ → Bool) (n low : ℕ) → ((i : ℕ) → low ≤ i → i < low + n → p i ≡ q i) → list_any p (range_with_len low n) ≡ list_any q (range_with_len low n)
-any_same p q zero low same = refl
-any_same p q (suc n) low same =
-    ap (λ b. b || list_any p (range_with_len (low + 1) n)) (same low (omega arith) (omega arith)) ∙ ap (λ b. q low || b) (any_same p q n (low + 1) (λ i from below. same i (omega arith) (omega arith)))
+whole_has : (name : PartName) (placed : Placed) (k : ℕ) → any_has ((placed_part name 0 placed ∷ []) ++ []) k ≡ is_data_place placed k
+whole_has name placed k = or-false (nat_le 0 k && is_data_place placed (k - 0)) ∙ moved-zero (is_data_place placed) k
 
--- ---- one type
-
-pub place_by : (t : Typed) (k : ℕ) → is_place t k ≡ (is_shared_place t k || variants_cover (layout_in t).variants (λ v. is_place (variant_in t v)) k)
-place_by (typed l m f v) k = refl
-place_by no_type k = sym (ap (λ b. b || false) (le-ltb k 0 (omega arith)))
-
-shared_as : (t : Typed) (k : ℕ) (shape : FieldsShape ℕ) → (layout_in t).fields ≡ shape → is_shared_place t k ≡ fields_cover (layout_in t).size shape (field_in t) (λ i. is_place (field_in t i)) k
-shared_as t k shape e = ap (λ s. fields_cover (layout_in t).size s (field_in t) (λ i. is_place (field_in t i)) k) e
-
--- the field has the byte at its offset
-abbrev has_at : Typed → (k index : ℕ) → Bool
-has_at t k i = moved_to (field_offset (layout_in t).fields i) (is_place (field_in t i)) k
-
-listed_shared : (t : Typed) (k : ℕ) (offsets order : List ℕ) → (layout_in t).fields ≡ Arbitrary offsets order → list_any (has_at t k) (range_with_len 0 (length offsets)) ≡ is_shared_place t k
-listed_shared t k offsets order e =
-    ap (λ (s : FieldsShape ℕ). list_any (λ i. moved_to (field_offset s i) (is_place (field_in t i)) k) (range_with_len 0 (length offsets))) e ∙ sym (shared_as t k (Arbitrary offsets order) e)
-
-union_shared : (t : Typed) (k count : ℕ) → (layout_in t).fields ≡ Union count → list_any (has_at t k) (range_with_len 0 count) ≡ is_shared_place t k
-union_shared t k count e =
-    ap (λ (s : FieldsShape ℕ). list_any (λ i. moved_to (field_offset s i) (is_place (field_in t i)) k) (range_with_len 0 count)) e
-    ∙ any_same (λ i. moved_to 0 (is_place (field_in t i)) k) (λ i. is_place (field_in t i) k) count 0 (λ i from below. moved-zero (is_place (field_in t i)) k)
-    ∙ sym (shared_as t k (Union count) e)
-
-fields_have : (t : Typed) (k count : ℕ) → any_has (field_parts t count) k ≡ list_any (has_at t k) (range_with_len 0 count)
-fields_have t k count = any_map (λ i. field_part (field_name (layout_in t).variants i) t i) k (range_with_len 0 count)
-
-or_again : (a b : Bool) → ((a || b) || b) ≡ (a || b)
-or_again true b = refl
-or_again false true = refl
-or_again false false = refl
-
--- what a type's own parts have, beside what variants cover
-own_have : (t : Typed) (k : ℕ) (covers : Bool) → is_place t k ≡ (is_shared_place t k || covers) → (any_has (common_parts t) k || covers) ≡ is_place t k
-own_have t k covers is = by (layout_in t).fields refl
-  where
-    whole : (name : Name) → (any_has (whole_part name t ∷ []) k || covers) ≡ is_place t k
-    whole name = ap (λ b. b || covers) (or-false (is_place t k) ∙ is) ∙ or_again (is_shared_place t k) covers ∙ sym is
-
-    listed : (parts : List Part) → any_has parts k ≡ is_shared_place t k → (any_has parts k || covers) ≡ is_place t k
-    listed parts same = ap (λ b. b || covers) same ∙ sym is
-
-    chosen : (vector : Bool) (name : Name) (parts : List Part) → any_has parts k ≡ is_shared_place t k → (any_has (if vector then whole_part name t ∷ [] else parts) k || covers) ≡ is_place t k
-    chosen true name parts same = whole name
-    chosen false name parts same = listed parts same
-
-    by : (shape : FieldsShape ℕ) → (layout_in t).fields ≡ shape → (any_has (common_parts t) k || covers) ≡ is_place t k
-    by Primitive e = rw e (whole Number)
-    by (Array stride count) e = rw e (whole Elements)
-    by (Union count) e = let all = fields_have t k count ∙ union_shared t k count e in rw e (listed (field_parts t count) all)
-    by (Arbitrary offsets order) e =
-        let all = fields_have t k (length offsets) ∙ listed_shared t k offsets order e in rw e (chosen (is_vector t (length offsets)) Lanes (field_parts t (length offsets)) all)
-
--- ---- variants
-
--- each variant that a tag tells apart lists its fields one by one, and has no variants
-abbrev pub VariantsListed : Typed → Type 0
-VariantsListed t = (v : ℕ) → IsVariantOfSeveral (layout_in t).variants v → IsListed (layout_in (variant_in t v)).fields × (variants_of (layout_in (variant_in t v)).variants ≡ [])
-
-pub alone_cover : (vs : Variants ℕ ℕ) (own : ℕ → ℕ → Bool) (k : ℕ) → variants_of vs ≡ [] → variants_cover vs own k ≡ false
-alone_cover Empty own k e = refl
-alone_cover (Single i) own k e = refl
-alone_cover (Multiple tag encoding at layouts) own k e = ap (λ (ls : List (VariantLayout ℕ)). list_any (λ v. own v k) (range_with_len 0 (length ls))) e
-
-variant_has : (u : Typed) (v k : ℕ) (t : Typed) → u ≡ variant_in t v → IsListed (layout_in u).fields → variants_of (layout_in u).variants ≡ []
-    → any_has (map (λ i. field_part (VariantField v i) u i) (range_with_len 0 (field_count (layout_in u).fields))) k ≡ is_place u k
-variant_has u v k t same listed alone =
-    any_map (λ i. field_part (VariantField v i) u i) k (range_with_len 0 (field_count (layout_in u).fields)) ∙ by (layout_in u).fields refl listed
-    ∙ sym (place_by u k ∙ ap (λ b. is_shared_place u k || b) (alone_cover (layout_in u).variants (λ w. is_place (variant_in u w)) k alone) ∙ or-false (is_shared_place u k))
-  where
-    by : (shape : FieldsShape ℕ) → (layout_in u).fields ≡ shape → IsListed shape → list_any (has_at u k) (range_with_len 0 (field_count (layout_in u).fields)) ≡ is_shared_place u k
-    by Primitive e h = absurd h
-    by (Union count) e h = absurd h
-    by (Array stride count) e h = absurd h
-    by (Arbitrary offsets order) e h = ap (λ (s : FieldsShape ℕ). list_any (has_at u k) (range_with_len 0 (field_count s))) e ∙ listed_shared u k offsets order e
-
-variants_have : (t : Typed) (k : ℕ) → VariantsListed t → any_has (variants_parts t) k ≡ variants_cover (layout_in t).variants (λ v. is_place (variant_in t v)) k
-variants_have t k listed = by (layout_in t).variants refl
-  where
-    each : (n : ℕ) → ((v : ℕ) → v < n → IsVariantOfSeveral (layout_in t).variants v) → any_has (parts_of_variants t n) k ≡ list_any (λ v. is_place (variant_in t v) k) (range_with_len 0 n)
-    each n beside =
-        any_flat (λ v. variant_parts t v (field_count (layout_in (variant_in t v)).fields)) k (range_with_len 0 n)
-        ∙ any_same (λ v. any_has (variant_parts t v (field_count (layout_in (variant_in t v)).fields)) k) (λ v. is_place (variant_in t v) k) n 0
-        (λ v from below. let own = listed v (beside v (omega (arith, below))) in variant_has (variant_in t v) v k t refl own.0 own.1)
-
-    by : (vs : Variants ℕ ℕ) → (layout_in t).variants ≡ vs → any_has (variants_parts t) k ≡ variants_cover (layout_in t).variants (λ v. is_place (variant_in t v)) k
-    by Empty e = rw e refl
-    by (Single i) e = rw e refl
-    by (Multiple tag encoding at layouts) e =
-        let all = each (length layouts) (λ v lt. subst (λ (vs : Variants ℕ ℕ). IsVariantOfSeveral vs v) (sym e) lt) in rw e all
+alone_has : (parts : Parts) (k : ℕ) → any_has (field_parts None 0 parts ++ []) k ≡ is_place_of_part parts k
+alone_has parts k =
+    list_any-append (λ (one : Part). one.has k) (field_parts None 0 parts) [] ∙ or-false (any_has (field_parts None 0 parts) k) ∙ fields_have None 0 k parts
 
 -- some part has a byte exactly where it is a data place
-pub parts_cover : (t : Typed) (k : ℕ) → VariantsListed t → any_has (all_parts t) k ≡ is_place t k
-parts_cover t k listed =
-    list_any-append (λ (part : Part). part.has k) (common_parts t) (variants_parts t) ∙ ap (λ b. any_has (common_parts t) k || b) (variants_have t k listed)
-    ∙ own_have t k (variants_cover (layout_in t).variants (λ v. is_place (variant_in t v)) k) (place_by t k)
+parts_have : (placed : Placed) (k : ℕ) → any_has (common_parts placed ++ variant_parts placed) k ≡ is_data_place placed k
+parts_have (scalar layout s) k = whole_has Number (scalar layout s) k
+parts_have (pair layout parts) k = alone_has parts k
+parts_have (never layout mark) k = whole_has Number (never layout mark) k
+parts_have (elements layout count element) k = whole_has Elements (elements layout count element) k
+parts_have (vector layout lanes) k = whole_has Lanes (vector layout lanes) k
+parts_have (fields layout mark parts) k = alone_has parts k
+parts_have (union layout mark parts) k = alone_has parts k
+parts_have (single layout mark index parts) k = alone_has parts k
+parts_have (tagged layout mark offset tag encoding arms) k = ap (λ b. (nat_le offset k && is_data_place tag (k - offset)) || b) (arms_have 0 k arms)
+parts_have (states layout prefix offset tag arms) k =
+    let front : List Part = field_parts None 0 prefix in
+    let of_tag = nat_le offset k && is_data_place tag (k - offset) in
+    list_any-append (λ (one : Part). one.has k) (front ++ placed_part Tag offset tag ∷ []) (parts_of_arms 0 arms)
+    ∙ ap (λ b. b || any_has (parts_of_arms 0 arms) k)
+    (list_any-append (λ (one : Part). one.has k) front (placed_part Tag offset tag ∷ []) ∙ ap (λ b. b || (of_tag || false)) (fields_have None 0 k prefix) ∙ ap (λ b. is_place_of_part prefix k || b) (or-false of_tag))
+    ∙ ap (λ b. (is_place_of_part prefix k || of_tag) || b) (arms_have 0 k arms) ∙ or_assoc (is_place_of_part prefix k) of_tag (is_place_of_arm arms k)
+
+all_have : (placed : Placed) (k : ℕ) → k < size_of placed → any_has (all_parts placed) k ≡ is_data_place placed k
+all_have placed k lt =
+    ap (λ b. any_has (if b then common_parts placed ++ variant_parts placed else []) k) (lt-ltb 0 (size_of placed) (omega (arith, lt))) ∙ parts_have placed k
+
+not_place : (size k : ℕ) (place : Bool) → k < size → (nat_lt k size && not place) ≡ true → place ≡ false
+not_place size k true lt e =
+    let clash : false ≡ true = sym (ap (λ b. b && false) (lt-ltb k size lt)) ∙ e in
+    absurd (cc)
+not_place size k false lt e = refl
+
+-- the bytes without a name are padding
+pub padding_named : PaddingHasNoName
+padding_named placed k lt = (
+  λ none. ap (λ b. b && not (is_data_place placed k)) (lt-ltb k (size_of placed) lt) ∙ ap (λ b. not b) (sym (all_have placed k lt) ∙ none_has (all_parts placed) k none),
+  λ padding. no_names (all_parts placed) k (all_have placed k lt ∙ not_place (size_of placed) k (is_data_place placed k) lt padding),
+)

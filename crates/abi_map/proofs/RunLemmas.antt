@@ -3,9 +3,9 @@ use Rattle.std.proofs.Common.{◌≡◌, ℕ, zero, suc, ◌+◌, ◌-◌, ◌<�
 use Rattle.std.specs.Prelude.{◌&&◌, ◌||◌, ◌==◌, not, cond}
 use Rattle.std.specs.List.{filter, list_any, range_with_len}
 use Rattle.std.proofs.lemmas.Bool.{cases_lt, le-leb}
-use Rattle.abi_map.specs.declared.part.Name.{Name}
+use Rattle.abi_laid.specs.declared.parts.PartName.{PartName}
 use Rattle.abi_map.specs.Map.{names_at}
-use Rattle.abi_map.specs.Parts.{Part}
+use Rattle.abi_laid.specs.Parts.{Part}
 use Rattle.abi_map.specs.Runs.{AreRuns}
 use Rattle.abi_map.specs.Starts.{changes, had, is_start, starts_of}
 
@@ -21,7 +21,7 @@ neither true b e = absurd (cc)
 neither false b e = (refl, e)
 
 -- a name before others, where the part has the byte
-abbrev with_name : Bool → Name → List Name → List Name
+abbrev with_name : Bool → PartName → List PartName → List PartName
 with_name has name names = cond has (name ∷ names) names
 
 names_by : (part : Part) (parts : List Part) (k : ℕ) → names_at (part ∷ parts) k ≡ with_name (part.has k) part.name (names_at parts k)

@@ -14,10 +14,10 @@ use Rattle.abi_index.specs.Runs.{Adds, moved_to}
 use Rattle.abi_index.proofs.RangeSetLemmas.{earlier}
 use Rattle.abi_index.proofs.RunsLemmas.{moved-zero}
 use Rattle.abi_index.proofs.UncutLemmas.{none_below}
-use Rattle.abi_map.specs.declared.part.PartBytes.{PartBytes}
+use Rattle.abi_laid.specs.declared.parts.PartBytes.{PartBytes}
 use Rattle.abi_map.specs.Covering.{AreAscending}
 use Rattle.abi_map.specs.Numbers.{AddsBelow, numbers}
-use Rattle.abi_map.specs.Parts.{Part, part_told}
+use Rattle.abi_laid.specs.Parts.{Part, kept_part}
 use Rattle.abi_map.specs.Starts.{changes, had, is_start}
 
 -- ---- runs that end below a number
@@ -91,7 +91,7 @@ changes_put size part cut late before begins ends none old middle new empty is_c
 
 -- below the size the runs have the first byte, and the bytes at which one of these parts changes
 abbrev pub HasStarts : (size : ℕ) → List PartBytes → List (ℕ × ℕ) → Type 0
-HasStarts size parts runs = (k : ℕ) → k < size → is_in_ranges runs k ≡ is_start (map part_told parts) k
+HasStarts size parts runs = (k : ℕ) → k < size → is_in_ranges runs k ≡ is_start (map kept_part parts) k
 
 pub starts_none : (size : ℕ) (none runs : List (ℕ × ℕ)) → none ≡ [] → Adds none runs (moved_to 0 (λ k. nat_lt k 1)) → HasStarts size [] runs
 starts_none size none runs empty adds k lt = adds k ∙ ap (λ rs. is_in_ranges rs k || moved_to 0 (λ k. nat_lt k 1) k) empty ∙ moved-zero (λ k. nat_lt k 1) k ∙ first k ∙ sym (or-false (k == 0))
@@ -103,14 +103,14 @@ starts_none size none runs empty adds k lt = adds k ∙ ap (λ rs. is_in_ranges 
     ]
 
 pub starts_more : (size : ℕ) (parts : List PartBytes) (i : ℕ) (d : PartBytes) (old new : List (ℕ × ℕ)) → i < length parts → HasStarts size (take i parts) old
-    → AddsBelow size old new (changes (part_told (get_or parts i d))) → HasStarts size (take (i + 1) parts) new
+    → AddsBelow size old new (changes (kept_part (get_or parts i d))) → HasStarts size (take (i + 1) parts) new
 starts_more size parts i d old new lt inv adds k below =
     let test = λ (part : Part). changes part k in
-    let front : List Part = map part_told (take i parts) in
-    let last : Part = part_told (get_or parts i d) in
+    let front : List Part = map kept_part (take i parts) in
+    let last : Part = kept_part (get_or parts i d) in
     adds k below ∙ ap (λ b. b || changes last k) (inv k below) ∙ or_assoc (k == 0) (list_any test front) (changes last k)
     ∙ ap (λ b. (k == 0) || b) (ap (λ b. list_any test front || b) (sym (or-false (changes last k))) ∙ sym (list_any-append test front (last ∷ [])))
-    ∙ ap (λ xs. is_start xs k) (sym (map-append part_told (take i parts) (get_or parts i d ∷ []))) ∙ ap (λ xs. is_start (map part_told xs) k) (sym (take_more parts i d lt))
+    ∙ ap (λ xs. is_start xs k) (sym (map-append kept_part (take i parts) (get_or parts i d ∷ []))) ∙ ap (λ xs. is_start (map kept_part xs) k) (sym (take_more parts i d lt))
   where
     or_assoc : (a b c : Bool) → ((a || b) || c) ≡ (a || (b || c))
     or_assoc true b c = refl
@@ -118,12 +118,12 @@ starts_more size parts i d old new lt inv adds k below =
 
 -- cut at the size they are the starts
 pub starts_cut : (size : ℕ) (parts : List PartBytes) (runs built set : List (ℕ × ℕ)) → HasStarts size parts runs → ((k : ℕ) → is_in_ranges built k ≡ is_in_ranges runs k)
-    → ((k : ℕ) → is_in_ranges set k ≡ (nat_lt k size && is_in_ranges built k)) → (k : ℕ) → is_in_ranges set k ≡ (nat_lt k size && is_start (map part_told parts) k)
+    → ((k : ℕ) → is_in_ranges set k ≡ (nat_lt k size && is_in_ranges built k)) → (k : ℕ) → is_in_ranges set k ≡ (nat_lt k size && is_start (map kept_part parts) k)
 starts_cut size parts runs built set has is_built is_cut k = is_cut k ∙ by (cases_lt k size)
   where
-    by : (k < size) ⊎ (size ≤ k) → (nat_lt k size && is_in_ranges built k) ≡ (nat_lt k size && is_start (map part_told parts) k)
+    by : (k < size) ⊎ (size ≤ k) → (nat_lt k size && is_in_ranges built k) ≡ (nat_lt k size && is_start (map kept_part parts) k)
     by (inl below) = ap (λ b. nat_lt k size && b) (is_built k ∙ has k below)
-    by (inr past) = ap (λ b. b && is_in_ranges built k) (le-ltb k size past) ∙ sym (ap (λ b. b && is_start (map part_told parts) k) (le-ltb k size past))
+    by (inr past) = ap (λ b. b && is_in_ranges built k) (le-ltb k size past) ∙ sym (ap (λ b. b && is_start (map kept_part parts) k) (le-ltb k size past))
 
 -- ---- one by one
 

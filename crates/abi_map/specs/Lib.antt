@@ -1,5 +1,4 @@
 -- the parts of a type, and where runs begin
-pub mod Parts
 pub mod Starts
 -- runs of bytes, one by one
 pub mod Numbers

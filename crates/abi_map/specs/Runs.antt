@@ -1,13 +1,9 @@
 -- What the runs of a map keep.
 use Rattle.std.specs.Prelude.{◌≡◌, ℕ, ◌<◌, ◌≤◌, ◌↔◌, List, [], ◌∷◌, get_or, true}
-use Rattle.abi_base.specs.declared.data_layout.TargetDataLayout.{TargetDataLayout}
-use Rattle.abi_laid.specs.declared.laid.Laid.{Laid}
-use Rattle.abi_laid.specs.Laid.{placed_of, typed_of}
-use Rattle.abi_laid.specs.Placed.{size_of}
+use Rattle.abi_laid.specs.Placed.{Placed, size_of}
 use Rattle.abi_laid.specs.Runs.{is_padding_of}
-use Rattle.abi_text.specs.LaidOut.{IsLaidOut}
 use Rattle.abi_map.specs.Map.{names_at}
-use Rattle.abi_map.specs.Parts.{Part, all_parts}
+use Rattle.abi_laid.specs.Parts.{Part, all_parts}
 use Rattle.abi_map.specs.Starts.{is_start, starts_of}
 
 -- From a byte on up to the size there is one run behind another: each begins where the one before ends, has a byte, and has the same
@@ -23,8 +19,6 @@ AreRuns parts size from (start ∷ starts) =
 abbrev pub RunsFollow : Type 0
 RunsFollow = (parts : List Part) (size : ℕ) → AreRuns parts size 0 (starts_of parts size)
 
--- of each type that is laid out, the bytes without a name are its padding
+-- the bytes without a name are a type's padding
 abbrev pub PaddingHasNoName : Type 0
-PaddingHasNoName =
-    (dl : TargetDataLayout) (laid : Laid) (k : ℕ) → IsLaidOut dl laid → k < size_of (placed_of laid)
-    → (names_at (all_parts (typed_of laid)) k ≡ []) ↔ (is_padding_of (placed_of laid) k ≡ true)
+PaddingHasNoName = (placed : Placed) (k : ℕ) → k < size_of placed → (names_at (all_parts placed) k ≡ []) ↔ (is_padding_of placed k ≡ true)

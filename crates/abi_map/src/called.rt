@@ -1,18 +1,18 @@
 //! What the parts of a type are called.
 
-use crate::part::Name;
+use abi_laid::PartName;
 use std::alloc::AllocError;
 
 /// What the parts of a type are called in a map.
 pub trait Called {
     ghost use Rattle.std.specs.Prelude.{◌≡◌, ◌++◌, ℕ, List, OnOk, string_bytes};
-    ghost use Rattle.abi_map.specs.declared.part.Name.{Name};
+    ghost use Rattle.abi_laid.specs.declared.parts.PartName.{PartName};
 
     /// What a part is called, as text.
-    ghost called: { Self → Name → List ℕ };
+    ghost called: { Self → PartName → List ℕ };
 
     /// Writes what a part is called. An error comes where a growth of memory was refused.
-    fn write_name(&self, out: &mut String, name: Name) -> Result<(), AllocError>
+    fn write_name(&self, out: &mut String, name: PartName) -> Result<(), AllocError>
         ensures { OnOk result (string_bytes out.new ≡ string_bytes out.old ++ called self.now name) };
 }
 
@@ -25,14 +25,14 @@ impl Called for ByIndex {
 
     ghost called = { λ _ name. called_text name };
 
-    fn write_name(&self, out: &mut String, name: Name) -> Result<(), AllocError> {
+    fn write_name(&self, out: &mut String, name: PartName) -> Result<(), AllocError> {
         match name {
-            Name::Number => out.push_str("number"),
-            Name::Elements => out.push_str("elements"),
-            Name::Lanes => out.push_str("lanes"),
-            Name::Field(i) => write!(out, "field {i}"),
-            Name::Tag => out.push_str("tag"),
-            Name::VariantField(v, i) => write!(out, "variant {v} field {i}"),
+            PartName::Number => out.push_str("number"),
+            PartName::Elements => out.push_str("elements"),
+            PartName::Lanes => out.push_str("lanes"),
+            PartName::Field(i) => write!(out, "field {i}"),
+            PartName::Tag => out.push_str("tag"),
+            PartName::VariantField(v, i) => write!(out, "variant {v} field {i}"),
         }
     }
 }

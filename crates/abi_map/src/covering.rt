@@ -1,10 +1,10 @@
 //! Which parts have a byte.
 
 ghost use Rattle.std.specs.Prelude.{◌≡◌, ℕ, ◌+◌, ◌<◌, ◌≤◌, ◌^◌, [], IfOk, OnOk, get_or, length, map};
-ghost use Rattle.abi_map.specs.Parts.{part_told};
+ghost use Rattle.abi_laid.specs.Parts.{kept_part};
 ghost use Rattle.abi_map.specs.Covering.{AreAscending, HaveNames, PutsNames, name_at, name_of, names_of};
 
-use crate::part::{Name, PartBytes};
+use abi_laid::{PartBytes, PartName};
 use std::alloc::{AllocError, Global};
 
 /// The place of the first of these numbers that isn't below a bound.
@@ -22,8 +22,8 @@ fn first_from(starts: &[u64], bound: u64) -> usize
 /// Puts a name behind those of each start that a run of bytes has.
 fn put_run(
     starts: &[u64],
-    names: &mut Vec<Vec<Name>>,
-    name: Name,
+    names: &mut Vec<Vec<PartName>>,
+    name: PartName,
     run: (u64, u64),
 ) -> Result<(), AllocError>
     requires ascend { AreAscending starts.now }
@@ -43,11 +43,15 @@ fn put_run(
 }
 
 /// Puts a part's name behind those of each start that it has.
-fn put_part(starts: &[u64], names: &mut Vec<Vec<Name>>, part: &PartBytes) -> Result<(), AllocError>
+fn put_part(
+    starts: &[u64],
+    names: &mut Vec<Vec<PartName>>,
+    part: &PartBytes,
+) -> Result<(), AllocError>
     requires ascend { AreAscending starts.now }
     requires same { length names.old.items ≡ length starts.now }
     ensures { OnOk result (PutsNames starts.now names.old.items names.new.items
-        (name_of (part_told part.now))) }
+        (name_of (kept_part part.now))) }
 {
     for run in part.bytes.as_slice() {
         put_run(starts, names, part.name, *run)?;
@@ -56,7 +60,7 @@ fn put_part(starts: &[u64], names: &mut Vec<Vec<Name>>, part: &PartBytes) -> Res
 }
 
 /// `count` lists, each without a name.
-fn no_names(alloc: Global, count: usize) -> Result<Vec<Vec<Name>>, AllocError>
+fn no_names(alloc: Global, count: usize) -> Result<Vec<Vec<PartName>>, AllocError>
     ensures long { IfOk result (λ names. length names.items ≡ count) }
     ensures none { IfOk result (λ names. (s : ℕ) → names_of names.items s ≡ []) }
 {
@@ -72,9 +76,9 @@ pub(crate) fn names_at(
     alloc: Global,
     parts: &[PartBytes],
     starts: &[u64],
-) -> Result<Vec<Vec<Name>>, AllocError>
+) -> Result<Vec<Vec<PartName>>, AllocError>
     requires { AreAscending starts.now }
-    ensures { IfOk result (λ names. HaveNames (map part_told parts.now) starts.now names.items) }
+    ensures { IfOk result (λ names. HaveNames (map kept_part parts.now) starts.now names.items) }
 {
     let mut names = no_names(alloc, starts.len())?;
     for part in parts {

@@ -1,7 +1,7 @@
 //! The map of a type as text.
 
 ghost use Rattle.std.specs.Prelude.{◌≡◌, IfOk, string_bytes};
-ghost use Rattle.abi_laid.specs.Laid.{typed_of};
+ghost use Rattle.abi_laid.specs.Laid.{placed_of};
 ghost use Rattle.abi_text.specs.LaidOut.{IsLaidOut};
 ghost use Rattle.abi_map.specs.Map.{map_text};
 
@@ -36,13 +36,12 @@ pub fn map_of<C: Called>(
 ) -> Result<String, AllocError>
     requires { IsLaidOut dl.now laid.now }
     ensures { IfOk result (λ text.
-        string_bytes text ≡ map_text (C.called called.now) dl.now (typed_of laid.now)) }
+        string_bytes text ≡ map_text (C.called called.now) dl.now (placed_of laid.now)) }
 {
-    let root = laid.root();
-    let layout = root.data();
+    let layout = laid.layout();
     let mut text = String::new(alloc);
     write_size(&mut text, layout)?;
-    write_bytes(alloc, &mut text, called, root)?;
+    write_bytes(alloc, &mut text, called, laid)?;
     write_niche(&mut text, dl, layout.largest_niche)?;
     Ok(text)
 }

@@ -1,18 +1,17 @@
 //! How the map of a type is written.
 
 ghost use Rattle.std.specs.Prelude.{◌≡◌, ℕ, ◌<◌, ◌++◌, ◌^◌, IfSome, List, OnOk, length, string_bytes};
-ghost use Rattle.abi_laid.specs.Handles.{IsHandle, tree_type};
+ghost use Rattle.abi_laid.specs.Laid.{placed_of};
+ghost use Rattle.abi_laid.specs.Parts.{Part};
 ghost use Rattle.abi_scalar.specs.Lawful.{IsLawfulNiche};
 ghost use Rattle.abi_map.specs.Covering.{HaveNames};
 ghost use Rattle.abi_map.specs.Map.{bytes_text, names_text, niche_text, run_lines};
-ghost use Rattle.abi_map.specs.Parts.{Part};
 
 use crate::called::Called;
 use crate::covering::names_at;
-use crate::part::Name;
-use crate::parts::{Handle, parts_of};
 use crate::starts::starts_of;
 use abi_base::TargetDataLayout;
+use abi_laid::{Laid, PartName};
 use abi_scalar::Niche;
 use std::alloc::{AllocError, Global};
 
@@ -20,7 +19,11 @@ use std::alloc::{AllocError, Global};
 const MOST_DRAWN: u64 = 65_536;
 
 /// Writes names in a row.
-fn write_names<C: Called>(out: &mut String, called: &C, names: &[Name]) -> Result<(), AllocError>
+fn write_names<C: Called>(
+    out: &mut String,
+    called: &C,
+    names: &[PartName],
+) -> Result<(), AllocError>
     ensures { OnOk result (string_bytes out.new
         ≡ string_bytes out.old ++ names_text (C.called called.now) names.now) }
 {
@@ -40,7 +43,7 @@ fn write_runs<C: Called>(
     out: &mut String,
     called: &C,
     starts: &[u64],
-    names: &[Vec<Name>],
+    names: &[Vec<PartName>],
     size: u64,
 ) -> Result<(), AllocError>
     requires { length names.now ≡ length starts.now }
@@ -63,17 +66,16 @@ pub(crate) fn write_bytes<C: Called>(
     alloc: Global,
     out: &mut String,
     called: &C,
-    root: Handle<'_>,
+    laid: &Laid,
 ) -> Result<(), AllocError>
-    requires valid { IsHandle root }
     ensures { OnOk result (string_bytes out.new
-        ≡ string_bytes out.old ++ bytes_text (C.called called.now) (tree_type root.entry)) }
+        ≡ string_bytes out.old ++ bytes_text (C.called called.now) (placed_of laid.now)) }
 {
-    let size = root.data().size.bytes();
+    let size = laid.layout().size.bytes();
     if size > MOST_DRAWN {
         return out.push_str("not drawn\n");
     }
-    let parts = parts_of(alloc, root)?;
+    let (parts, _visits) = laid.parts(alloc)?;
     let starts = starts_of(alloc, &parts, size)?;
     let names = names_at(alloc, &parts, &starts)?;
     write_runs(out, called, &starts, &names, size)

@@ -2,13 +2,13 @@
 
 ghost use Rattle.std.specs.Prelude.{◌≡◌, ℕ, ◌<◌, ◌≤◌, ◌&&◌, ◌||◌, IfOk, OnOk, map, nat_lt};
 ghost use Rattle.abi_index.specs.RangeSet.{is_in_ranges};
-ghost use Rattle.abi_map.specs.Parts.{part_told};
+ghost use Rattle.abi_laid.specs.Parts.{kept_part};
 ghost use Rattle.abi_map.specs.Starts.{changes, is_start, starts_of};
 ghost use Rattle.abi_map.specs.Covering.{AreAscending};
 ghost use Rattle.abi_map.specs.Numbers.{AddsBelow, numbers};
 
-use crate::part::PartBytes;
 use abi_index::{RangeSet, RangeSetBuilder};
+use abi_laid::PartBytes;
 use std::alloc::{AllocError, Global};
 
 /// Puts the bytes at which a part changes behind others; what isn't below the size is left open.
@@ -19,7 +19,7 @@ fn put_changes(
     size: u64,
 ) -> Result<(), AllocError>
     requires { size ≤ 65536 }
-    ensures { OnOk result (AddsBelow size runs.old runs.new (changes (part_told part.now))) }
+    ensures { OnOk result (AddsBelow size runs.old runs.new (changes (kept_part part.now))) }
 {
     let bytes = part.bytes.before(alloc, size)?;
     let mut moved = RangeSetBuilder::new(alloc);
@@ -33,7 +33,7 @@ fn put_changes(
 fn start_set(alloc: Global, parts: &[PartBytes], size: u64) -> Result<RangeSet, AllocError>
     requires { size ≤ 65536 }
     ensures { IfOk result (λ set. (k : ℕ) →
-        is_in_ranges set k ≡ (nat_lt k size && is_start (map part_told parts.now) k)) }
+        is_in_ranges set k ≡ (nat_lt k size && is_start (map kept_part parts.now) k)) }
 {
     let mut runs = RangeSetBuilder::new(alloc);
     runs.add_range(0, 1)?;
@@ -64,7 +64,7 @@ pub(crate) fn starts_of(
 ) -> Result<Vec<u64>, AllocError>
     requires { size ≤ 65536 }
     ensures starts { IfOk result (λ starts.
-        starts.items ≡ starts_of (map part_told parts.now) size) }
+        starts.items ≡ starts_of (map kept_part parts.now) size) }
     ensures ascend { IfOk result (λ starts. AreAscending starts.items) }
 {
     let set = start_set(alloc, parts, size)?;

@@ -8,11 +8,9 @@ use Rattle.abi_laid.specs.Laid.{placed_of}
 use Rattle.abi_laid.specs.Placed.{layout_of}
 use Rattle.abi_laid.specs.Tree.{Tree}
 use Rattle.rustc_abi.specs.Laying.{IsLaying}
-use Rattle.abi_text.specs.Told.{TellsBytes}
 
--- The type is one that a tree is laid out as under a lawful data layout; its layout is lawful, and its handle tells its bytes.
+-- The type is one that a tree is laid out as under a lawful data layout; its layout is lawful.
 pub record IsLaidOut (dl : TargetDataLayout) (laid : Laid) : Type 0 where
   pub target : IsLawfulDataLayout dl
   pub laying : (tree : Tree) × IsLaying dl tree (Ok (placed_of laid))
   pub lawful : IsLawfulLayout dl (layout_of (placed_of laid))
-  pub tells : TellsBytes laid

@@ -11,7 +11,6 @@ pub mod Repr
 pub mod Reading
 -- laid-out types printed, and the names of refusals
 pub mod Printing
-pub mod Told
 pub mod Listed
 pub mod Names
 -- the words that write a type

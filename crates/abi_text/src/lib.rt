@@ -15,7 +15,6 @@ mod reader;
 
 // Laid-out types printed, and the names of refusals.
 mod layout_text;
-mod listed;
 mod names;
 mod numbered;
 mod print;

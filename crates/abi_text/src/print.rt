@@ -5,13 +5,11 @@ ghost use Rattle.abi_text.specs.Printing.{field_lines, layout_lines, niche_line,
 ghost use Rattle.abi_base.specs.Integer.{integer_text};
 ghost use Rattle.abi_base.specs.Primitive.{primitive_text};
 ghost use Rattle.abi_index.specs.RangeSet.{AreMaximalRuns};
-ghost use Rattle.abi_text.specs.Told.{TellsBytes};
 ghost use Rattle.abi_laid.specs.Laid.{placed_of};
 ghost use Rattle.abi_laid.specs.Placed.{layout_of};
 
-use crate::listed::{listed, write_listed_padding};
 use crate::numbered::write_two_numbered;
-use crate::print_variants::write_variants;
+use crate::print_variants::{listed_unused, write_variants};
 use abi_base::{Integer, Primitive, Size};
 use abi_index::{FieldIdx, VariantIdx};
 use abi_laid::Laid;
@@ -186,14 +184,13 @@ pub fn write_padding(alloc: Global, out: &mut String, laid: &Laid) -> Result<(),
 /// What it asks holds of each type that `lay_out` answers. An error comes where a growth of memory was refused; a
 /// beginning of the lines may then stand in the text.
 pub fn write_type(alloc: Global, out: &mut String, laid: &Laid) -> Result<(), AllocError>
-    requires align { (layout_of (placed_of laid.now)).align.abi < 64 }
-    requires told { TellsBytes laid.now }
+    requires { (layout_of (placed_of laid.now)).align.abi < 64 }
     ensures { OnOk result (string_bytes out.new
         ≡ string_bytes out.old ++ type_text (placed_of laid.now)) }
 {
-    let (padding, unused) = listed(alloc, laid)?;
+    let unused = listed_unused(alloc, laid)?;
     write_layout(out, laid.layout())?;
     write_variants(out, laid, &unused)?;
     write_niche(out, laid.layout().largest_niche)?;
-    write_listed_padding(out, laid, &padding)
+    write_padding(alloc, out, laid)
 }

@@ -5,7 +5,6 @@ ghost use Rattle.abi_index.specs.Idx.{greatest_place};
 ghost use Rattle.abi_index.specs.RangeSet.{AreMaximalRuns};
 ghost use Rattle.abi_text.specs.Printing.{lines_of_variants, named_text, range_lines, printed_scalar, tag_line, unused_lines, variant_lines, variants_lines};
 ghost use Rattle.abi_text.specs.Listed.{ListsUnused};
-ghost use Rattle.abi_text.specs.Told.{TellsBytes};
 ghost use Rattle.abi_types.specs.Ty.Runs.{IsVariantOfSeveral};
 ghost use Rattle.abi_laid.specs.Laid.{placed_of};
 ghost use Rattle.abi_laid.specs.Placed.{layout_of};
@@ -24,14 +23,23 @@ pub fn listed_unused(
     alloc: Global,
     laid: &Laid,
 ) -> Result<IndexVec<VariantIdx, RangeSet>, AllocError>
-    requires { TellsBytes laid.now }
     ensures { IfOk result (ListsUnused (placed_of laid.now)) }
 {
     if laid.layout().size.bytes() > MOST_LISTED {
         return Ok(IndexVec::new(alloc));
     }
-    laid.root()
-        .each_variant_dependent_padding_ranges(alloc, &())
+    match &laid.layout().variants {
+        Variants::Multiple {
+            tag: _,
+            tag_encoding: _,
+            tag_field: _,
+            variants: _,
+        } => {
+            let (unused, _visits) = laid.variant_padding(alloc)?;
+            Ok(unused)
+        }
+        _ => Ok(IndexVec::new(alloc)),
+    }
 }
 
 /// The runs of the set of a variant, each its first byte and how many; none where it has no set.

@@ -5,8 +5,8 @@ ghost use Rattle.std.specs.Result.{IsErrAnd};
 ghost use Rattle.abi_base.specs.DataLayout.{IsLawfulDataLayout};
 ghost use Rattle.abi_laid.specs.Tree.{tree_of};
 ghost use Rattle.abi_laid.specs.Values.{LocalsHaveValues};
-ghost use Rattle.abi_laid.specs.Deciding.{CoveredBytesDecide, EachPlaceDecides, KeepsPlaces, all_inhabited_of};
-ghost use Rattle.abi_laid.specs.Faithful.{EachValueIsHeld, OnlyValuesAreHeld, NoBytesHoldTwo, IsNicheTrue, IsNicheInside, PaddingDecidesNothing, IsViewTrue, IsFlagTrue};
+ghost use Rattle.abi_laid.specs.Deciding.{CoveredBytesDecide, EachPlaceDecides, all_inhabited_of};
+ghost use Rattle.abi_laid.specs.Faithful.{IsFaithful};
 ghost use Rattle.abi_scalar.specs.Lawful.{IsLawfulLayout};
 ghost use Rattle.rustc_abi.specs.declared.error.LayError.{LayError};
 ghost use Rattle.abi_laid.specs.Placed.{Placed, layout_of};
@@ -14,7 +14,6 @@ ghost use Rattle.abi_types.specs.Ty.Places.{is_place};
 ghost use Rattle.abi_laid.specs.Laid.{placed_of, endian_of, node_count_of, typed_of};
 ghost use Rattle.rustc_abi.specs.Laying.{IsLaying};
 ghost use Rattle.abi_laid.specs.Places.{is_data_place};
-ghost use Rattle.abi_laid.specs.Unused.{KeepsToPlaces, TellsUnused};
 ghost use Rattle.abi_types.specs.Ty.Walks.{is_sized};
 ghost use Rattle.rustc_abi.specs.Clash.{AreClashingLocalsApart, HaveLocalsOneOffset};
 ghost use Rattle.rustc_abi.specs.Count.{HasNodes};
@@ -28,7 +27,6 @@ ghost use Rattle.rustc_abi.specs.Niches.{HasNicheOfParts};
 ghost use Rattle.rustc_abi.specs.Orders.{LiesAsAsked};
 ghost use Rattle.abi_laid.specs.Unions.{Begins, IsCommon, InUnions};
 ghost use Rattle.abi_laid.specs.Untagged.{UntaggedNamed};
-ghost use Rattle.abi_laid.specs.Reading.{KeepsValues};
 ghost use Rattle.abi_laid.specs.OfTree.{KeepsTree};
 ghost use Rattle.rustc_abi.specs.Fault.{IsRefusedFor};
 
@@ -104,45 +102,28 @@ pub fn lay_out(alloc: Global, dl: &TargetDataLayout, tree: &TypeTree) -> Result<
     ensures one_offset { IfOk result (EachIn dl.now (tree_of tree.now) HaveLocalsOneOffset) }
     ensures counted { IfOk result (λ laid. HasNodes dl.now (tree_of tree.now) (node_count_of laid)) }
 
-    // Whether each type in it has values, that it is sized, and which bytes are data places, to which values keep.
+    // Whether each type in it has values, that it is sized, and which bytes are data places.
     ensures inhabited { IfOk result (λ laid.
         (all_inhabited_of laid ≡ true) ↔ EachInhabited dl.now (tree_of tree.now)) }
     ensures all_have { IfOk result (λ laid. EachHasValue dl.now (tree_of tree.now) → all_inhabited_of laid ≡ true) }
     ensures sized { IfOk result (λ laid. is_sized (layout_of (placed_of laid)).backend_repr ≡ true) }
     ensures places { IfOk result (λ laid. (k : ℕ) → is_place (typed_of laid) k ≡ is_data_place (placed_of laid) k) }
-    ensures unused { IfOk result TellsUnused }
-    ensures own_places { IfOk result (λ laid. KeepsToPlaces dl.now.endian (placed_of laid)) }
 
-    // What it keeps of the values, where each local of a coroutine has one.
-    ensures exists { IfOk result (λ laid. LocalsHaveValues dl.now (tree_of tree.now) →
-        EachValueIsHeld dl.now (tree_of tree.now) (placed_of laid)) }
-    ensures only { IfOk result (λ laid. LocalsHaveValues dl.now (tree_of tree.now) →
-        OnlyValuesAreHeld dl.now (tree_of tree.now) (placed_of laid)) }
-    ensures unique { IfOk result (λ laid. LocalsHaveValues dl.now (tree_of tree.now) →
-        NoBytesHoldTwo dl.now (placed_of laid)) }
-    ensures niche { IfOk result (λ laid. LocalsHaveValues dl.now (tree_of tree.now) →
-        IsNicheTrue dl.now (placed_of laid)) }
-    ensures inside { IfOk result (λ laid. LocalsHaveValues dl.now (tree_of tree.now) →
-        IsNicheInside dl.now (placed_of laid)) }
-    ensures padding { IfOk result (λ laid. LocalsHaveValues dl.now (tree_of tree.now) →
-        PaddingDecidesNothing dl.now (placed_of laid)) }
-    ensures view { IfOk result (λ laid. LocalsHaveValues dl.now (tree_of tree.now) →
-        IsViewTrue dl.now (placed_of laid)) }
-    ensures uninhabited { IfOk result (λ laid. LocalsHaveValues dl.now (tree_of tree.now) →
-        IsFlagTrue dl.now (tree_of tree.now) (placed_of laid)) }
+    // What it keeps of the values, where each local of a coroutine has one: each is held, only they are, none beside another,
+    // by the data places alone; and its niche, its view and its flag are true of them.
+    ensures faithful { IfOk result (λ laid. LocalsHaveValues dl.now (tree_of tree.now) →
+        IsFaithful dl.now (tree_of tree.now) (placed_of laid)) }
     ensures untagged { IfOk result (λ laid. LocalsHaveValues dl.now (tree_of tree.now) →
         UntaggedNamed dl.now.endian (placed_of laid)) }
-    ensures keeps { IfOk result (λ laid. LocalsHaveValues dl.now (tree_of tree.now) →
-        KeepsValues dl.now (tree_of tree.now) laid) }
     ensures common { IfOk result (λ laid. LocalsHaveValues dl.now (tree_of tree.now) →
         InUnions (IsCommon dl.now.endian) (placed_of laid)) }
     ensures begins { IfOk result (λ laid. InUnions (Begins dl.now.endian) (placed_of laid)) }
+
+    // What calls of the laid-out type ask of it: that its values are read and written, its places decide, and values keep to them.
     ensures of_tree { IfOk result (λ laid. KeepsTree dl.now (tree_of tree.now) laid) }
 
     // Which bytes decide: where each type in it has values, all but padding.
     ensures covered { IfOk result (λ laid. CoveredBytesDecide dl.now.endian (placed_of laid)) }
-    ensures covers { IfOk result (λ laid. all_inhabited_of laid ≡ true →
-        KeepsPlaces dl.now (tree_of tree.now) laid) }
     ensures decides { IfOk result (λ laid. all_inhabited_of laid ≡ true →
         EachPlaceDecides dl.now.endian (placed_of laid)) }
 {

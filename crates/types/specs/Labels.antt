@@ -1,8 +1,8 @@
 -- What fields, variants and the parts of a type are called.
 use Rattle.std.specs.Prelude.{ℕ, List, [], ◌++◌, codes, Option, None, Some, slice_get}
 use Rattle.std.specs.Fmt.{decimal}
-use Rattle.abi_map.specs.declared.part.Name.{Name}
-use Rattle.abi_map.specs.declared.part.Name.TheVariants.{Number, Elements, Lanes, Field, Tag, VariantField}
+use Rattle.abi_laid.specs.declared.parts.PartName.{PartName}
+use Rattle.abi_laid.specs.declared.parts.PartName.TheVariants.{Number, Elements, Lanes, Field, Tag, VariantField}
 use Rattle.abi_rust.specs.declared.told.Label.{Label}
 use Rattle.abi_rust.specs.declared.told.VariantLabels.{VariantLabels}
 use Rattle.rust_source.specs.declared.item.FieldName.{FieldName}
@@ -32,7 +32,7 @@ labels_in None = []
 labels_in (Some variant) = variant.fields.items
 
 -- a part of a type whose own fields have the first labels, and whose variants the second
-abbrev pub part_text : Names → (fields : List Label) → (variants : List VariantLabels) → Name → List ℕ
+abbrev pub part_text : Names → (fields : List Label) → (variants : List VariantLabels) → PartName → List ℕ
 part_text names fields variants Number = codes "number"
 part_text names fields variants Elements = codes "elements"
 part_text names fields variants Lanes = codes "lanes"

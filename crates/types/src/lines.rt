@@ -4,7 +4,6 @@ ghost use Rattle.std.specs.Prelude.{◌≡◌, ℕ, ◌<◌, ◌≤◌, ◌+◌,
 ghost use Rattle.abi_index.specs.Idx.{greatest_place};
 ghost use Rattle.abi_laid.specs.Laid.{placed_of};
 ghost use Rattle.abi_laid.specs.Placed.{layout_of};
-ghost use Rattle.abi_text.specs.Told.{TellsBytes};
 ghost use Rattle.abi_types.specs.Ty.Runs.{IsVariantOfSeveral};
 ghost use Rattle.types.specs.Lines.{labelled_fields, labelled_niche, offsets_in, own_offsets, parts_lines, labelled_range, rest_lines, several_lines, single_lines, labelled_tag, type_lines, labelled_variant, labelled_variants};
 
@@ -111,7 +110,6 @@ fn write_several(
     laid: &Laid,
     layouts: &[VariantLayout<FieldIdx>],
 ) -> Result<(), AllocError>
-    requires told { TellsBytes laid.now }
     requires most { length layouts.now ≤ greatest_place + 1 }
     requires variants { (i : ℕ) → i < length layouts.now →
         IsVariantOfSeveral (layout_of (placed_of laid.now)).variants i }
@@ -211,7 +209,6 @@ fn write_variants(
     labels: &[VariantLabels],
     laid: &Laid,
 ) -> Result<(), AllocError>
-    requires { TellsBytes laid.now }
     ensures { let placed = placed_of laid.now in OnOk result (string_bytes out.new ≡ string_bytes out.old
         ++ labelled_variants names.now labels.now placed (offsets_in (layout_of placed).fields)
         (layout_of placed).variants) }
@@ -251,7 +248,6 @@ fn write_parts(
     shape: &Shape,
     laid: &Laid,
 ) -> Result<(), AllocError>
-    requires { TellsBytes laid.now }
     ensures { let placed = placed_of laid.now in OnOk result (string_bytes out.new
         ≡ string_bytes out.old ++ parts_lines names.now shape.now placed (layout_of placed)) }
 {
@@ -293,7 +289,6 @@ pub(crate) fn write_lines(
     laid: &Laid,
 ) -> Result<(), AllocError>
     requires align { (layout_of (placed_of laid.now)).align.abi < 64 }
-    requires told { TellsBytes laid.now }
     ensures { OnOk result (string_bytes out.new
         ≡ string_bytes out.old ++ type_lines names.now shape.now (placed_of laid.now)) }
 {

@@ -4,8 +4,8 @@ ghost use Rattle.std.specs.Prelude.{◌≡◌, ◌++◌, OnOk, slice_get, string
 ghost use Rattle.types.specs.Labels.{label_text, labels_in, variant_text};
 
 use crate::labels::write_field_name;
-use abi_laid::Laid;
-use abi_map::{Called, Name};
+use abi_laid::{Laid, PartName};
+use abi_map::Called;
 use abi_rust::{Label, Shape, VariantLabels};
 use abi_scalar::Variants;
 use rust_source::Names;
@@ -68,17 +68,17 @@ impl Called for ByName<'_> {
 
     ghost called = { λ by name. part_text by.names.now by.fields.now by.variants.now name };
 
-    fn write_name(&self, out: &mut String, name: Name) -> Result<(), AllocError> {
+    fn write_name(&self, out: &mut String, name: PartName) -> Result<(), AllocError> {
         match name {
-            Name::Number => out.push_str("number"),
-            Name::Elements => out.push_str("elements"),
-            Name::Lanes => out.push_str("lanes"),
-            Name::Tag => out.push_str("tag"),
-            Name::Field(i) => {
+            PartName::Number => out.push_str("number"),
+            PartName::Elements => out.push_str("elements"),
+            PartName::Lanes => out.push_str("lanes"),
+            PartName::Tag => out.push_str("tag"),
+            PartName::Field(i) => {
                 out.push_str("field ")?;
                 write_label(out, self.names, self.fields, i)
             }
-            Name::VariantField(v, i) => {
+            PartName::VariantField(v, i) => {
                 out.push_str("variant ")?;
                 write_variant(out, self.names, self.variants, v)?;
                 out.push_str(" field ")?;

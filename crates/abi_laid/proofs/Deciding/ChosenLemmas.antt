@@ -24,7 +24,7 @@ use Rattle.abi_laid.proofs.Places.NeededLemmas.{laws_here, variants_listed}
 use Rattle.abi_laid.proofs.Places.RoomLemmas.{room_at}
 
 -- what is kept stands in the list
-kept_below : (kept : List (Option NodeRef)) (i : ℕ) → IsKept kept i → i < length kept
+pub kept_below : (kept : List (Option NodeRef)) (i : ℕ) → IsKept kept i → i < length kept
 kept_below kept i keeps =
     ⊎_elim (λ (lt : i < length kept). lt) (λ (past : length kept ≤ i). let clash : None ≡ Some keeps.0 = sym (get_or_past kept i None past) ∙ keeps.1 in absurd (cc)) (cases_lt i (length kept))
 

@@ -110,7 +110,7 @@ module _ (ns : List Node) (well : are_nodes 0 ns ≡ true) (i : ℕ) (n : Node) 
       let beside = and_parts (nat_lt tag i) (list_all (λ v. nat_lt v.1 i) all.items) both.1 in
       (all_before i prefix.items both.0, ltb-true tag i beside.0, variants_before i all.items beside.1, is.1, ap has_room (sym is.1) ∙ room)
 
-own_fields_none : (done : List Placed) (layout : Layout) (shape : Shape) → ((mark : Mark) (children : Vec ℕ Global) → shape ≡ Fields mark children → ⊥) → own_fields (meaning done layout shape) ≡ no_parts
+pub own_fields_none : (done : List Placed) (layout : Layout) (shape : Shape) → ((mark : Mark) (children : Vec ℕ Global) → shape ≡ Fields mark children → ⊥) → own_fields (meaning done layout shape) ≡ no_parts
 own_fields_none done layout (Number s) other = refl
 own_fields_none done layout (Pair first second) other = refl
 own_fields_none done layout (Never mark) other = refl

@@ -1,13 +1,13 @@
 -- Maximal runs that cover the places of a test are the runs that are listed of them.
 use Rattle.std.proofs.Common.{◌≡◌, ℕ, zero, suc, ◌+◌, ◌-◌, ◌<◌, ◌≤◌, inl, inr, List, [], ◌∷◌, Some, None, Bool, true, false, arith, refl, sym, ap, ◌∙◌, subst}
 use Rattle.std.specs.Prelude.{◌&&◌, ◌||◌, not, nat_le, nat_lt, if◌then◌else◌}
-use Rattle.std.proofs.lemmas.Bool.{cases_lt, lt-ltb, le-ltb, le-leb}
+use Rattle.std.proofs.lemmas.Bool.{cases_lt, false_from_ne_true, lt-ltb, le-ltb, le-leb}
 use Rattle.std.proofs.Math.Bool.{and-false}
 use Rattle.std.specs.Cmp.Derive.{both_true}
 use Rattle.abi_index.specs.RangeSet.{is_in_ranges, AreMaximalRuns}
 use Rattle.abi_index.proofs.UncutLemmas.{none_below}
 use Rattle.abi_types.specs.Ty.Typed.{Typed, layout_in}
-use Rattle.abi_types.specs.Ty.Places.{is_place, is_padding, is_unused}
+use Rattle.abi_types.specs.Ty.Places.{is_place, is_padding}
 use Rattle.abi_laid.specs.Placed.{Placed, size_of}
 use Rattle.abi_laid.specs.Places.{is_data_place}
 use Rattle.abi_laid.specs.Runs.{runs_from, is_padding_of, is_place_of_variant, padding_of, unused_of}
@@ -107,14 +107,9 @@ padding_listed placed xs maximal padding =
 pub padding_told : (t : Typed) (placed : Placed) → (layout_in t).size ≡ size_of placed → ((k : ℕ) → is_place t k ≡ is_data_place placed k) → (k : ℕ) → is_padding t k ≡ is_padding_of placed k
 padding_told t placed size same k = ap (λ n. nat_lt k n && not (is_place t k)) size ∙ ap (λ b. nat_lt k (size_of placed) && not b) (same k)
 
--- what is no data place is no unused one
-not_unused : (place own : Bool) → (place ≡ true → ⊥) → (place && not own) ≡ false
-not_unused true own none = absurd (none refl)
-not_unused false own none = refl
-
--- maximal runs of what the type tells a variant to leave unused are what the variant leaves unused
-pub unused_listed : (t : Typed) (placed : Placed) (i : ℕ) (xs : List (ℕ × ℕ)) → ((k : ℕ) → is_data_place placed k ≡ true → k < size_of placed) →
-    ((k : ℕ) → is_unused t i k ≡ (is_data_place placed k && not (is_place_of_variant placed i k))) → AreMaximalRuns 0 xs → ((k : ℕ) → is_in_ranges xs k ≡ is_unused t i k) → xs ≡ unused_of placed i
-unused_listed t placed i xs within same maximal unused =
-    maximal_are (λ k. is_data_place placed k && not (is_place_of_variant placed i k)) (size_of placed) xs maximal (λ k lt. unused k ∙ same k)
-    (λ k le. unused k ∙ same k ∙ not_unused (is_data_place placed k) (is_place_of_variant placed i k) (λ place. absurd (omega (arith, le, within k place))))
+-- maximal runs of what a variant leaves unused, which lie below the size, are those that are listed
+pub unused_listed : (placed : Placed) (i : ℕ) (xs : List (ℕ × ℕ)) → AreMaximalRuns 0 xs → ((k : ℕ) → is_in_ranges xs k ≡ (is_data_place placed k && not (is_place_of_variant placed i k))) →
+    ((k : ℕ) → is_in_ranges xs k ≡ true → k < size_of placed) → xs ≡ unused_of placed i
+unused_listed placed i xs maximal unused within =
+    maximal_are (λ k. is_data_place placed k && not (is_place_of_variant placed i k)) (size_of placed) xs maximal (λ k lt. unused k)
+    (λ k le. false_from_ne_true (is_in_ranges xs k) (λ there. absurd (omega (arith, le, within k there))))

@@ -26,7 +26,6 @@ use crate::node::{NodeRef, Shape, offsets, state_tag_offset, tag_offset};
 use crate::nodes::Nodes;
 use crate::runs_of::{set_at, sets_of};
 use crate::value::named::encoding_of;
-use crate::value::read_one::{read_layout, read_one};
 use crate::value::write::{Told, arms_of, put_number, write_tag};
 use abi_base::{Endian, Size};
 use abi_index::{Idx, RangeSet, VariantIdx};
@@ -211,7 +210,7 @@ fn put_node(cover: Cover<'_>, node: usize, place: Option<u64>, at: usize, bytes:
     ensures put { PutsCovering cover.entry.order at bytes.old bytes.new place
         (placed_at cover.entry.nodes.now node) }
 {
-    let here = read_one(cover.nodes, node);
+    let here = cover.nodes.node(node);
     let list = offsets(here.layout);
     let size = here.layout.size.bytes() as usize;
     if size == 0 {
@@ -321,7 +320,7 @@ fn put_elements(
     ensures put { PutsCoveringEach cover.entry.order at bytes.old bytes.new place
         (placed_at cover.entry.nodes.now element) count }
 {
-    let size = read_layout(cover.nodes, element).size.bytes();
+    let size = cover.nodes.layout(element).size.bytes();
     let blank = are_zeros(bytes, at, (size * count) as usize);
     let like = first_without(place, size);
     for i in 0..count {
@@ -356,7 +355,7 @@ fn put_parts(
 {
     for i in 0..offsets.len().min(children.len()) {
         let offset = offsets[i].bytes();
-        let size = read_layout(cover.nodes, children[i]).size.bytes();
+        let size = cover.nodes.layout(children[i]).size.bytes();
         let here = place_in(place, offset, size);
         put_node(cover, children[i], here, at + offset as usize, bytes);
     }
@@ -391,7 +390,7 @@ fn put_arm(
     if i >= told.arms.len() {
         return;
     }
-    let width = read_layout(cover.nodes, told.tag).size;
+    let width = cover.nodes.layout(told.tag).size;
     write_tag(cover.order, told, width, i, at, bytes);
     put_node(cover, told.arms[i].1, place, at, bytes)
 }
@@ -420,7 +419,7 @@ fn covering_bytes(alloc: Global, laid: &Laid, place: u64) -> Result<Option<Vec<u
         kept: &kept,
         sets: &sets,
     };
-    let size = read_layout(nodes, root).size.bytes() as usize;
+    let size = nodes.layout(root).size.bytes() as usize;
     let mut bytes = vec![in alloc; 0u8; size]?;
     put_node(cover, root, Some(place), 0, &mut bytes);
     Ok(Some(bytes))

@@ -8,7 +8,6 @@ ghost use Rattle.abi_laid.specs.Tag.{IsSpanned, Names, NamesByNiche, NamesDirect
 
 use crate::node::{Shape, offsets};
 use crate::nodes::Nodes;
-use crate::value::read_one::{read_layout, read_one};
 use abi_base::Size;
 use abi_index::{FieldIdx, Idx, VariantIdx};
 use abi_scalar::{LayoutData, TagEncoding, Variants};
@@ -31,7 +30,7 @@ pub(crate) fn own_parts(nodes: &Nodes, variant: usize) -> (&[Size], &[usize])
         ≡ parts_at result.0.now (all_at nodes.now result.1.now) }
     ensures before { All (λ child. child < variant) result.1.now }
 {
-    let here = read_one(nodes, variant);
+    let here = nodes.node(variant);
     match here.shape {
         Shape::Fields(_, children) => (offsets(here.layout), children),
         _ => (&[], &[]),
@@ -46,7 +45,7 @@ fn is_flagged(nodes: &Nodes, variant: usize) -> bool
 {
     let (offsets, children) = own_parts(nodes, variant);
     for i in 0..children.len() {
-        if i < offsets.len() && read_layout(nodes, children[i]).uninhabited {
+        if i < offsets.len() && nodes.layout(children[i]).uninhabited {
             return true;
         }
     }

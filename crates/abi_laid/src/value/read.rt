@@ -29,7 +29,6 @@ use crate::runs_of::data_places;
 use crate::value::Value;
 use crate::value::named::{encoding_of, is_named, own_parts};
 use crate::value::number::{number_in, part_of};
-use crate::value::read_one::{read_layout, read_one};
 use crate::value::walk::Walk;
 use abi_base::{Endian, Size};
 use abi_index::{FieldIdx, Idx, VariantIdx};
@@ -66,7 +65,7 @@ fn read_number(walk: Walk<'_>, node: usize, bytes: &[u8]) -> Option<u128>
         Holds walk.entry.order (placed_at walk.entry.nodes.now node) bytes.now (number n)) result }
 {
     let nodes = walk.nodes;
-    let here = read_one(nodes, node);
+    let here = nodes.node(node);
     if bytes.len() as u64 != here.layout.size.bytes() {
         return None;
     }
@@ -83,7 +82,7 @@ fn read_number_at(walk: Walk<'_>, node: usize, offset: u64, bytes: &[u8]) -> Opt
         (λ slice. Holds walk.entry.order (placed_at walk.entry.nodes.now node) slice (number n))
         bytes.now) result }
 {
-    let part = part_of(bytes, offset, read_layout(walk.nodes, node).size.bytes())?;
+    let part = part_of(bytes, offset, walk.nodes.layout(node).size.bytes())?;
     read_number(walk, node, part)
 }
 
@@ -211,7 +210,7 @@ pub(crate) fn read_node(
         (placed_at walk.entry.nodes.now node) bytes.now)) }
 {
     let nodes = walk.nodes;
-    let here = read_one(nodes, node);
+    let here = nodes.node(node);
     let layout = here.layout;
     if bytes.len() as u64 != layout.size.bytes() {
         return Ok(None);
@@ -266,7 +265,7 @@ fn read_part(
         (λ slice. Holds walk.entry.order (placed_at walk.entry.nodes.now node) slice v)
         bytes.now)) }
 {
-    match part_of(bytes, offset, read_layout(walk.nodes, node).size.bytes()) {
+    match part_of(bytes, offset, walk.nodes.layout(node).size.bytes()) {
         Some(part) => read_node(walk, node, part),
         None => Ok(None),
     }
@@ -287,7 +286,7 @@ fn read_elements(
         HoldEach (Holds walk.entry.order (placed_at walk.entry.nodes.now element))
         (size_of (placed_at walk.entry.nodes.now element)) 0 bytes.now vs)) }
 {
-    let size = read_layout(walk.nodes, element).size.bytes();
+    let size = walk.nodes.layout(element).size.bytes();
     let mut values = Vec::with_capacity(walk.alloc, count as usize)?;
     for i in 0..count {
         match read_part(walk, element, i * size, bytes)? {
@@ -346,7 +345,7 @@ fn read_named(
         (placed_at walk.entry.nodes.now tag)
         (arms_in (types_in walk.entry.nodes.now) variants.now))) }
 {
-    let width = read_layout(walk.nodes, tag).size;
+    let width = walk.nodes.layout(tag).size;
     match part_of(bytes, offset, width.bytes()) {
         Some(part) => {
             let number = number_in(walk.order, part);

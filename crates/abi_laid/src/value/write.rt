@@ -31,7 +31,6 @@ use crate::value::Value;
 use crate::value::error::ValueError;
 use crate::value::named::{encoding_of, niche_number, own_parts};
 use crate::value::read::read_node;
-use crate::value::read_one::{read_layout, read_one};
 use crate::value::same::is_same;
 use crate::value::walk::Walk;
 use abi_base::{Endian, Size};
@@ -228,7 +227,7 @@ fn write_union(
         content.now ≡ picked_bytes (is_data_place (placed_at walk.entry.nodes.now node)) 0 b →
         IsPutOver (is_data_place (placed_at walk.entry.nodes.now node)) at b bytes.old bytes.new) }
 {
-    let size = read_layout(walk.nodes, node).size.bytes() as usize;
+    let size = walk.nodes.layout(node).size.bytes() as usize;
     let places = data_places(walk.alloc, Counted::new(walk.nodes), node)?;
     put_places(places.as_slice(), content, at, size, bytes);
     Ok(())
@@ -252,7 +251,7 @@ pub(crate) fn write_node(
         (placed_at walk.entry.nodes.now node) (value_of value.now)) }
 {
     let nodes = walk.nodes;
-    let here = read_one(nodes, node);
+    let here = nodes.node(node);
     let layout = here.layout;
     match here.shape {
         Shape::Scalar(_) => {
@@ -305,7 +304,7 @@ fn write_elements(
         PutsEach walk.entry.order at bytes.old bytes.new
         (placed_at walk.entry.nodes.now element) (values_of values.now)) }
 {
-    let size = read_layout(walk.nodes, element).size.bytes() as usize;
+    let size = walk.nodes.layout(element).size.bytes() as usize;
     for i in 0..values.len().min(count as usize) {
         write_node(walk, element, &values[i], at + i * size, bytes)?;
     }
@@ -471,7 +470,7 @@ fn write_arm(
     if index >= told.arms.len() {
         return Ok(());
     }
-    let width = read_layout(walk.nodes, told.tag).size;
+    let width = walk.nodes.layout(told.tag).size;
     write_tag(walk.order, told, width, index, at, bytes);
     write_own(walk, told.arms[index].1, values, at, told.size, bytes)
 }
@@ -541,7 +540,7 @@ pub fn write_value(alloc: Global, laid: &Laid, value: &Value) -> Result<Vec<u8>,
         order,
         nodes,
     };
-    let size = read_layout(nodes, root).size.bytes() as usize;
+    let size = nodes.layout(root).size.bytes() as usize;
     let mut bytes = vec![in alloc; 0u8; size]?;
     write_node(walk, root, value, 0, &mut bytes)?;
     if holds(walk, root, value, &bytes)? {

@@ -25,28 +25,15 @@ fn data<W: Walk>(alloc: Global, this: W) -> Result<RangeSet, AllocError>
     places_of(alloc, this)
 }
 
-/// The bytes below the size that no part covers, beside those that some part covers.
-fn padding_beside<W: Walk>(
-    alloc: Global,
-    this: W,
-    places: &RangeSet,
-) -> Result<RangeSet, AllocError>
-    requires valid { W.is_valid this }
-    requires places { (k : ℕ) → is_in_ranges places.now k ≡ is_place (W.typed_of this) k }
-    ensures { IfOk result (λ set. (k : ℕ) → is_in_ranges set k ≡ is_padding (W.typed_of this) k) }
-{
-    let mut whole = RangeSet::new(alloc);
-    whole.add_range(0, this.layout().size.bytes())?;
-    whole.difference(alloc, places)
-}
-
 /// The bytes below the size that no part covers.
 fn padding<W: Walk>(alloc: Global, this: W) -> Result<RangeSet, AllocError>
     requires { W.is_valid this }
     ensures { IfOk result (λ set. (k : ℕ) → is_in_ranges set k ≡ is_padding (W.typed_of this) k) }
 {
     let places = data(alloc, this)?;
-    padding_beside(alloc, this, &places)
+    let mut whole = RangeSet::new(alloc);
+    whole.add_range(0, this.layout().size.bytes())?;
+    whole.difference(alloc, &places)
 }
 
 /// Of the bytes that some part covers those that no field covers that all variants have.
@@ -129,27 +116,6 @@ fn unused_of_each<W: Walk>(
     Ok(IndexVec::from_raw(sets))
 }
 
-/// Of each variant that a tag tells apart the bytes that it leaves unused; `any` are those that some part covers.
-fn each_unused_beside<W: Walk>(
-    alloc: Global,
-    this: W,
-    any: &RangeSet,
-) -> Result<IndexVec<VariantIdx, RangeSet>, AllocError>
-    requires valid { W.is_valid this }
-    requires any { (k : ℕ) → is_in_ranges any.now k ≡ is_place (W.typed_of this) k }
-    ensures { IfOk result (λ sets. AreUnused (W.typed_of this) sets) }
-{
-    match &this.layout().variants {
-        Variants::Multiple {
-            tag: _,
-            tag_encoding: _,
-            tag_field: _,
-            variants,
-        } => unused_of_each(alloc, this, variants.len(), any),
-        _ => Ok(IndexVec::new(alloc)),
-    }
-}
-
 /// Of each variant that a tag tells apart the bytes that it leaves unused.
 fn each_unused<W: Walk>(
     alloc: Global,
@@ -170,22 +136,6 @@ fn each_unused<W: Walk>(
         }
         _ => Ok(IndexVec::new(alloc)),
     }
-}
-
-/// The padding, and of each variant that a tag tells apart the bytes that it leaves unused.
-fn all_padding<W: Walk>(
-    alloc: Global,
-    this: W,
-) -> Result<(RangeSet, IndexVec<VariantIdx, RangeSet>), AllocError>
-    requires { W.is_valid this }
-    ensures padding { IfOk result (λ r. (k : ℕ) →
-        is_in_ranges r.0 k ≡ is_padding (W.typed_of this) k) }
-    ensures unused { IfOk result (λ r. AreUnused (W.typed_of this) r.1) }
-{
-    let any = data(alloc, this)?;
-    let padding = padding_beside(alloc, this, &any)?;
-    let unused = each_unused_beside(alloc, this, &any)?;
-    Ok((padding, unused))
 }
 
 impl<'a, Ty> TyAndLayout<'a, Ty> {
@@ -250,30 +200,5 @@ impl<'a, Ty> TyAndLayout<'a, Ty> {
         ensures { IfOk result (λ sets. AreUnused (Ty.typed_of self.now) sets) }
     {
         each_unused(alloc, At::new(self, cx))
-    }
-
-    /// What `variant_independent_padding_ranges` and `each_variant_dependent_padding_ranges` answer, in one walk over the
-    /// type. `AllocError` where memory is refused.
-    pub fn padding_ranges<C>(
-        &self,
-        alloc: Global,
-        cx: &C,
-    ) -> Result<(RangeSet, IndexVec<VariantIdx, RangeSet>), AllocError>
-    where
-        Ty: TyAbiInterface<'a, C> + Copy,
-        requires valid { Ty.is_valid self.now }
-        requires sized { is_sized (layout_in (Ty.typed_of self.now)).backend_repr ≡ true }
-        ensures padding { IfOk result (λ r. (k : ℕ) →
-            is_in_ranges r.0 k ≡ is_padding (Ty.typed_of self.now) k) }
-        ensures unused { IfOk result (λ r. AreUnused (Ty.typed_of self.now) r.1) }
-    {
-        all_padding(
-            alloc,
-            At {
-                ty: self.ty,
-                layout: self.layout,
-                cx,
-            },
-        )
     }
 }

@@ -8,6 +8,6 @@ returns-clause-valid c =
     let ns : List Node = c.args.laid.now.nodes in
     record {
       there = c.requires;
-      layout = layout-placed ns c.args.node c.requires ∙ sym c.layout_at.ensures;
+      layout = layout-placed ns c.args.node c.requires ∙ sym c.layout.ensures;
       lawful = lawful_at ns c.args.laid.now.earlier c.args.laid.now.laws c.args.node c.requires;
     }

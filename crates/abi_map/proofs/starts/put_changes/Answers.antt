@@ -2,7 +2,7 @@ use Rattle.std.proofs.Common.{subst}
 use Rattle.std.proofs.lemmas.Result.{on_ok_weaker}
 use Rattle.abi_index.specs.RangeSet.{AreMaximalRuns, is_in_ranges}
 use Rattle.std.specs.Prelude.{not}
-use Rattle.abi_map.specs.Parts.{part_told}
+use Rattle.abi_laid.specs.Parts.{kept_part}
 use Rattle.abi_map.proofs.StartLemmas.{begins_fit, changes_put, cut_fits, ends_fit}
 use Rattle.abi_map.proofs.starts.put_changes.Goals as goal
 
@@ -22,7 +22,7 @@ add_set-requires-3 c =
 pub returns : goal.returns
 returns c =
     on_ok_weaker c.add_set-5.result
-    (λ next. changes_put c.args.size (part_told c.args.part.now) c.in_ok-bytes.bytes c.add_set.new.self c.in_ok-before.before c.in_ok-difference.field-0 c.in_ok-difference-2.field-0 c.new-moved.result
+    (λ next. changes_put c.args.size (kept_part c.args.part.now) c.in_ok-bytes.bytes c.add_set.new.self c.in_ok-before.before c.in_ok-difference.field-0 c.in_ok-difference-2.field-0 c.new-moved.result
     c.args.runs.now c.add_set-3.new.self c.add_set-5.new.self c.new-moved.ensures c.in_ok-bytes.ensures.bytes c.in_ok-add_set.ensures.bytes c.in_ok-before.ensures.bytes c.in_ok-difference.ensures.bytes
     c.in_ok-difference-2.ensures.bytes c.in_ok-add_set-2.ensures.bytes next)
     c.add_set-5.ensures.bytes

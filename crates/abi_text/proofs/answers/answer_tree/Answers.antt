@@ -24,7 +24,6 @@ answer_laid-requires g c = record {
   target = c.in-Ok.ensures.lawful;
   laying = (tree_of c.args.tree.now, c.in-Ok.ensures.laid);
   lawful = c.in-Ok.ensures.layout;
-  tells = record { sized = c.in-Ok.ensures.sized; places = c.in-Ok.ensures.places; unused = c.in-Ok.ensures.unused };
 }
 
 pub returns-in-Ok : goal.returns-in-Ok

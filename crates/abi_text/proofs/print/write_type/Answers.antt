@@ -19,8 +19,8 @@ returns c =
     let layout = layout_of placed in
     let first = c.in_ok-write_layout.ensures ∙ ap (λ l. string_bytes c.args.out.now ++ layout_lines l) c.layout.ensures in
     let third = c.in_ok-write_niche.ensures ∙ ap (λ l. string_bytes c.write_variants.new.out ++ niche_line l.largest_niche) c.layout-2.ensures in
-    on_ok_weaker c.write_listed_padding.result
+    on_ok_weaker c.write_padding.result
     (four (string_bytes c.args.out.now) (string_bytes c.write_layout.new.out) (string_bytes c.write_variants.new.out) (string_bytes c.write_niche.new.out)
-    (string_bytes c.write_listed_padding.new.out) (layout_lines layout) (variants_lines placed layout.variants) (niche_line layout.largest_niche) (padding_lines placed)
+    (string_bytes c.write_padding.new.out) (layout_lines layout) (variants_lines placed layout.variants) (niche_line layout.largest_niche) (padding_lines placed)
     first c.in_ok-write_variants.ensures third)
-    c.write_listed_padding.ensures
+    c.write_padding.ensures

@@ -1,16 +1,12 @@
 use Rattle.std.proofs.Common.{◌≡◌, [], ◌≤◌, ◌<◌, ap, ◌∙◌, arith, get_or, sym}
 use Rattle.std.specs.Prelude.{codes, if◌then◌else◌}
 use Rattle.std.proofs.lemmas.Bool.{le-ltb, lt-ltb}
-use Rattle.std.proofs.lemmas.Result.{IfOk-weaker}
 use Rattle.abi_index.specs.RangeSet.{is_in_ranges}
-use Rattle.abi_types.specs.Ty.Places.{is_unused}
-use Rattle.abi_types.specs.Ty.Typed.{Typed, layout_in}
-use Rattle.abi_laid.specs.Handles.{tree_type}
 use Rattle.abi_laid.specs.Laid.{placed_of}
 use Rattle.abi_laid.specs.Placed.{Placed, layout_of, size_of}
 use Rattle.abi_laid.specs.Runs.{unused_of}
 use Rattle.abi_laid.proofs.Places.MaximalLemmas.{unused_listed}
-use Rattle.abi_types.proofs.PlacesLemmas.{beside_counted, beside_index}
+use Rattle.abi_types.proofs.PlacesLemmas.{beside_index}
 use Rattle.abi_text.specs.Printing.{range_lines}
 use Rattle.abi_text.proofs.print_variants.listed_unused.Goals as goal
 
@@ -23,18 +19,13 @@ returns-then-bytes-gt-MOST_LISTED c = λ i runs several same maximal.
     ap (range_lines (codes "unused")) (same ∙ empty)
     ∙ ap (λ b. if b then [] else range_lines (codes "unused") (unused_of placed i)) (sym (lt-ltb 65536 (size_of placed) many))
 
-pub returns : goal.returns
-returns c =
+pub returns-in_ok-unused-in-Multiple : goal.returns-in_ok-unused-in-Multiple
+returns-in_ok-unused-in-Multiple c = λ i runs several same maximal.
     let placed : Placed = placed_of c.args.laid.now in
-    let t : Typed = tree_type c.root.result in
-    let own : layout_in t ≡ layout_of placed = c.root.ensures.valid.layout ∙ c.root.ensures.layout in
     let few : size_of placed ≤ 65536 = omega (arith, c.if-bytes-gt-MOST_LISTED.false, c.bytes.ensures, ap (λ l. l.size) c.layout.ensures) in
-    IfOk-weaker c.each_variant_dependent_padding_ranges.result _ _
-    (λ sets told i runs several same maximal.
-    let listed : runs ≡ unused_of placed i =
-    unused_listed t placed i runs c.root.ensures.within
-    (λ k. ap (λ s. is_unused s i k) c.root.ensures.told ∙ c.requires.unused i k (beside_index (layout_of placed).variants i several)) maximal
-    (λ k. ap (λ rs. is_in_ranges rs k) same ∙ told.1 i k (beside_counted (layout_in t) (layout_of placed) i own several)) in
+    let index = beside_index (layout_of placed).variants i several in
+    let listed =
+    unused_listed placed i runs maximal (λ k. ap (λ rs. is_in_ranges rs k) same ∙ c.in_ok-unused-in-Multiple.ensures.unused i k index)
+    (λ k there. c.in_ok-unused-in-Multiple.ensures.within i k index (ap (λ rs. is_in_ranges rs k) (sym same) ∙ there)) in
     ap (range_lines (codes "unused")) listed
-    ∙ ap (λ b. if b then [] else range_lines (codes "unused") (unused_of placed i)) (sym (le-ltb 65536 (size_of placed) few)))
-    c.each_variant_dependent_padding_ranges.ensures
+    ∙ ap (λ b. if b then [] else range_lines (codes "unused") (unused_of placed i)) (sym (le-ltb 65536 (size_of placed) few))

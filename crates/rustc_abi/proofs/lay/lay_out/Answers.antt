@@ -1,8 +1,14 @@
 use Rattle.std.proofs.Common.{◌≡◌, Ok, Result, Some, ap, arith, length, subst, sym, true, ◌∙◌}
-use Rattle.abi_laid.specs.Tree.{tree_of}
+use Rattle.abi_base.specs.declared.data_layout.TargetDataLayout.{TargetDataLayout}
+use Rattle.abi_laid.specs.declared.laid.Laid.{Laid}
+use Rattle.abi_laid.specs.Faithful.{IsFaithful}
+use Rattle.abi_laid.specs.Reading.{KeepsValues}
+use Rattle.abi_laid.specs.Tree.{Tree, tree_of}
+use Rattle.abi_laid.specs.Untagged.{UntaggedNamed}
+use Rattle.abi_laid.specs.Values.{LocalsHaveValues}
 use Rattle.rustc_abi.specs.Clash.{AreClashingLocalsApart, HaveLocalsOneOffset}
 use Rattle.rustc_abi.specs.Count.{HasNodes}
-use Rattle.abi_laid.specs.Laid.{node_count_of, placed_of, typed_of}
+use Rattle.abi_laid.specs.Laid.{endian_of, node_count_of, placed_of, typed_of}
 use Rattle.abi_laid.specs.Placed.{Placed, layout_of}
 use Rattle.abi_scalar.specs.Lawful.{IsLawfulLayout}
 use Rattle.abi_laid.specs.Deciding.{are_inhabited, covering_value}
@@ -35,37 +41,11 @@ use Rattle.rustc_abi.proofs.Places.SeenPlacesLemmas.{laid_told, seen_root}
 use Rattle.rustc_abi.proofs.Trees.SomeAnswer.{some_answer}
 use Rattle.rustc_abi.proofs.lay.lay_out.Goals as goal
 
-pub returns-clause-exists : goal.returns-clause-exists
-returns-clause-exists c = λ locals. (faithful_root _ _ _ _ _ _ c.in_ok-_root.ensures.ok c.new.ensures.placed locals).exists
-
-pub returns-clause-only : goal.returns-clause-only
-returns-clause-only c = λ locals. (faithful_root _ _ _ _ _ _ c.in_ok-_root.ensures.ok c.new.ensures.placed locals).only
-
-pub returns-clause-unique : goal.returns-clause-unique
-returns-clause-unique c = λ locals. (faithful_root _ _ _ _ _ _ c.in_ok-_root.ensures.ok c.new.ensures.placed locals).unique
-
-pub returns-clause-padding : goal.returns-clause-padding
-returns-clause-padding c = λ locals. (faithful_root _ _ _ _ _ _ c.in_ok-_root.ensures.ok c.new.ensures.placed locals).padding
-
-pub returns-clause-view : goal.returns-clause-view
-returns-clause-view c = λ locals. (faithful_root _ _ _ _ _ _ c.in_ok-_root.ensures.ok c.new.ensures.placed locals).view
-
-pub returns-clause-uninhabited : goal.returns-clause-uninhabited
-returns-clause-uninhabited c = λ locals. (faithful_root _ _ _ _ _ _ c.in_ok-_root.ensures.ok c.new.ensures.placed locals).flag
+pub returns-clause-faithful : goal.returns-clause-faithful
+returns-clause-faithful c = λ locals. faithful_root _ _ _ _ _ _ c.in_ok-_root.ensures.ok c.new.ensures.placed locals
 
 pub returns-clause-untagged : goal.returns-clause-untagged
 returns-clause-untagged c = λ locals. untagged_root _ _ _ _ _ _ c.in_ok-_root.ensures.ok c.new.ensures.placed locals
-
-pub returns-clause-keeps : goal.returns-clause-keeps
-returns-clause-keeps c = λ locals.
-    let faithful = faithful_root _ _ _ _ _ _ c.in_ok-_root.ensures.ok c.new.ensures.placed locals in
-    record {
-      order = c.new.ensures.endian;
-      exists = faithful.exists;
-      only = faithful.only;
-      unique = faithful.unique;
-      untagged = untagged_root _ _ _ _ _ _ c.in_ok-_root.ensures.ok c.new.ensures.placed locals;
-    }
 
 pub returns-clause-begins : goal.returns-clause-begins
 returns-clause-begins c = begins_root _ _ _ _ _ _ c.in_ok-_root.ensures.ok c.new.ensures.placed
@@ -75,9 +55,6 @@ returns-clause-common c = λ locals. common_root _ _ _ _ _ _ c.in_ok-_root.ensur
 
 pub returns-clause-layout : goal.returns-clause-layout
 returns-clause-layout c = lawful_root _ _ _ _ _ _ c.in_ok-_root.ensures.ok c.new.ensures.placed
-
-pub returns-clause-inside : goal.returns-clause-inside
-returns-clause-inside c = λ locals. (faithful_root _ _ _ _ _ _ c.in_ok-_root.ensures.ok c.new.ensures.placed locals).inside
 
 pub returns-clause-least : goal.returns-clause-least
 returns-clause-least c =
@@ -174,44 +151,33 @@ returns-clause-all_have c = λ have.
     (returns-clause-inhabited c).1
     (each_inhabited c.args.dl.now law (tree_of c.args.tree.now) _ (laid_root _ _ _ _ _ _ c.in_ok-_root.ensures.ok c.new.ensures.placed) have).0
 
-pub returns-clause-covers : goal.returns-clause-covers
-returns-clause-covers c = λ all.
-    let law = c.in_ok-refuse_unlawful.ensures.lawful in
-    let some = (c.in_ok-_root.ensures.counted.3.0 (sym c.new.ensures.flags ∙ all)).1 in
-    let own = coverable c.args.dl.now law (tree_of c.args.tree.now) _ (laid_root _ _ _ _ _ _ c.in_ok-_root.ensures.ok c.new.ensures.placed) some in
-    let faithful = faithful_root _ _ _ _ _ _ c.in_ok-_root.ensures.ok c.new.ensures.placed own.locals in
-    record {
-      values = record {
-        order = c.new.ensures.endian;
-        exists = faithful.exists;
-        only = faithful.only;
-        unique = faithful.unique;
-        untagged = untagged_root _ _ _ _ _ _ c.in_ok-_root.ensures.ok c.new.ensures.placed own.locals;
-      };
-      value = λ k place. own.value (Some k);
-      covers = λ k place. own.covers (room_root _ _ _ _ _ _ c.in_ok-_root.ensures.ok c.new.ensures.placed) k place;
-    }
-
-pub returns-clause-own_places : goal.returns-clause-own_places
-returns-clause-own_places c =
-    let law = c.in_ok-refuse_unlawful.ensures.lawful in
-    laid_own_places c.args.dl.now.endian c.args.dl.now law (tree_of c.args.tree.now) _ (laid_root _ _ _ _ _ _ c.in_ok-_root.ensures.ok c.new.ensures.placed)
-
-pub returns-clause-unused : goal.returns-clause-unused
-returns-clause-unused c i k index =
-    let law = c.in_ok-refuse_unlawful.ensures.lawful in
-    let told = laid_told c.args.dl.now law (tree_of c.args.tree.now) _ (laid_root _ _ _ _ _ _ c.in_ok-_root.ensures.ok c.new.ensures.placed) in
-    told.unused (typed_of c.new.result) (seen_root c.new.result) i k index
+-- the values are kept, where the layout is faithful to them
+keeps_values : (dl : TargetDataLayout) (tree : Tree) (laid : Laid) → endian_of laid ≡ dl.endian → IsFaithful dl tree (placed_of laid) → UntaggedNamed dl.endian (placed_of laid) → KeepsValues dl tree laid
+keeps_values dl tree laid order faithful untagged = record { order = order; exists = faithful.exists; only = faithful.only; unique = faithful.unique; untagged = untagged }
 
 pub returns-clause-of_tree : goal.returns-clause-of_tree
-returns-clause-of_tree c = record {
-  order = c.new.ensures.endian;
-  values = returns-clause-keeps c;
-  padding = returns-clause-padding c;
-  places = returns-clause-covers c;
-  own_places = returns-clause-own_places c;
-  unused = returns-clause-unused c;
-}
+returns-clause-of_tree c =
+    let dl = c.args.dl.now in
+    let tree = tree_of c.args.tree.now in
+    let laid = c.new.result in
+    let law = c.in_ok-refuse_unlawful.ensures.lawful in
+    let laying = laid_root _ _ _ _ _ _ c.in_ok-_root.ensures.ok c.new.ensures.placed in
+    let values : LocalsHaveValues dl tree → KeepsValues dl tree laid = λ locals. keeps_values dl tree laid c.new.ensures.endian (returns-clause-faithful c locals) (returns-clause-untagged c locals) in
+    record {
+      order = c.new.ensures.endian;
+      values = values;
+      padding = λ locals. (returns-clause-faithful c locals).padding;
+      places = λ all.
+          let some = (c.in_ok-_root.ensures.counted.3.0 (sym c.new.ensures.flags ∙ all)).1 in
+          let own = coverable dl law tree _ laying some in
+          record {
+            values = values own.locals;
+            value = λ k place. own.value (Some k);
+            covers = λ k place. own.covers (room_root _ _ _ _ _ _ c.in_ok-_root.ensures.ok c.new.ensures.placed) k place;
+          };
+      own_places = laid_own_places dl.endian dl law tree _ laying;
+      unused = λ i k index. (laid_told dl law tree _ laying).unused (typed_of laid) (seen_root laid) i k index;
+    }
 
 pub returns-clause-decides : goal.returns-clause-decides
 returns-clause-decides c = λ all k place.

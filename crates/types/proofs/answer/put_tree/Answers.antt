@@ -6,5 +6,4 @@ put_laid-requires c = record {
   target = c.in_ok-laid.ensures.lawful;
   laying = (tree_of c.args.told.now.tree, c.in_ok-laid.ensures.laid);
   lawful = c.in_ok-laid.ensures.layout;
-  tells = record { sized = c.in_ok-laid.ensures.sized; places = c.in_ok-laid.ensures.places; unused = c.in_ok-laid.ensures.unused };
 }

@@ -49,7 +49,7 @@ returns-clause-range c =
     let held = rw c.if-not-branch.false at c.in_ok-is_value.ensures in
     let view : (layout_of (placed_of c.in_ok-laid.laid)).backend_repr ≡ OneScalar c.in-Scalar.scalar = sym (ap (λ (l : Layout). l.backend_repr) c.layout.ensures) ∙ c.in-Scalar.is in
     seen_number c.args.dl.now c.in_ok-laid.laid c.args.bytes.now c.in-Scalar.scalar held.0 view c.in_ok-laid.ensures.layout held.1
-    c.in_ok-laid.ensures.order (c.in_ok-laid.ensures.view c.requires.locals) c.number_in-number.result c.number_in-number.ensures.value c.number_in-number.ensures.bound
+    c.in_ok-laid.ensures.order (c.in_ok-laid.ensures.faithful c.requires.locals).view c.number_in-number.result c.number_in-number.ensures.value c.number_in-number.ensures.bound
 
 pub returns-clause-bool : goal.returns-clause-bool
 returns-clause-bool c = λ is.
@@ -57,7 +57,7 @@ returns-clause-bool c = λ is.
     let view : (layout_of (placed_of c.in_ok-laid.laid)).backend_repr ≡ OneScalar c.in-Scalar.scalar = sym (ap (λ (l : Layout). l.backend_repr) c.layout.ensures) ∙ c.in-Scalar.is in
     of_bool c.args.dl.now c.in-Scalar.scalar c.number_in-number.result is
     (seen_number c.args.dl.now c.in_ok-laid.laid c.args.bytes.now c.in-Scalar.scalar held.0 view c.in_ok-laid.ensures.layout held.1
-    c.in_ok-laid.ensures.order (c.in_ok-laid.ensures.view c.requires.locals) c.number_in-number.result c.number_in-number.ensures.value c.number_in-number.ensures.bound)
+    c.in_ok-laid.ensures.order (c.in_ok-laid.ensures.faithful c.requires.locals).view c.number_in-number.result c.number_in-number.ensures.value c.number_in-number.ensures.bound)
 
 pub returns-clause-laid : goal.returns-clause-laid
 returns-clause-laid c = (c.in_ok-laid.ensures.lawful, placed_of c.in_ok-laid.laid, c.in_ok-laid.ensures.laid)

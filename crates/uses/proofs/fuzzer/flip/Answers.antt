@@ -12,7 +12,7 @@ pub unreachable-requires : goal.unreachable-requires
 unreachable-requires c =
     let only = rw c.in-Some.is at c.in_ok-pair.ensures.only in
     let decides = rw c.in-Some.is at c.in_ok-pair.ensures.decides in
-    let decided = decides c.requires.laid.dl c.requires.laid.tree (c.requires.laid.keeps.places only.0) in
+    let decided = decides c.requires.laid.dl c.requires.laid.tree c.requires.laid.keeps in
     let none = rw c.in-None-2.is at c.in_ok-value.ensures.finds in
     none decided.0 (subst (λ (b : List ℕ). Holds (endian_of c.args.laid.now) (placed_of c.args.laid.now) b decided.0) (sym c.deref.ensures.value) decided.1)
 
@@ -20,14 +20,14 @@ pub returns-clause-differ : goal.returns-clause-differ
 returns-clause-differ c =
     let only = rw c.in-Some.is at c.in_ok-pair.ensures.only in
     let decides = rw c.in-Some.is at c.in_ok-pair.ensures.decides in
-    (decides c.requires.laid.dl c.requires.laid.tree (c.requires.laid.keeps.places only.0)).2
+    (decides c.requires.laid.dl c.requires.laid.tree c.requires.laid.keeps).2
 
 pub returns-clause-other : goal.returns-clause-other
 returns-clause-other c =
     let only = rw c.in-Some.is at c.in_ok-pair.ensures.only in
     let decides = rw c.in-Some.is at c.in_ok-pair.ensures.decides in
     let kept = c.requires.laid.keeps.places only.0 in
-    let decided = decides c.requires.laid.dl c.requires.laid.tree kept in
+    let decided = decides c.requires.laid.dl c.requires.laid.tree c.requires.laid.keeps in
     let one = rw c.in-Some-2.is at c.in_ok-value.ensures.one in
     let held = subst (λ (b : List ℕ). Holds (endian_of c.args.laid.now) (placed_of c.args.laid.now) b decided.0) (sym c.deref.ensures.value) decided.1 in
     subst (λ (v : Value). Holds (endian_of c.args.laid.now) (placed_of c.args.laid.now) c.in-Some.pair.1.items v → ⊥)
@@ -43,5 +43,5 @@ pub returns-clause-exactly : goal.returns-clause-exactly
 returns-clause-exactly c = λ all.
     let only = rw c.in-Some.is at c.in_ok-pair.ensures.only in
     let decides = rw c.in-Some.is at c.in_ok-pair.ensures.decides in
-    let decided = decides c.requires.laid.dl c.requires.laid.tree (c.requires.laid.keeps.places only.0) in
+    let decided = decides c.requires.laid.dl c.requires.laid.tree c.requires.laid.keeps in
     ((λ is. absurd (cc)), (λ nothing. absurd (nothing c.in-Some.pair.0.items c.in-Some.pair.1.items decided)))

@@ -10,7 +10,7 @@ field_node-requires g c =
     let this = c.args.this.ty in
     let ns : List Node = this.laid.now.nodes in
     let facts =
-    field_here ns this.laid.now.earlier this.laid.now.laws ns refl this.node (lent_node c.node_at.result) c.requires.valid.there c.node_at.ensures c.args.i c.requires.within
+    field_here ns this.laid.now.earlier this.laid.now.laws ns refl this.node (lent_node c.node.result) c.requires.valid.there c.node.ensures c.args.i c.requires.within
     in
     facts.has
 
@@ -19,7 +19,7 @@ handle_at-requires g c =
     let this = c.args.this.ty in
     let ns : List Node = this.laid.now.nodes in
     let facts =
-    field_here ns this.laid.now.earlier this.laid.now.laws ns refl this.node (lent_node c.node_at.result) c.requires.valid.there c.node_at.ensures c.args.i c.requires.within
+    field_here ns this.laid.now.earlier this.laid.now.laws ns refl this.node (lent_node c.node.result) c.requires.valid.there c.node.ensures c.args.i c.requires.within
     in
     omega (arith, facts.before, c.field_node.ensures, c.requires.valid.there)
 
@@ -28,7 +28,7 @@ returns-clause-field g c =
     let this = c.args.this.ty in
     let ns : List Node = this.laid.now.nodes in
     let facts =
-    field_here ns this.laid.now.earlier this.laid.now.laws ns refl this.node (lent_node c.node_at.result) c.requires.valid.there c.node_at.ensures c.args.i c.requires.within
+    field_here ns this.laid.now.earlier this.laid.now.laws ns refl this.node (lent_node c.node.result) c.requires.valid.there c.node.ensures c.args.i c.requires.within
     in
     c.handle_at.ensures.told ∙ ap (typed_at ns) c.field_node.ensures ∙ facts.same
 
@@ -37,6 +37,6 @@ returns-clause-falls g c =
     let this = c.args.this.ty in
     let ns : List Node = this.laid.now.nodes in
     let facts =
-    field_here ns this.laid.now.earlier this.laid.now.laws ns refl this.node (lent_node c.node_at.result) c.requires.valid.there c.node_at.ensures c.args.i c.requires.within
+    field_here ns this.laid.now.earlier this.laid.now.laws ns refl this.node (lent_node c.node.result) c.requires.valid.there c.node.ensures c.args.i c.requires.within
     in
     omega (arith, facts.before, c.field_node.ensures, c.handle_at.ensures.depth)

@@ -16,7 +16,7 @@ variant_node-requires g c =
     let several = ap (λ (layout : Layout). layout.variants) c.requires.valid.layout ∙ c.in-Multiple.is in
     let named = several_named (layout_in (typed_at ns this.node)).variants v _ _ _ _ several c.requires.named in
     let facts =
-    variant_here ns this.laid.now.earlier this.laid.now.laws ns refl this.node (lent_node c.node_at.result) c.requires.valid.there c.node_at.ensures v named
+    variant_here ns this.laid.now.earlier this.laid.now.laws ns refl this.node (lent_node c.node.result) c.requires.valid.there c.node.ensures v named
     in
     omega (arith, facts.has, c.as_usize.ensures)
 
@@ -28,7 +28,7 @@ handle_at-requires g c =
     let several = ap (λ (layout : Layout). layout.variants) c.requires.valid.layout ∙ c.in-Multiple.is in
     let named = several_named (layout_in (typed_at ns this.node)).variants v _ _ _ _ several c.requires.named in
     let facts =
-    variant_here ns this.laid.now.earlier this.laid.now.laws ns refl this.node (lent_node c.node_at.result) c.requires.valid.there c.node_at.ensures v named
+    variant_here ns this.laid.now.earlier this.laid.now.laws ns refl this.node (lent_node c.node.result) c.requires.valid.there c.node.ensures v named
     in
     let place = c.variant_node.ensures ∙ ap (variant_place _) c.as_usize.ensures in
     omega (arith, facts.before, place, c.requires.valid.there)
@@ -41,7 +41,7 @@ returns-in-Multiple-clause-variant g c =
     let several = ap (λ (layout : Layout). layout.variants) c.requires.valid.layout ∙ c.in-Multiple.is in
     let named = several_named (layout_in (typed_at ns this.node)).variants v _ _ _ _ several c.requires.named in
     let facts =
-    variant_here ns this.laid.now.earlier this.laid.now.laws ns refl this.node (lent_node c.node_at.result) c.requires.valid.there c.node_at.ensures v named
+    variant_here ns this.laid.now.earlier this.laid.now.laws ns refl this.node (lent_node c.node.result) c.requires.valid.there c.node.ensures v named
     in
     c.handle_at.ensures.told ∙ ap (typed_at ns) (c.variant_node.ensures ∙ ap (variant_place _) c.as_usize.ensures) ∙ facts.same
     ∙ sym (several_at (typed_at ns this.node) v _ _ _ _ several)
@@ -54,7 +54,7 @@ returns-in-Multiple-clause-falls g c =
     let several = ap (λ (layout : Layout). layout.variants) c.requires.valid.layout ∙ c.in-Multiple.is in
     let named = several_named (layout_in (typed_at ns this.node)).variants v _ _ _ _ several c.requires.named in
     let facts =
-    variant_here ns this.laid.now.earlier this.laid.now.laws ns refl this.node (lent_node c.node_at.result) c.requires.valid.there c.node_at.ensures v named
+    variant_here ns this.laid.now.earlier this.laid.now.laws ns refl this.node (lent_node c.node.result) c.requires.valid.there c.node.ensures v named
     in
     let place = c.variant_node.ensures ∙ ap (variant_place _) c.as_usize.ensures in
     several_falls (layout_in (typed_at ns this.node)).variants _ _ _ _ (tree_depth c.handle_at.result) this.node several (omega (arith, facts.before, place, c.handle_at.ensures.depth))

@@ -8,12 +8,12 @@ use Rattle.abi_laid.proofs.laid.Laid.all_inhabited.Goals as goal
 pub loop-i-preserved : goal.loop-i-preserved
 loop-i-preserved c =
     let ns : List Node = c.args.self.now.nodes in
-    c.loop-i.invariant ∙ inhabited_from ns c.loop-i.i (omega arith) (ap (λ l. l.uninhabited) (sym c.layout_at.ensures) ∙ c.if-layout_at.false)
+    c.loop-i.invariant ∙ inhabited_from ns c.loop-i.i (omega arith) (ap (λ l. l.uninhabited) (sym c.layout.ensures) ∙ c.if-layout.false)
 
-pub returns-then-layout_at : goal.returns-then-layout_at
-returns-then-layout_at c =
+pub returns-then-layout : goal.returns-then-layout
+returns-then-layout c =
     let ns : List Node = c.args.self.now.nodes in
-    sym (c.loop-i.invariant ∙ flagged_from ns c.loop-i.i (omega arith) (ap (λ l. l.uninhabited) (sym c.layout_at.ensures) ∙ c.if-layout_at.true))
+    sym (c.loop-i.invariant ∙ flagged_from ns c.loop-i.i (omega arith) (ap (λ l. l.uninhabited) (sym c.layout.ensures) ∙ c.if-layout.true))
 
 pub returns : goal.returns
 returns c = sym (c.loop-i.invariant ∙ ap are_inhabited (drop_all c.loop-i.i c.args.self.now.nodes (omega arith)))

@@ -38,7 +38,7 @@ put_node-returns-then-size-eq0-clause-put t c = λ b all held.
     let ns = c.args.cover.nodes.now in
     let p : Placed = placed_at ns c.args.node in
     let there = kept_there ns c.args.cover.kept.now c.args.cover.sets.now c.requires.sets c.args.node c.requires.kept in
-    let size = node_size ns c.args.node _ there c.read_one-here.ensures in
+    let size = node_size ns c.args.node _ there c.node-here.ensures in
     let long = length-Holds c.args.cover.order p b (covering_value p c.args.place) held in
     put_bare (is_covered p (covering_value p c.args.place)) c.args.at b c.args.bytes.now (omega (arith, long, size, c.bytes-size.ensures, c.if-size-eq0.true))
 
@@ -47,14 +47,14 @@ put_node-put_number-requires-clause-width t c =
     let ns = c.args.cover.nodes.now in
     let have = c.requires.sets in
     let there = kept_there ns c.args.cover.kept.now c.args.cover.sets.now have c.args.node c.requires.kept in
-    let width = scalar_width_at ns have.needed.well c.args.cover.widths c.args.node _ there c.read_one-here.ensures c.in-Scalar.scalar c.in-Scalar.is in
+    let width = scalar_width_at ns have.needed.well c.args.cover.widths c.args.node _ there c.node-here.ensures c.in-Scalar.scalar c.in-Scalar.is in
     omega (arith, width.0, c.bytes-size.ensures)
 
 pub put_node-put_number-requires-clause-fits : goal.put_node-put_number-requires-clause-fits
 put_node-put_number-requires-clause-fits t c =
     let ns = c.args.cover.nodes.now in
     let there = kept_there ns c.args.cover.kept.now c.args.cover.sets.now c.requires.sets c.args.node c.requires.kept in
-    let size = node_size ns c.args.node _ there c.read_one-here.ensures in
+    let size = node_size ns c.args.node _ there c.node-here.ensures in
     omega (arith, size, c.bytes-size.ensures, c.requires.fits)
 
 pub put_node-returns-in-Scalar-clause-put : goal.put_node-returns-in-Scalar-clause-put
@@ -63,7 +63,7 @@ put_node-returns-in-Scalar-clause-put t c =
     let have = c.requires.sets in
     let there = kept_there ns c.args.cover.kept.now c.args.cover.sets.now have c.args.node c.requires.kept in
     let room = kept_room ns c.args.cover.kept.now c.args.cover.sets.now have c.args.node c.requires.kept in
-    let is = scalar_node ns have.needed.well c.args.node _ there c.read_one-here.ensures room c.in-Scalar.scalar c.in-Scalar.is in
+    let is = scalar_node ns have.needed.well c.args.node _ there c.node-here.ensures room c.in-Scalar.scalar c.in-Scalar.is in
     subst (PutsCovering c.args.cover.order c.args.at c.args.bytes.now c.put_number.new.bytes c.args.place) (sym is)
     (λ b all held.
     subst (λ w. IsPutOver (λ k. nat_lt k w) c.args.at b c.args.bytes.now c.put_number.new.bytes) c.bytes-size.ensures
@@ -76,15 +76,15 @@ put_node-put_parts-requires t c =
     let cs : List ℕ = c.in-Pair.first ∷ c.in-Pair.second ∷ [] in
     let there = kept_there ns c.args.cover.kept.now c.args.cover.sets.now have c.args.node c.requires.kept in
     let room = kept_room ns c.args.cover.kept.now c.args.cover.sets.now have c.args.node c.requires.kept in
-    let layout : Layout = c.read_one-here.result.layout.now in
-    let size = node_size ns c.args.node _ there c.read_one-here.ensures in
-    let facts = pair_node ns have.needed.well c.args.node _ there c.read_one-here.ensures room c.in-Pair.first c.in-Pair.second c.in-Pair.is in
-    let named : (j : ℕ) → is_among _ j ≡ true → is_among (named_by layout c.read_one-here.result.shape.now) j ≡ true = λ j h. subst (λ s. is_among (named_by layout s) j ≡ true) (sym c.in-Pair.is) h in (
+    let layout : Layout = c.node-here.result.layout.now in
+    let size = node_size ns c.args.node _ there c.node-here.ensures in
+    let facts = pair_node ns have.needed.well c.args.node _ there c.node-here.ensures room c.in-Pair.first c.in-Pair.second c.in-Pair.is in
+    let named : (j : ℕ) → is_among _ j ≡ true → is_among (named_by layout c.node-here.result.shape.now) j ≡ true = λ j h. subst (λ s. is_among (named_by layout s) j ≡ true) (sym c.in-Pair.is) h in (
       omega (arith, c.decreases),
       (
         have,
         rw c.offsets-list.ensures
-            (kept_parts ns c.args.cover.kept.now c.args.cover.sets.now have c.args.node c.requires.kept _ c.read_one-here.ensures cs (length c.args.bytes.now) c.args.at (omega (arith, c.if-size-eq0.false, c.bytes-size.ensures))
+            (kept_parts ns c.args.cover.kept.now c.args.cover.sets.now have c.args.node c.requires.kept _ c.node-here.ensures cs (length c.args.bytes.now) c.args.at (omega (arith, c.if-size-eq0.false, c.bytes-size.ensures))
             named facts.0 facts.2 (omega (arith, size, c.requires.fits))),
       ),
     )
@@ -96,8 +96,8 @@ put_node-returns-in-Pair-clause-put t c =
     let cs : List ℕ = c.in-Pair.first ∷ c.in-Pair.second ∷ [] in
     let there = kept_there ns c.args.cover.kept.now c.args.cover.sets.now have c.args.node c.requires.kept in
     let room = kept_room ns c.args.cover.kept.now c.args.cover.sets.now have c.args.node c.requires.kept in
-    let layout : Layout = c.read_one-here.result.layout.now in
-    let facts = pair_node ns have.needed.well c.args.node _ there c.read_one-here.ensures room c.in-Pair.first c.in-Pair.second c.in-Pair.is in
+    let layout : Layout = c.node-here.result.layout.now in
+    let facts = pair_node ns have.needed.well c.args.node _ there c.node-here.ensures room c.in-Pair.first c.in-Pair.second c.in-Pair.is in
     let parts : Parts = parts_at (listed_offsets layout.fields) (all_at ns cs) in
     let put : PutsCoveringParts c.args.cover.order c.args.at c.args.bytes.now c.put_parts.new.bytes c.args.place parts =
     subst (λ os. PutsCoveringParts c.args.cover.order c.args.at c.args.bytes.now c.put_parts.new.bytes c.args.place (parts_at os (all_at ns cs))) c.offsets-list.ensures c.put_parts.ensures.put in
@@ -110,20 +110,20 @@ put_node-returns-in-Never-clause-put t c =
     let have = c.requires.sets in
     let there = kept_there ns c.args.cover.kept.now c.args.cover.sets.now have c.args.node c.requires.kept in
     let room = kept_room ns c.args.cover.kept.now c.args.cover.sets.now have c.args.node c.requires.kept in
-    let is = never_node ns have.needed.well c.args.node _ there c.read_one-here.ensures room c.in-Never.field-0 c.in-Never.is in
+    let is = never_node ns have.needed.well c.args.node _ there c.node-here.ensures room c.in-Never.field-0 c.in-Never.is in
     subst (PutsCovering c.args.cover.order c.args.at c.args.bytes.now c.args.bytes.now c.args.place) (sym is) (λ b all held. absurd held)
 
 pub put_node-put_elements-requires : goal.put_node-put_elements-requires
 put_node-put_elements-requires t c =
     let ns = c.args.cover.nodes.now in
     let have = c.requires.sets in
-    let layout : Layout = c.read_one-here.result.layout.now in
+    let layout : Layout = c.node-here.result.layout.now in
     let there = kept_there ns c.args.cover.kept.now c.args.cover.sets.now have c.args.node c.requires.kept in
     let room = kept_room ns c.args.cover.kept.now c.args.cover.sets.now have c.args.node c.requires.kept in
-    let size = node_size ns c.args.node _ there c.read_one-here.ensures in
-    let facts = elements_node ns have.needed.well c.args.node _ there c.read_one-here.ensures room c.in-Elements.count c.in-Elements.element c.in-Elements.is in
+    let size = node_size ns c.args.node _ there c.node-here.ensures in
+    let facts = elements_node ns have.needed.well c.args.node _ there c.node-here.ensures room c.in-Elements.count c.in-Elements.element c.in-Elements.is in
     let among = subst (λ s. is_among (named_by layout s) c.in-Elements.element ≡ true) (sym c.in-Elements.is) (among_one c.in-Elements.element) in
-    let keeps = kept_named ns c.args.cover.kept.now c.args.cover.sets.now have c.args.node c.requires.kept _ c.read_one-here.ensures (omega (arith, c.if-size-eq0.false, c.bytes-size.ensures)) c.in-Elements.element among in
+    let keeps = kept_named ns c.args.cover.kept.now c.args.cover.sets.now have c.args.node c.requires.kept _ c.node-here.ensures (omega (arith, c.if-size-eq0.false, c.bytes-size.ensures)) c.in-Elements.element among in
     (omega (arith, facts.0, c.decreases), (have, (keeps, omega (arith, size, facts.2, c.requires.fits))))
 
 pub put_node-returns-in-Elements-clause-put : goal.put_node-returns-in-Elements-clause-put
@@ -132,24 +132,24 @@ put_node-returns-in-Elements-clause-put t c =
     let have = c.requires.sets in
     let there = kept_there ns c.args.cover.kept.now c.args.cover.sets.now have c.args.node c.requires.kept in
     let room = kept_room ns c.args.cover.kept.now c.args.cover.sets.now have c.args.node c.requires.kept in
-    let facts = elements_node ns have.needed.well c.args.node _ there c.read_one-here.ensures room c.in-Elements.count c.in-Elements.element c.in-Elements.is in
+    let facts = elements_node ns have.needed.well c.args.node _ there c.node-here.ensures room c.in-Elements.count c.in-Elements.element c.in-Elements.is in
     subst (PutsCovering c.args.cover.order c.args.at c.args.bytes.now c.put_elements.new.bytes c.args.place) (sym facts.1) (λ b all held. c.put_elements.ensures.put b all held.2)
 
 pub put_node-put_parts-requires-in-Fields : goal.put_node-put_parts-requires-in-Fields
 put_node-put_parts-requires-in-Fields t c =
     let ns = c.args.cover.nodes.now in
     let have = c.requires.sets in
-    let layout : Layout = c.read_one-here.result.layout.now in
+    let layout : Layout = c.node-here.result.layout.now in
     let there = kept_there ns c.args.cover.kept.now c.args.cover.sets.now have c.args.node c.requires.kept in
     let room = kept_room ns c.args.cover.kept.now c.args.cover.sets.now have c.args.node c.requires.kept in
-    let size = node_size ns c.args.node _ there c.read_one-here.ensures in
-    let facts = fields_node ns have.needed.well c.args.node _ there c.read_one-here.ensures room c.in-Fields.field-0 c.in-Fields.children c.in-Fields.is in
-    let named : (j : ℕ) → is_among _ j ≡ true → is_among (named_by layout c.read_one-here.result.shape.now) j ≡ true = λ j h. subst (λ s. is_among (named_by layout s) j ≡ true) (sym c.in-Fields.is) h in (
+    let size = node_size ns c.args.node _ there c.node-here.ensures in
+    let facts = fields_node ns have.needed.well c.args.node _ there c.node-here.ensures room c.in-Fields.field-0 c.in-Fields.children c.in-Fields.is in
+    let named : (j : ℕ) → is_among _ j ≡ true → is_among (named_by layout c.node-here.result.shape.now) j ≡ true = λ j h. subst (λ s. is_among (named_by layout s) j ≡ true) (sym c.in-Fields.is) h in (
       omega (arith, c.decreases),
       (
         have,
         rw (c.offsets-list.ensures, c.deref.ensures.value)
-            (kept_parts ns c.args.cover.kept.now c.args.cover.sets.now have c.args.node c.requires.kept _ c.read_one-here.ensures c.in-Fields.children.items (length c.args.bytes.now) c.args.at
+            (kept_parts ns c.args.cover.kept.now c.args.cover.sets.now have c.args.node c.requires.kept _ c.node-here.ensures c.in-Fields.children.items (length c.args.bytes.now) c.args.at
             (omega (arith, c.if-size-eq0.false, c.bytes-size.ensures)) named facts.0 facts.2 (omega (arith, size, c.requires.fits))),
       ),
     )
@@ -158,11 +158,11 @@ pub put_node-returns-in-Fields-clause-put : goal.put_node-returns-in-Fields-clau
 put_node-returns-in-Fields-clause-put t c =
     let ns = c.args.cover.nodes.now in
     let have = c.requires.sets in
-    let layout : Layout = c.read_one-here.result.layout.now in
+    let layout : Layout = c.node-here.result.layout.now in
     let new : List ℕ = c.put_parts-in-Fields.new.bytes in
     let there = kept_there ns c.args.cover.kept.now c.args.cover.sets.now have c.args.node c.requires.kept in
     let room = kept_room ns c.args.cover.kept.now c.args.cover.sets.now have c.args.node c.requires.kept in
-    let facts = fields_node ns have.needed.well c.args.node _ there c.read_one-here.ensures room c.in-Fields.field-0 c.in-Fields.children c.in-Fields.is in
+    let facts = fields_node ns have.needed.well c.args.node _ there c.node-here.ensures room c.in-Fields.field-0 c.in-Fields.children c.in-Fields.is in
     let put : PutsCoveringParts c.args.cover.order c.args.at c.args.bytes.now new c.args.place (parts_at (listed_offsets layout.fields) (all_at ns c.in-Fields.children.items)) =
     subst (λ os. PutsCoveringParts c.args.cover.order c.args.at c.args.bytes.now new c.args.place (parts_at os (all_at ns c.in-Fields.children.items))) c.offsets-list.ensures
     (subst (λ cs. PutsCoveringParts c.args.cover.order c.args.at c.args.bytes.now new c.args.place (parts_at c.offsets-list.result.now (all_at ns cs))) c.deref.ensures.value c.put_parts-in-Fields.ensures.put) in
@@ -172,17 +172,17 @@ pub put_node-put_parts-requires-in-Single : goal.put_node-put_parts-requires-in-
 put_node-put_parts-requires-in-Single t c =
     let ns = c.args.cover.nodes.now in
     let have = c.requires.sets in
-    let layout : Layout = c.read_one-here.result.layout.now in
+    let layout : Layout = c.node-here.result.layout.now in
     let there = kept_there ns c.args.cover.kept.now c.args.cover.sets.now have c.args.node c.requires.kept in
     let room = kept_room ns c.args.cover.kept.now c.args.cover.sets.now have c.args.node c.requires.kept in
-    let size = node_size ns c.args.node _ there c.read_one-here.ensures in
-    let facts = single_node ns have.needed.well c.args.node _ there c.read_one-here.ensures room c.in-Single.field-0 c.in-Single.children c.in-Single.is in
-    let named : (j : ℕ) → is_among _ j ≡ true → is_among (named_by layout c.read_one-here.result.shape.now) j ≡ true = λ j h. subst (λ s. is_among (named_by layout s) j ≡ true) (sym c.in-Single.is) h in (
+    let size = node_size ns c.args.node _ there c.node-here.ensures in
+    let facts = single_node ns have.needed.well c.args.node _ there c.node-here.ensures room c.in-Single.field-0 c.in-Single.children c.in-Single.is in
+    let named : (j : ℕ) → is_among _ j ≡ true → is_among (named_by layout c.node-here.result.shape.now) j ≡ true = λ j h. subst (λ s. is_among (named_by layout s) j ≡ true) (sym c.in-Single.is) h in (
       omega (arith, c.decreases),
       (
         have,
         rw (c.offsets-list.ensures, c.deref-in-Single.ensures.value)
-            (kept_parts ns c.args.cover.kept.now c.args.cover.sets.now have c.args.node c.requires.kept _ c.read_one-here.ensures c.in-Single.children.items (length c.args.bytes.now) c.args.at
+            (kept_parts ns c.args.cover.kept.now c.args.cover.sets.now have c.args.node c.requires.kept _ c.node-here.ensures c.in-Single.children.items (length c.args.bytes.now) c.args.at
             (omega (arith, c.if-size-eq0.false, c.bytes-size.ensures)) named facts.0 facts.2 (omega (arith, size, c.requires.fits))),
       ),
     )
@@ -191,11 +191,11 @@ pub put_node-returns-in-Single-clause-put : goal.put_node-returns-in-Single-clau
 put_node-returns-in-Single-clause-put t c =
     let ns = c.args.cover.nodes.now in
     let have = c.requires.sets in
-    let layout : Layout = c.read_one-here.result.layout.now in
+    let layout : Layout = c.node-here.result.layout.now in
     let new : List ℕ = c.put_parts-in-Single.new.bytes in
     let there = kept_there ns c.args.cover.kept.now c.args.cover.sets.now have c.args.node c.requires.kept in
     let room = kept_room ns c.args.cover.kept.now c.args.cover.sets.now have c.args.node c.requires.kept in
-    let facts = single_node ns have.needed.well c.args.node _ there c.read_one-here.ensures room c.in-Single.field-0 c.in-Single.children c.in-Single.is in
+    let facts = single_node ns have.needed.well c.args.node _ there c.node-here.ensures room c.in-Single.field-0 c.in-Single.children c.in-Single.is in
     let put : PutsCoveringParts c.args.cover.order c.args.at c.args.bytes.now new c.args.place (parts_at (listed_offsets layout.fields) (all_at ns c.in-Single.children.items)) =
     subst (λ os. PutsCoveringParts c.args.cover.order c.args.at c.args.bytes.now new c.args.place (parts_at os (all_at ns c.in-Single.children.items))) c.offsets-list.ensures
     (subst (λ cs. PutsCoveringParts c.args.cover.order c.args.at c.args.bytes.now new c.args.place (parts_at c.offsets-list.result.now (all_at ns cs))) c.deref-in-Single.ensures.value c.put_parts-in-Single.ensures.put) in
@@ -209,7 +209,7 @@ put_node-put_zeros-requires-clause-inside t c =
     let there = kept_there ns c.args.cover.kept.now c.args.cover.sets.now have c.args.node c.requires.kept in
     let room = kept_room ns c.args.cover.kept.now c.args.cover.sets.now have c.args.node c.requires.kept in
     let made = kept_set ns c.args.cover.kept.now c.args.cover.sets.now have c.args.node c.requires.kept in
-    let size = node_size ns c.args.node _ there c.read_one-here.ensures in
+    let size = node_size ns c.args.node _ there c.node-here.ensures in
     let same : (k : ℕ) → is_in_ranges c.as_slice.result.now k ≡ is_data_place p k = λ k. ap (λ rs. is_in_ranges rs k) (c.as_slice.ensures.runs ∙ c.set_at.ensures) ∙ made.1 k in
     let inside : All (λ run. run.0 + run.1 ≤ size_of p) c.as_slice.result.now = runs_inside p c.as_slice.result.now room c.as_slice.ensures.maximal same in
     λ k d lt. omega (arith, inside k d lt, size, c.bytes-size.ensures)
@@ -218,19 +218,19 @@ pub put_node-put_zeros-requires-clause-fits : goal.put_node-put_zeros-requires-c
 put_node-put_zeros-requires-clause-fits t c =
     let ns = c.args.cover.nodes.now in
     let there = kept_there ns c.args.cover.kept.now c.args.cover.sets.now c.requires.sets c.args.node c.requires.kept in
-    let size = node_size ns c.args.node _ there c.read_one-here.ensures in
+    let size = node_size ns c.args.node _ there c.node-here.ensures in
     omega (arith, size, c.bytes-size.ensures, c.requires.fits)
 
 pub put_node-returns-in-Union-clause-put : goal.put_node-returns-in-Union-clause-put
 put_node-returns-in-Union-clause-put t c =
     let ns = c.args.cover.nodes.now in
     let have = c.requires.sets in
-    let layout : Layout = c.read_one-here.result.layout.now in
+    let layout : Layout = c.node-here.result.layout.now in
     let new : List ℕ = c.put_zeros.new.bytes in
     let there = kept_there ns c.args.cover.kept.now c.args.cover.sets.now have c.args.node c.requires.kept in
     let room = kept_room ns c.args.cover.kept.now c.args.cover.sets.now have c.args.node c.requires.kept in
     let made = kept_set ns c.args.cover.kept.now c.args.cover.sets.now have c.args.node c.requires.kept in
-    let facts = union_node ns have.needed.well c.args.node _ there c.read_one-here.ensures room c.in-Union.field-0 c.in-Union.field-1 c.in-Union.is in
+    let facts = union_node ns have.needed.well c.args.node _ there c.node-here.ensures room c.in-Union.field-0 c.in-Union.field-1 c.in-Union.is in
     let u : Placed = union layout c.in-Union.field-0 (parts_at_0 (all_at ns c.in-Union.field-1.items)) in
     let same : (k : ℕ) → is_in_ranges c.as_slice.result.now k ≡ is_data_place u k =
     λ k. ap (λ rs. is_in_ranges rs k) (c.as_slice.ensures.runs ∙ c.set_at.ensures) ∙ made.1 k ∙ ap (λ p. is_data_place p k) facts.1 in
@@ -245,14 +245,14 @@ pub put_node-put_node-requires : goal.put_node-put_node-requires
 put_node-put_node-requires t c =
     let ns = c.args.cover.nodes.now in
     let have = c.requires.sets in
-    let layout : Layout = c.read_one-here.result.layout.now in
+    let layout : Layout = c.node-here.result.layout.now in
     let there = kept_there ns c.args.cover.kept.now c.args.cover.sets.now have c.args.node c.requires.kept in
     let room = kept_room ns c.args.cover.kept.now c.args.cover.sets.now have c.args.node c.requires.kept in
-    let size = node_size ns c.args.node _ there c.read_one-here.ensures in
-    let facts = vector_node ns have.needed.well c.args.node _ there c.read_one-here.ensures room c.in-Vector.lanes c.in-Vector.is in
+    let size = node_size ns c.args.node _ there c.node-here.ensures in
+    let facts = vector_node ns have.needed.well c.args.node _ there c.node-here.ensures room c.in-Vector.lanes c.in-Vector.is in
     let inside = vector_room ns c.args.node c.in-Vector.lanes layout facts.1 room in
     let among = subst (λ s. is_among (named_by layout s) c.in-Vector.lanes ≡ true) (sym c.in-Vector.is) (among_one c.in-Vector.lanes) in
-    let keeps = kept_named ns c.args.cover.kept.now c.args.cover.sets.now have c.args.node c.requires.kept _ c.read_one-here.ensures (omega (arith, c.if-size-eq0.false, c.bytes-size.ensures)) c.in-Vector.lanes among in
+    let keeps = kept_named ns c.args.cover.kept.now c.args.cover.sets.now have c.args.node c.requires.kept _ c.node-here.ensures (omega (arith, c.if-size-eq0.false, c.bytes-size.ensures)) c.in-Vector.lanes among in
     (omega (arith, facts.0, c.decreases), (have, (keeps, omega (arith, size, inside, c.requires.fits))))
 
 pub put_node-returns-in-Vector-clause-put : goal.put_node-returns-in-Vector-clause-put
@@ -263,11 +263,11 @@ put_node-returns-in-Vector-clause-put t c =
     let new : List ℕ = c.put_node.new.bytes in
     let there = kept_there ns c.args.cover.kept.now c.args.cover.sets.now have c.args.node c.requires.kept in
     let room = kept_room ns c.args.cover.kept.now c.args.cover.sets.now have c.args.node c.requires.kept in
-    let facts = vector_node ns have.needed.well c.args.node _ there c.read_one-here.ensures room c.in-Vector.lanes c.in-Vector.is in
+    let facts = vector_node ns have.needed.well c.args.node _ there c.node-here.ensures room c.in-Vector.lanes c.in-Vector.is in
     let start : c.args.at ≡ c.args.at + 0 = omega arith in
     subst (PutsCovering c.args.cover.order c.args.at c.args.bytes.now new c.args.place) (sym facts.1)
     (λ b all held.
-    put_vector c.args.cover.order c.read_one-here.result.layout.now c.args.at b c.args.bytes.now new lanes (covering_value lanes c.args.place)
+    put_vector c.args.cover.order c.node-here.result.layout.now c.args.at b c.args.bytes.now new lanes (covering_value lanes c.args.place)
     (λ at. put_slice c.args.cover.order lanes (covering_value lanes c.args.place) c.args.at 0 b c.args.bytes.now new all at
     (λ s each holds. subst (λ a. IsPutOver (is_covered lanes (covering_value lanes c.args.place)) a s c.args.bytes.now new) start (c.put_node.ensures.put s each holds)))
     held)
@@ -456,7 +456,7 @@ put_elements-loop-i-preserved t c =
     let i : ℕ = c.loop-i.i in
     let old : List ℕ = c.args.bytes.now in
     let now : List ℕ = c.loop-i.bytes in
-    let size : c.bytes-size.result ≡ size_of p = rw c.bytes-size.ensures (ap (λ l. l.size) c.read_layout.ensures) in
+    let size : c.bytes-size.result ≡ size_of p = rw c.bytes-size.ensures (ap (λ l. l.size) c.layout.ensures) in
     let Next : List ℕ → Type 0 = λ new.
     (length new ≡ length old)
     × ((b : List ℕ) → AreBytes b → HoldEach (Holds c.args.cover.order p) (size_of p) 0 b (each_value (covering_value p) (size_of p) 0 c.args.count c.args.place) →
@@ -517,7 +517,7 @@ put_parts-loop-i-preserved t c =
     let below : i < length cs = omega (arith, c.loop-i-test.true, c.min-i-end.ensures) in
     let offset : c.bytes-offset.result ≡ get_or os i 0 = c.bytes-offset.ensures ∙ c.index-offsets-i.is ∙ get_or_default os i c.index-offsets-i.result 0 lt in
     let child : placed_at ns (get_or cs i 0) ≡ get_or ps i nothing = sym (child_is ns cs i below) in
-    let size : c.bytes-size.result ≡ size_of (placed_at ns (get_or cs i 0)) = rw c.bytes-size.ensures (ap (λ l. l.size) c.read_layout.ensures) in
+    let size : c.bytes-size.result ≡ size_of (placed_at ns (get_or cs i 0)) = rw c.bytes-size.ensures (ap (λ l. l.size) c.layout.ensures) in
     let put : PutsCovering c.args.cover.order (c.args.at + get_or os i 0) c.loop-i.bytes new (place_in c.args.place (get_or os i 0) (size_of (get_or ps i nothing))) (get_or ps i nothing) =
     subst (λ p. PutsCovering c.args.cover.order (c.args.at + get_or os i 0) c.loop-i.bytes new (place_in c.args.place (get_or os i 0) (size_of p)) p) child
     (subst (λ n. PutsCovering c.args.cover.order (c.args.at + get_or os i 0) c.loop-i.bytes new (place_in c.args.place (get_or os i 0) n) (placed_at ns (get_or cs i 0))) size
@@ -561,7 +561,7 @@ put_arm-returns-clause-put t c =
     let mid : List ℕ = c.write_tag.new.bytes in
     let new : List ℕ = c.put_node.new.bytes in
     let j : ℕ = (get_or vs i (0, 0)).1 in
-    let width : c.read_layout.result.now.size ≡ size_of tag = ap (λ l. l.size) c.read_layout.ensures in
+    let width : c.layout.result.now.size ≡ size_of tag = ap (λ l. l.size) c.layout.ensures in
     let room = kept_room ns c.args.cover.kept.now c.args.cover.sets.now c.requires.sets j (c.requires.kept i (0, 0) lt) in
     arm_put c.args.cover.order done c.args.place c.args.at old mid new c.args.told.encoding.now c.args.told.offset tag vs i lt c.arm_for-i.ensures
     (list_at done vs i (0, 0) lt c.requires.listed) room (subst (λ w. PutsTag c.args.cover.order c.args.at old mid c.args.told.encoding.now c.args.told.offset w vs i) width c.write_tag.ensures.put)

@@ -4,17 +4,17 @@ use Rattle.abi_laid.specs.Placed.{Placed, is_flagged, layout_of, nothing}
 use Rattle.abi_laid.specs.Nodes.{parts_at}
 use Rattle.abi_laid.specs.Well.{all_at}
 use Rattle.abi_laid.proofs.Found.NamedLemmas.{child_is, count_children, flagged_end, flagged_from}
-use Rattle.abi_laid.proofs.value.named.is_flagged.Goals.{else-i-offsets-via-then-i-offsets+else-read_layout, else-i-offsets-via-else-i-offsets}
+use Rattle.abi_laid.proofs.value.named.is_flagged.Goals.{else-i-offsets-via-then-i-offsets+else-layout, else-i-offsets-via-else-i-offsets}
 use Rattle.abi_laid.proofs.value.named.is_flagged.Goals as goal
 
-pub returns-then-read_layout : goal.returns-then-read_layout
-returns-then-read_layout c =
+pub returns-then-layout : goal.returns-then-layout
+returns-then-layout c =
     let ns = c.args.nodes.now in
     let os : List ℕ = c.own_parts.result.0.now in
     let ps : List Placed = all_at ns c.own_parts.result.1.now in
     let i : ℕ = c.loop-i.i in
     let rest = is_flagged (parts_at (drop (i + 1) os) (drop (i + 1) ps)) in
-    let flag : true ≡ (layout_of (get_or ps i nothing)).uninhabited = sym (ap (λ p. (layout_of p).uninhabited) (child_is ns c.own_parts.result.1.now i (omega arith)) ∙ ap (λ l. l.uninhabited) (sym c.read_layout.ensures) ∙ c.if-read_layout.true) in
+    let flag : true ≡ (layout_of (get_or ps i nothing)).uninhabited = sym (ap (λ p. (layout_of p).uninhabited) (child_is ns c.own_parts.result.1.now i (omega arith)) ∙ ap (λ l. l.uninhabited) (sym c.layout.ensures) ∙ c.if-layout.true) in
     ap (λ b. b || rest) flag ∙ sym (ap is_flagged c.own_parts.ensures.parts ∙ c.loop-i.invariant ∙ flagged_from os ps i c.if-i-offsets.true (omega (arith, count_children ns c.own_parts.result.1.now)))
 
 pub loop-i-preserved : goal.loop-i-preserved
@@ -26,9 +26,9 @@ loop-i-preserved c =
     let many = count_children ns c.own_parts.result.1.now in
     let rest = is_flagged (parts_at (drop (i + 1) os) (drop (i + 1) ps)) in
     elim c.else-i-offsets.branch [
-      | else-i-offsets-via-then-i-offsets+else-read_layout w ↦
+      | else-i-offsets-via-then-i-offsets+else-layout w ↦
           c.loop-i.invariant ∙ flagged_from os ps i w.if-i-offsets.true (omega (arith, many))
-          ∙ ap (λ b. b || rest) (ap (λ p. (layout_of p).uninhabited) (child_is ns c.own_parts.result.1.now i (omega arith)) ∙ ap (λ l. l.uninhabited) (sym w.read_layout.ensures) ∙ w.if-read_layout.false)
+          ∙ ap (λ b. b || rest) (ap (λ p. (layout_of p).uninhabited) (child_is ns c.own_parts.result.1.now i (omega arith)) ∙ ap (λ l. l.uninhabited) (sym w.layout.ensures) ∙ w.if-layout.false)
       | else-i-offsets-via-else-i-offsets w ↦
           c.loop-i.invariant ∙ flagged_end os ps i (omega (arith, w.if-i-offsets.false)) ∙ sym (flagged_end os ps (i + 1) (omega (arith, w.if-i-offsets.false)))
     ]

@@ -28,27 +28,27 @@ use Rattle.abi_laid.proofs.value.read.+read.Goals as goal
 
 pub read_node-returns-then-bytes : goal.read_node-returns-then-bytes
 read_node-returns-then-bytes t c =
-    let size = node_size c.args.walk.nodes.now c.args.node _ c.requires.there c.read_one-here.ensures in
+    let size = node_size c.args.walk.nodes.now c.args.node _ c.requires.there c.node-here.ensures in
     none_of_length c.args.walk.order (placed_at c.args.walk.nodes.now c.args.node) c.args.bytes.now (λ e. c.if-bytes.true (e ∙ size ∙ sym c.bytes.ensures))
 
 pub read_node-returns-in-Scalar : goal.read_node-returns-in-Scalar
 read_node-returns-in-Scalar t c =
     let p : Placed = placed_at c.args.walk.nodes.now c.args.node in
-    let is = scalar_node c.args.walk.nodes.now c.args.walk.well c.args.node _ c.requires.there c.read_one-here.ensures c.requires.room c.in-Scalar.field-0 c.in-Scalar.is in
+    let is = scalar_node c.args.walk.nodes.now c.args.walk.well c.args.node _ c.requires.there c.node-here.ensures c.requires.room c.in-Scalar.field-0 c.in-Scalar.is in
     finds_number (Holds c.args.walk.order p c.args.bytes.now) (λ n. Holds c.args.walk.order p c.args.bytes.now (number n)) c.read_number.result c.as_number.result c.as_number.ensures c.read_number.ensures
     (λ n h. h)
     (subst (λ x. (v : Value) → Holds c.args.walk.order x c.args.bytes.now v → (n : ℕ) × Holds c.args.walk.order x c.args.bytes.now (number n)) (sym is)
-    (from_scalar c.args.walk.order c.read_one-here.result.layout.now c.args.bytes.now c.in-Scalar.field-0))
+    (from_scalar c.args.walk.order c.node-here.result.layout.now c.args.bytes.now c.in-Scalar.field-0))
 
 pub read_node-read_pair-requires-clause-first : goal.read_node-read_pair-requires-clause-first
 read_node-read_pair-requires-clause-first t c =
-    let facts = pair_node c.args.walk.nodes.now c.args.walk.well c.args.node _ c.requires.there c.read_one-here.ensures c.requires.room c.in-Pair.first c.in-Pair.second c.in-Pair.is in
+    let facts = pair_node c.args.walk.nodes.now c.args.walk.well c.args.node _ c.requires.there c.node-here.ensures c.requires.room c.in-Pair.first c.in-Pair.second c.in-Pair.is in
     let before = facts.0 0 0 (omega arith) in
     omega (arith, before, c.requires.there)
 
 pub read_node-read_pair-requires-clause-second : goal.read_node-read_pair-requires-clause-second
 read_node-read_pair-requires-clause-second t c =
-    let facts = pair_node c.args.walk.nodes.now c.args.walk.well c.args.node _ c.requires.there c.read_one-here.ensures c.requires.room c.in-Pair.first c.in-Pair.second c.in-Pair.is in
+    let facts = pair_node c.args.walk.nodes.now c.args.walk.well c.args.node _ c.requires.there c.node-here.ensures c.requires.room c.in-Pair.first c.in-Pair.second c.in-Pair.is in
     let before = facts.0 1 0 (omega arith) in
     omega (arith, before, c.requires.there)
 
@@ -56,8 +56,8 @@ pub read_node-returns-in-Pair : goal.read_node-returns-in-Pair
 read_node-returns-in-Pair t c =
     let ns = c.args.walk.nodes.now in
     let b : List ℕ = c.args.bytes.now in
-    let layout : Layout = c.read_one-here.result.layout.now in
-    let facts = pair_node ns c.args.walk.well c.args.node _ c.requires.there c.read_one-here.ensures c.requires.room c.in-Pair.first c.in-Pair.second c.in-Pair.is in
+    let layout : Layout = c.node-here.result.layout.now in
+    let facts = pair_node ns c.args.walk.well c.args.node _ c.requires.there c.node-here.ensures c.requires.room c.in-Pair.first c.in-Pair.second c.in-Pair.is in
     let parts : Parts = parts_at (listed_offsets layout.fields) (all_at ns (c.in-Pair.first ∷ c.in-Pair.second ∷ [])) in
     let found : Finds (HoldsTwo c.args.walk.order parts b) c.read_pair.result =
     subst (λ os. Finds (HoldsTwo c.args.walk.order (parts_at os (all_at ns (c.in-Pair.first ∷ c.in-Pair.second ∷ []))) b) c.read_pair.result) c.offsets.ensures c.read_pair.ensures in
@@ -67,12 +67,12 @@ read_node-returns-in-Pair t c =
 
 pub read_node-returns-in-Never : goal.read_node-returns-in-Never
 read_node-returns-in-Never t c =
-    let is = never_node c.args.walk.nodes.now c.args.walk.well c.args.node _ c.requires.there c.read_one-here.ensures c.requires.room c.in-Never.field-0 c.in-Never.is in
-    subst (λ x. (v : Value) → Holds c.args.walk.order x c.args.bytes.now v → ⊥) (sym is) (from_never c.args.walk.order c.read_one-here.result.layout.now c.args.bytes.now c.in-Never.field-0)
+    let is = never_node c.args.walk.nodes.now c.args.walk.well c.args.node _ c.requires.there c.node-here.ensures c.requires.room c.in-Never.field-0 c.in-Never.is in
+    subst (λ x. (v : Value) → Holds c.args.walk.order x c.args.bytes.now v → ⊥) (sym is) (from_never c.args.walk.order c.node-here.result.layout.now c.args.bytes.now c.in-Never.field-0)
 
 pub read_node-read_elements-requires : goal.read_node-read_elements-requires
 read_node-read_elements-requires t c =
-    let facts = elements_node c.args.walk.nodes.now c.args.walk.well c.args.node _ c.requires.there c.read_one-here.ensures c.requires.room c.in-Elements.count c.in-Elements.element c.in-Elements.is in (
+    let facts = elements_node c.args.walk.nodes.now c.args.walk.well c.args.node _ c.requires.there c.node-here.ensures c.requires.room c.in-Elements.count c.in-Elements.element c.in-Elements.is in (
       omega (arith, facts.0, c.decreases),
       (omega (arith, facts.0, c.requires.there), (facts.3, c.if-bytes.false ∙ c.bytes.ensures ∙ facts.2)),
     )
@@ -81,9 +81,9 @@ pub read_node-returns-in_ok-found-in-Elements : goal.read_node-returns-in_ok-fou
 read_node-returns-in_ok-found-in-Elements t c =
     let ns = c.args.walk.nodes.now in
     let b : List ℕ = c.args.bytes.now in
-    let layout : Layout = c.read_one-here.result.layout.now in
+    let layout : Layout = c.node-here.result.layout.now in
     let long : length b ≡ layout.size = c.if-bytes.false ∙ c.bytes.ensures in
-    let facts = elements_node ns c.args.walk.well c.args.node _ c.requires.there c.read_one-here.ensures c.requires.room c.in-Elements.count c.in-Elements.element c.in-Elements.is in
+    let facts = elements_node ns c.args.walk.well c.args.node _ c.requires.there c.node-here.ensures c.requires.room c.in-Elements.count c.in-Elements.element c.in-Elements.is in
     let element : Placed = placed_at ns c.in-Elements.element in
     subst (λ x. Finds (Holds c.args.walk.order x b) c.as_list.result) (sym facts.1)
     (finds_list (Holds c.args.walk.order (elements layout c.in-Elements.count element) b)
@@ -93,7 +93,7 @@ read_node-returns-in_ok-found-in-Elements t c =
 
 pub read_node-read_parts-requires : goal.read_node-read_parts-requires
 read_node-read_parts-requires t c =
-    let facts = fields_node c.args.walk.nodes.now c.args.walk.well c.args.node _ c.requires.there c.read_one-here.ensures c.requires.room c.in-Fields.field-0 c.in-Fields.children c.in-Fields.is in
+    let facts = fields_node c.args.walk.nodes.now c.args.walk.well c.args.node _ c.requires.there c.node-here.ensures c.requires.room c.in-Fields.field-0 c.in-Fields.children c.in-Fields.is in
     let room : have_room (length c.args.bytes.now) (parts_at c.offsets-in-Fields.result.now (all_at c.args.walk.nodes.now c.deref.result.now)) ≡ true =
     rw (c.if-bytes.false, c.bytes.ensures, c.offsets-in-Fields.ensures, c.deref.ensures.value) facts.2 in
     (omega (arith, c.decreases), (c.requires.there, (rw c.deref.ensures.value facts.0, room)))
@@ -102,9 +102,9 @@ pub read_node-returns-in_ok-found-in-Fields : goal.read_node-returns-in_ok-found
 read_node-returns-in_ok-found-in-Fields t c =
     let ns = c.args.walk.nodes.now in
     let b : List ℕ = c.args.bytes.now in
-    let layout : Layout = c.read_one-here.result.layout.now in
+    let layout : Layout = c.node-here.result.layout.now in
     let long : length b ≡ layout.size = c.if-bytes.false ∙ c.bytes.ensures in
-    let facts = fields_node ns c.args.walk.well c.args.node _ c.requires.there c.read_one-here.ensures c.requires.room c.in-Fields.field-0 c.in-Fields.children c.in-Fields.is in
+    let facts = fields_node ns c.args.walk.well c.args.node _ c.requires.there c.node-here.ensures c.requires.room c.in-Fields.field-0 c.in-Fields.children c.in-Fields.is in
     let parts : Parts = parts_at (listed_offsets layout.fields) (all_at ns c.in-Fields.children.items) in
     let found : FindsEach (HoldParts c.args.walk.order parts b) c.in_ok-found-in-Fields.found =
     subst (λ cs. FindsEach (HoldParts c.args.walk.order (parts_at (listed_offsets layout.fields) (all_at ns cs)) b) c.in_ok-found-in-Fields.found) c.deref.ensures.value
@@ -114,14 +114,14 @@ read_node-returns-in_ok-found-in-Fields t c =
     (λ vs h. (long, h)) (from_fields c.args.walk.order layout b c.in-Fields.field-0 parts))
 
 pub read_node-read_union-requires-clause-size : goal.read_node-read_union-requires-clause-size
-read_node-read_union-requires-clause-size t c = c.if-bytes.false ∙ c.bytes.ensures ∙ sym (node_size c.args.walk.nodes.now c.args.node _ c.requires.there c.read_one-here.ensures)
+read_node-read_union-requires-clause-size t c = c.if-bytes.false ∙ c.bytes.ensures ∙ sym (node_size c.args.walk.nodes.now c.args.node _ c.requires.there c.node-here.ensures)
 
 pub read_node-returns-in_ok-read_union-in-Union : goal.read_node-returns-in_ok-read_union-in-Union
 read_node-returns-in_ok-read_union-in-Union t c =
     let ns = c.args.walk.nodes.now in
     let b : List ℕ = c.args.bytes.now in
-    let layout : Layout = c.read_one-here.result.layout.now in
-    let facts = union_node ns c.args.walk.well c.args.node _ c.requires.there c.read_one-here.ensures c.requires.room c.in-Union.field-0 c.in-Union.field-1 c.in-Union.is in
+    let layout : Layout = c.node-here.result.layout.now in
+    let facts = union_node ns c.args.walk.well c.args.node _ c.requires.there c.node-here.ensures c.requires.room c.in-Union.field-0 c.in-Union.field-1 c.in-Union.is in
     let parts : Parts = parts_at_0 (all_at ns c.in-Union.field-1.items) in
     subst (λ x. Holds c.args.walk.order x b (value_of (UnionKept c.in_ok-read_union-in-Union.field-0))) (sym facts.1)
     (to_union c.args.walk.order layout c.in-Union.field-0 parts b c.in_ok-read_union-in-Union.field-0 (c.if-bytes.false ∙ c.bytes.ensures)
@@ -129,21 +129,21 @@ read_node-returns-in_ok-read_union-in-Union t c =
 
 pub read_node-read_part-requires : goal.read_node-read_part-requires
 read_node-read_part-requires t c =
-    let facts = vector_node c.args.walk.nodes.now c.args.walk.well c.args.node _ c.requires.there c.read_one-here.ensures c.requires.room c.in-Vector.lanes c.in-Vector.is in
+    let facts = vector_node c.args.walk.nodes.now c.args.walk.well c.args.node _ c.requires.there c.node-here.ensures c.requires.room c.in-Vector.lanes c.in-Vector.is in
     (omega (arith, facts.0, c.decreases), (omega (arith, facts.0, c.requires.there), facts.2))
 
 pub read_node-returns-in_ok-found-in-Vector : goal.read_node-returns-in_ok-found-in-Vector
 read_node-returns-in_ok-found-in-Vector t c =
     let b : List ℕ = c.args.bytes.now in
-    let layout : Layout = c.read_one-here.result.layout.now in
-    let facts = vector_node c.args.walk.nodes.now c.args.walk.well c.args.node _ c.requires.there c.read_one-here.ensures c.requires.room c.in-Vector.lanes c.in-Vector.is in
+    let layout : Layout = c.node-here.result.layout.now in
+    let facts = vector_node c.args.walk.nodes.now c.args.walk.well c.args.node _ c.requires.there c.node-here.ensures c.requires.room c.in-Vector.lanes c.in-Vector.is in
     subst (λ x. Finds (Holds c.args.walk.order x b) c.only_list.result) (sym facts.1)
     (found_vector c.args.walk.order layout (placed_at c.args.walk.nodes.now c.in-Vector.lanes) b c.in_ok-found-in-Vector.found c.only_list.result (c.if-bytes.false ∙ c.bytes.ensures)
     c.only_list.ensures c.in_ok-found-in-Vector.ensures)
 
 pub read_node-read_parts-requires-in-Single : goal.read_node-read_parts-requires-in-Single
 read_node-read_parts-requires-in-Single t c =
-    let facts = single_node c.args.walk.nodes.now c.args.walk.well c.args.node _ c.requires.there c.read_one-here.ensures c.requires.room c.in-Single.field-0 c.in-Single.children c.in-Single.is in
+    let facts = single_node c.args.walk.nodes.now c.args.walk.well c.args.node _ c.requires.there c.node-here.ensures c.requires.room c.in-Single.field-0 c.in-Single.children c.in-Single.is in
     let room : have_room (length c.args.bytes.now) (parts_at c.offsets-in-Single.result.now (all_at c.args.walk.nodes.now c.deref-in-Single.result.now)) ≡ true =
     rw (c.if-bytes.false, c.bytes.ensures, c.offsets-in-Single.ensures, c.deref-in-Single.ensures.value) facts.2 in
     (omega (arith, c.decreases), (c.requires.there, (rw c.deref-in-Single.ensures.value facts.0, room)))
@@ -152,9 +152,9 @@ pub read_node-returns-in_ok-found-in-Single : goal.read_node-returns-in_ok-found
 read_node-returns-in_ok-found-in-Single t c =
     let ns = c.args.walk.nodes.now in
     let b : List ℕ = c.args.bytes.now in
-    let layout : Layout = c.read_one-here.result.layout.now in
+    let layout : Layout = c.node-here.result.layout.now in
     let long : length b ≡ layout.size = c.if-bytes.false ∙ c.bytes.ensures in
-    let facts = single_node ns c.args.walk.well c.args.node _ c.requires.there c.read_one-here.ensures c.requires.room c.in-Single.field-0 c.in-Single.children c.in-Single.is in
+    let facts = single_node ns c.args.walk.well c.args.node _ c.requires.there c.node-here.ensures c.requires.room c.in-Single.field-0 c.in-Single.children c.in-Single.is in
     let parts : Parts = parts_at (listed_offsets layout.fields) (all_at ns c.in-Single.children.items) in
     let found : FindsEach (HoldParts c.args.walk.order parts b) c.in_ok-found-in-Single.found =
     subst (λ cs. FindsEach (HoldParts c.args.walk.order (parts_at (listed_offsets layout.fields) (all_at ns cs)) b) c.in_ok-found-in-Single.found) c.deref-in-Single.ensures.value
@@ -166,8 +166,8 @@ read_node-returns-in_ok-found-in-Single t c =
 pub read_node-read_variant-requires : goal.read_node-read_variant-requires
 read_node-read_variant-requires t c =
     let ns = c.args.walk.nodes.now in
-    let facts = tagged_node ns c.args.walk.well c.args.node _ c.requires.there c.read_one-here.ensures c.requires.room c.in-Tagged.mark c.in-Tagged.tag c.in-Tagged.variants c.in-Tagged.is in
-    let width = tag_width_at ns c.args.walk.well c.args.walk.widths c.args.node _ c.requires.there c.read_one-here.ensures c.in-Tagged.mark c.in-Tagged.tag c.in-Tagged.variants c.in-Tagged.is in (
+    let facts = tagged_node ns c.args.walk.well c.args.node _ c.requires.there c.node-here.ensures c.requires.room c.in-Tagged.mark c.in-Tagged.tag c.in-Tagged.variants c.in-Tagged.is in
+    let width = tag_width_at ns c.args.walk.well c.args.walk.widths c.args.node _ c.requires.there c.node-here.ensures c.in-Tagged.mark c.in-Tagged.tag c.in-Tagged.variants c.in-Tagged.is in (
       omega (arith, c.decreases),
       (
         c.requires.there,
@@ -179,8 +179,8 @@ pub read_node-returns-in-Tagged : goal.read_node-returns-in-Tagged
 read_node-returns-in-Tagged t c =
     let ns = c.args.walk.nodes.now in
     let b : List ℕ = c.args.bytes.now in
-    let layout : Layout = c.read_one-here.result.layout.now in
-    let facts = tagged_node ns c.args.walk.well c.args.node _ c.requires.there c.read_one-here.ensures c.requires.room c.in-Tagged.mark c.in-Tagged.tag c.in-Tagged.variants c.in-Tagged.is in
+    let layout : Layout = c.node-here.result.layout.now in
+    let facts = tagged_node ns c.args.walk.well c.args.node _ c.requires.there c.node-here.ensures c.requires.room c.in-Tagged.mark c.in-Tagged.tag c.in-Tagged.variants c.in-Tagged.is in
     let whole : List (ℕ × ℕ) → Placed = λ vs. tagged layout c.in-Tagged.mark (tag_offset layout) (placed_at ns c.in-Tagged.tag) (encoding_of layout.variants) (arms_in (types_in ns) vs) in
     IfOk-weaker c.read_variant.result _ _
     (λ found h. subst (λ x. Finds (Holds c.args.walk.order x b) found) (ap whole c.deref-in-Tagged.ensures.value ∙ sym facts.2) (h c.in-Tagged.mark))
@@ -189,9 +189,9 @@ read_node-returns-in-Tagged t c =
 pub read_node-read_state-requires : goal.read_node-read_state-requires
 read_node-read_state-requires t c =
     let ns = c.args.walk.nodes.now in
-    let layout : Layout = c.read_one-here.result.layout.now in
-    let facts = states_node ns c.args.walk.well c.args.node _ c.requires.there c.read_one-here.ensures c.requires.room c.in-States.prefix c.in-States.tag c.in-States.states c.in-States.is in
-    let width = state_tag_width_at ns c.args.walk.well c.args.walk.widths c.args.node _ c.requires.there c.read_one-here.ensures c.in-States.prefix c.in-States.tag c.in-States.states c.in-States.is in
+    let layout : Layout = c.node-here.result.layout.now in
+    let facts = states_node ns c.args.walk.well c.args.node _ c.requires.there c.node-here.ensures c.requires.room c.in-States.prefix c.in-States.tag c.in-States.states c.in-States.is in
+    let width = state_tag_width_at ns c.args.walk.well c.args.walk.widths c.args.node _ c.requires.there c.node-here.ensures c.in-States.prefix c.in-States.tag c.in-States.states c.in-States.is in
     let room : has_room (states_in (types_in ns) layout c.deref-in-States.result.now c.in-States.tag c.deref-in-States-2.result.now) ≡ true =
     subst (λ vs. has_room (states_in (types_in ns) layout c.deref-in-States.result.now c.in-States.tag vs) ≡ true) (sym c.deref-in-States-2.ensures.value)
     (subst (λ ps. has_room (states_in (types_in ns) layout ps c.in-States.tag c.in-States.states.items) ≡ true) (sym c.deref-in-States.ensures.value) facts.4) in (
@@ -209,8 +209,8 @@ pub read_node-returns-in-States : goal.read_node-returns-in-States
 read_node-returns-in-States t c =
     let ns = c.args.walk.nodes.now in
     let b : List ℕ = c.args.bytes.now in
-    let layout : Layout = c.read_one-here.result.layout.now in
-    let facts = states_node ns c.args.walk.well c.args.node _ c.requires.there c.read_one-here.ensures c.requires.room c.in-States.prefix c.in-States.tag c.in-States.states c.in-States.is in
+    let layout : Layout = c.node-here.result.layout.now in
+    let facts = states_node ns c.args.walk.well c.args.node _ c.requires.there c.node-here.ensures c.requires.room c.in-States.prefix c.in-States.tag c.in-States.states c.in-States.is in
     subst (λ x. IfOk c.read_state.result (Finds (Holds c.args.walk.order x b))) (sym facts.3)
     (subst (λ vs. IfOk c.read_state.result (Finds (Holds c.args.walk.order (states_in (types_in ns) layout c.in-States.prefix.items c.in-States.tag vs) b))) c.deref-in-States-2.ensures.value
     (subst (λ ps. IfOk c.read_state.result (Finds (Holds c.args.walk.order (states_in (types_in ns) layout ps c.in-States.tag c.deref-in-States-2.result.now) b))) c.deref-in-States.ensures.value
@@ -224,7 +224,7 @@ read_part-read_node-requires t c = (omega (arith, c.decreases), (c.requires.ther
 pub read_part-returns-in-Some : goal.read_part-returns-in-Some
 read_part-returns-in-Some t c =
     let p : Placed = placed_at c.args.walk.nodes.now c.args.node in
-    let size : c.bytes.result ≡ size_of p = rw c.bytes.ensures (ap (λ l. l.size) c.read_layout.ensures) in
+    let size : c.bytes.result ≡ size_of p = rw c.bytes.ensures (ap (λ l. l.size) c.layout.ensures) in
     IfOk-weaker c.read_node.result _ _
     (λ found h. found_at c.args.walk.order p c.args.offset c.bytes.result c.args.bytes.now c.in-Some.part.now size c.in-Some.ensures.0 c.in-Some.ensures.1 found h)
     c.read_node.ensures
@@ -243,7 +243,7 @@ read_elements-read_part-requires t c = (omega (arith, c.decreases), (c.requires.
 pub read_elements-returns-in-None : goal.read_elements-returns-in-None
 read_elements-returns-in-None t c =
     let p : Placed = placed_at c.args.walk.nodes.now c.args.element in
-    let size : c.bytes-size.result ≡ size_of p = rw c.bytes-size.ensures (ap (λ l. l.size) c.read_layout.ensures) in
+    let size : c.bytes-size.result ≡ size_of p = rw c.bytes-size.ensures (ap (λ l. l.size) c.layout.ensures) in
     let found : Finds (λ v. IsAt (c.loop-i.i * size_of p) (size_of p) (λ s. Holds c.args.walk.order p s v) c.args.bytes.now) c.in_ok-value.field-0 =
     subst (λ n. Finds (λ v. IsAt (c.loop-i.i * n) (size_of p) (λ s. Holds c.args.walk.order p s v) c.args.bytes.now) c.in_ok-value.field-0) size c.in_ok-value.ensures in
     elements_stop (Holds c.args.walk.order p) (size_of p) c.args.bytes.now c.args.count c.loop-i.i c.loop-i-test.true c.loop-i.values.items c.loop-i.invariant
@@ -252,7 +252,7 @@ read_elements-returns-in-None t c =
 pub read_elements-loop-i-preserved : goal.read_elements-loop-i-preserved
 read_elements-loop-i-preserved t c =
     let p : Placed = placed_at c.args.walk.nodes.now c.args.element in
-    let size : c.bytes-size.result ≡ size_of p = rw c.bytes-size.ensures (ap (λ l. l.size) c.read_layout.ensures) in
+    let size : c.bytes-size.result ≡ size_of p = rw c.bytes-size.ensures (ap (λ l. l.size) c.layout.ensures) in
     let found : Finds (λ v. IsAt (c.loop-i.i * size_of p) (size_of p) (λ s. Holds c.args.walk.order p s v) c.args.bytes.now) c.in_ok-value.field-0 =
     subst (λ n. Finds (λ v. IsAt (c.loop-i.i * n) (size_of p) (λ s. Holds c.args.walk.order p s v) c.args.bytes.now) c.in_ok-value.field-0) size c.in_ok-value.ensures in
     elements_more (Holds c.args.walk.order p) (size_of p) c.args.bytes.now c.args.count c.loop-i.i c.loop-i-test.true c.loop-i.values.items c.loop-i.invariant
@@ -364,7 +364,7 @@ read_arm-returns t c = λ i vs h.
 
 pub read_named-read_arm-requires : goal.read_named-read_arm-requires
 read_named-read_arm-requires t c =
-    let width : c.read_layout.result.now.size ≤ 16 = subst (λ l. l.size ≤ 16) (sym c.read_layout.ensures) c.requires.width in
+    let width : c.layout.result.now.size ≤ 16 = subst (λ l. l.size ≤ 16) (sym c.layout.ensures) c.requires.width in
     (omega (arith, c.decreases), (c.requires.there, (c.requires.before, (width, c.requires.room))))
 
 pub read_named-returns-in-Some : goal.read_named-returns-in-Some
@@ -373,7 +373,7 @@ read_named-returns-in-Some t c =
     let tag : Placed = placed_at ns c.args.tag in
     let b : List ℕ = c.args.bytes.now in
     let arms : Arms = arms_in (types_in ns) c.args.variants.now in
-    let size : c.bytes.result ≡ size_of tag = rw c.bytes.ensures (ap (λ l. l.size) c.read_layout.ensures) in
+    let size : c.bytes.result ≡ size_of tag = rw c.bytes.ensures (ap (λ l. l.size) c.layout.ensures) in
     let found : IfOk c.read_arm.result (FindsNamed (λ i vs. Names c.args.encoding.now c.bytes.result arms c.number_in-number.result i × HoldArm c.args.walk.order arms i b vs)) =
     subst (λ w. IfOk c.read_arm.result (FindsNamed (λ i vs. Names c.args.encoding.now w arms c.number_in-number.result i × HoldArm c.args.walk.order arms i b vs))) (sym c.bytes.ensures) c.read_arm.ensures in
     IfOk-weaker c.read_arm.result _ _

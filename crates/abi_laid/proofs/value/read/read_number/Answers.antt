@@ -12,21 +12,21 @@ use Rattle.abi_laid.proofs.value.read.read_number.Goals as goal
 
 pub returns-then-bytes : goal.returns-then-bytes
 returns-then-bytes c =
-    let size = node_size c.args.walk.nodes.now c.args.node _ c.requires.there c.read_one-here.ensures in
+    let size = node_size c.args.walk.nodes.now c.args.node _ c.requires.there c.node-here.ensures in
     λ n. none_of_length c.args.walk.order (placed_at c.args.walk.nodes.now c.args.node) c.args.bytes.now (λ e. c.if-bytes.true (e ∙ size ∙ sym c.bytes.ensures)) (number n)
 
 pub scalar_number-requires : goal.scalar_number-requires
 scalar_number-requires c =
-    let narrow = narrow_at c.args.walk.nodes.now c.args.walk.well c.args.walk.widths c.args.node _ c.requires.there c.read_one-here.ensures c.in-Scalar.scalar c.in-Scalar.is in
+    let narrow = narrow_at c.args.walk.nodes.now c.args.walk.well c.args.walk.widths c.args.node _ c.requires.there c.node-here.ensures c.in-Scalar.scalar c.in-Scalar.is in
     subst (λ w. is_narrow w c.in-Scalar.scalar ≡ true) (sym (c.if-bytes.false ∙ c.bytes.ensures)) narrow
 
 pub returns-in-Scalar : goal.returns-in-Scalar
 returns-in-Scalar c =
-    let is = (placed_at-node c.args.walk.nodes.now c.args.walk.well c.args.node _ (OneScalar c.in-Scalar.scalar) c.requires.there c.read_one-here.ensures c.in-Scalar.is).1 in
+    let is = (placed_at-node c.args.walk.nodes.now c.args.walk.well c.args.node _ (OneScalar c.in-Scalar.scalar) c.requires.there c.node-here.ensures c.in-Scalar.is).1 in
     subst (λ p. FindsNumber (λ n. Holds c.args.walk.order p c.args.bytes.now (number n)) c.scalar_number.result) (sym is)
-    (found_scalar c.args.walk.order c.read_one-here.result.layout.now c.in-Scalar.scalar c.args.bytes.now c.scalar_number.result (c.if-bytes.false ∙ c.bytes.ensures) c.scalar_number.ensures)
+    (found_scalar c.args.walk.order c.node-here.result.layout.now c.in-Scalar.scalar c.args.bytes.now c.scalar_number.result (c.if-bytes.false ∙ c.bytes.ensures) c.scalar_number.ensures)
 
 pub returns-in_default : goal.returns-in_default
 returns-in_default c =
-    let is = (placed_at-node c.args.walk.nodes.now c.args.walk.well c.args.node _ _ c.requires.there c.read_one-here.ensures refl).1 in
+    let is = (placed_at-node c.args.walk.nodes.now c.args.walk.well c.args.node _ _ c.requires.there c.node-here.ensures refl).1 in
     λ n h. no_number c.args.walk.order _ _ _ c.in_default.not-Scalar c.args.bytes.now n (subst (λ p. Holds c.args.walk.order p c.args.bytes.now (number n)) is h)

@@ -30,18 +30,18 @@ use Rattle.abi_laid.proofs.value.write.+write.Goals as goal
 
 pub write_node-put_number-requires-clause-width : goal.write_node-put_number-requires-clause-width
 write_node-put_number-requires-clause-width t c =
-    let width = scalar_width_at c.args.walk.nodes.now c.args.walk.well c.args.walk.widths c.args.node _ c.requires.there c.read_one-here.ensures c.in-Scalar.field-0 c.in-Scalar.is in
+    let width = scalar_width_at c.args.walk.nodes.now c.args.walk.well c.args.walk.widths c.args.node _ c.requires.there c.node-here.ensures c.in-Scalar.field-0 c.in-Scalar.is in
     omega (arith, width.0, c.bytes-size.ensures)
 
 pub write_node-put_number-requires-clause-fits : goal.write_node-put_number-requires-clause-fits
 write_node-put_number-requires-clause-fits t c =
-    let size = node_size c.args.walk.nodes.now c.args.node _ c.requires.there c.read_one-here.ensures in
+    let size = node_size c.args.walk.nodes.now c.args.node _ c.requires.there c.node-here.ensures in
     omega (arith, size, c.bytes-size.ensures, c.requires.fits)
 
 pub write_node-returns-in-Scalar-clause-put : goal.write_node-returns-in-Scalar-clause-put
 write_node-returns-in-Scalar-clause-put t c = λ b all held.
-    let layout : Layout = c.read_one-here.result.layout.now in
-    let is = scalar_node c.args.walk.nodes.now c.args.walk.well c.args.node _ c.requires.there c.read_one-here.ensures c.requires.room c.in-Scalar.field-0 c.in-Scalar.is in
+    let layout : Layout = c.node-here.result.layout.now in
+    let is = scalar_node c.args.walk.nodes.now c.args.walk.well c.args.node _ c.requires.there c.node-here.ensures c.requires.room c.in-Scalar.field-0 c.in-Scalar.is in
     subst (λ p. IsPutOver (is_covered p (value_of c.args.value.now)) c.args.at b c.args.bytes.now c.put_number.new.bytes) (sym is)
     (put_scalar c.args.walk.order layout c.args.at b c.args.bytes.now c.put_number.new.bytes c.in-Scalar.field-0 (value_of c.args.value.now) c.number.result c.number.ensures
     (λ long value. subst (λ w. IsPutOver (λ k. nat_lt k w) c.args.at b c.args.bytes.now c.put_number.new.bytes) c.bytes-size.ensures (c.put_number.ensures.put b all (long ∙ sym c.bytes-size.ensures) value))
@@ -49,17 +49,17 @@ write_node-returns-in-Scalar-clause-put t c = λ b all held.
 
 pub write_node-write_fields-requires : goal.write_node-write_fields-requires
 write_node-write_fields-requires t c =
-    let size = node_size c.args.walk.nodes.now c.args.node _ c.requires.there c.read_one-here.ensures in
-    let facts = pair_node c.args.walk.nodes.now c.args.walk.well c.args.node _ c.requires.there c.read_one-here.ensures c.requires.room c.in-Pair.first c.in-Pair.second c.in-Pair.is in
+    let size = node_size c.args.walk.nodes.now c.args.node _ c.requires.there c.node-here.ensures in
+    let facts = pair_node c.args.walk.nodes.now c.args.walk.well c.args.node _ c.requires.there c.node-here.ensures c.requires.room c.in-Pair.first c.in-Pair.second c.in-Pair.is in
     (omega (arith, c.decreases), (c.requires.there, (facts.0, (facts.2, omega (arith, size, c.requires.fits)))))
 
 pub write_node-returns-in-Pair-clause-put : goal.write_node-returns-in-Pair-clause-put
 write_node-returns-in-Pair-clause-put t c =
     let ns = c.args.walk.nodes.now in
-    let layout : Layout = c.read_one-here.result.layout.now in
+    let layout : Layout = c.node-here.result.layout.now in
     let v : Value = value_of c.args.value.now in
     let children : List ℕ = c.in-Pair.first ∷ c.in-Pair.second ∷ [] in
-    let facts = pair_node ns c.args.walk.well c.args.node _ c.requires.there c.read_one-here.ensures c.requires.room c.in-Pair.first c.in-Pair.second c.in-Pair.is in
+    let facts = pair_node ns c.args.walk.well c.args.node _ c.requires.there c.node-here.ensures c.requires.room c.in-Pair.first c.in-Pair.second c.in-Pair.is in
     let parts : Parts = parts_at (listed_offsets layout.fields) (all_at ns children) in
     on_ok_weaker c.write_fields.result
     (λ put b all held.
@@ -70,15 +70,15 @@ write_node-returns-in-Pair-clause-put t c =
 
 pub write_node-returns-in-Never-clause-put : goal.write_node-returns-in-Never-clause-put
 write_node-returns-in-Never-clause-put t c = λ b all held.
-    let is = never_node c.args.walk.nodes.now c.args.walk.well c.args.node _ c.requires.there c.read_one-here.ensures c.requires.room c.in-Never.field-0 c.in-Never.is in
+    let is = never_node c.args.walk.nodes.now c.args.walk.well c.args.node _ c.requires.there c.node-here.ensures c.requires.room c.in-Never.field-0 c.in-Never.is in
     subst (λ p. IsPutOver (is_covered p (value_of c.args.value.now)) c.args.at b c.args.bytes.now c.args.bytes.now) (sym is)
-    (put_never c.args.walk.order c.read_one-here.result.layout.now c.args.at b c.args.bytes.now c.args.bytes.now c.in-Never.field-0 (value_of c.args.value.now)
+    (put_never c.args.walk.order c.node-here.result.layout.now c.args.at b c.args.bytes.now c.args.bytes.now c.in-Never.field-0 (value_of c.args.value.now)
     (subst (λ p. Holds c.args.walk.order p b (value_of c.args.value.now)) is held))
 
 pub write_node-write_elements-requires : goal.write_node-write_elements-requires
 write_node-write_elements-requires t c =
-    let size = node_size c.args.walk.nodes.now c.args.node _ c.requires.there c.read_one-here.ensures in
-    let facts = elements_node c.args.walk.nodes.now c.args.walk.well c.args.node _ c.requires.there c.read_one-here.ensures c.requires.room c.in-Elements.count c.in-Elements.element c.in-Elements.is in (
+    let size = node_size c.args.walk.nodes.now c.args.node _ c.requires.there c.node-here.ensures in
+    let facts = elements_node c.args.walk.nodes.now c.args.walk.well c.args.node _ c.requires.there c.node-here.ensures c.requires.room c.in-Elements.count c.in-Elements.element c.in-Elements.is in (
       omega (arith, facts.0, c.decreases),
       (omega (arith, facts.0, c.requires.there), (facts.3, omega (arith, size, facts.2, c.requires.fits))),
     )
@@ -87,28 +87,28 @@ pub write_node-returns-in-Elements-clause-put : goal.write_node-returns-in-Eleme
 write_node-returns-in-Elements-clause-put t c =
     let ns = c.args.walk.nodes.now in
     let v : Value = value_of c.args.value.now in
-    let facts = elements_node ns c.args.walk.well c.args.node _ c.requires.there c.read_one-here.ensures c.requires.room c.in-Elements.count c.in-Elements.element c.in-Elements.is in
+    let facts = elements_node ns c.args.walk.well c.args.node _ c.requires.there c.node-here.ensures c.requires.room c.in-Elements.count c.in-Elements.element c.in-Elements.is in
     on_ok_weaker c.write_elements.result
     (λ put b all held.
     subst (λ p. IsPutOver (is_covered p v) c.args.at b c.args.bytes.now c.write_elements.new.bytes) (sym facts.1)
-    (put_elements c.args.walk.order c.read_one-here.result.layout.now c.args.at b c.args.bytes.now c.write_elements.new.bytes c.in-Elements.count (placed_at ns c.in-Elements.element) v (values_of c.list.result.now)
+    (put_elements c.args.walk.order c.node-here.result.layout.now c.args.at b c.args.bytes.now c.write_elements.new.bytes c.in-Elements.count (placed_at ns c.in-Elements.element) v (values_of c.list.result.now)
     c.list.ensures (λ many. put many b all) (subst (λ p. Holds c.args.walk.order p b v) facts.1 held)))
     c.write_elements.ensures.put
 
 pub write_node-write_fields-requires-in-Fields : goal.write_node-write_fields-requires-in-Fields
 write_node-write_fields-requires-in-Fields t c =
-    let size = node_size c.args.walk.nodes.now c.args.node _ c.requires.there c.read_one-here.ensures in
-    let facts = fields_node c.args.walk.nodes.now c.args.walk.well c.args.node _ c.requires.there c.read_one-here.ensures c.requires.room c.in-Fields.field-0 c.in-Fields.children c.in-Fields.is in
+    let size = node_size c.args.walk.nodes.now c.args.node _ c.requires.there c.node-here.ensures in
+    let facts = fields_node c.args.walk.nodes.now c.args.walk.well c.args.node _ c.requires.there c.node-here.ensures c.requires.room c.in-Fields.field-0 c.in-Fields.children c.in-Fields.is in
     (omega (arith, c.decreases), (c.requires.there, (rw c.deref.ensures.value facts.0, (rw c.deref.ensures.value facts.2, omega (arith, size, c.requires.fits)))))
 
 pub write_node-returns-in-Fields-clause-put : goal.write_node-returns-in-Fields-clause-put
 write_node-returns-in-Fields-clause-put t c =
     let ns = c.args.walk.nodes.now in
-    let layout : Layout = c.read_one-here.result.layout.now in
+    let layout : Layout = c.node-here.result.layout.now in
     let v : Value = value_of c.args.value.now in
     let us : Values = values_of c.list-in-Fields.result.now in
     let new : List ℕ = c.write_fields-in-Fields.new.bytes in
-    let facts = fields_node ns c.args.walk.well c.args.node _ c.requires.there c.read_one-here.ensures c.requires.room c.in-Fields.field-0 c.in-Fields.children c.in-Fields.is in
+    let facts = fields_node ns c.args.walk.well c.args.node _ c.requires.there c.node-here.ensures c.requires.room c.in-Fields.field-0 c.in-Fields.children c.in-Fields.is in
     let parts : Parts = parts_at (listed_offsets layout.fields) (all_at ns c.in-Fields.children.items) in
     on_ok_weaker c.write_fields-in-Fields.result
     (λ put b all held.
@@ -123,11 +123,11 @@ write_node-write_union-requires-clause-fits t c = c.requires.fits
 pub write_node-returns-in-Union-clause-put : goal.write_node-returns-in-Union-clause-put
 write_node-returns-in-Union-clause-put t c =
     let ns = c.args.walk.nodes.now in
-    let layout : Layout = c.read_one-here.result.layout.now in
+    let layout : Layout = c.node-here.result.layout.now in
     let v : Value = value_of c.args.value.now in
     let new : List ℕ = c.write_union.new.bytes in
-    let size = node_size ns c.args.node _ c.requires.there c.read_one-here.ensures in
-    let facts = union_node ns c.args.walk.well c.args.node _ c.requires.there c.read_one-here.ensures c.requires.room c.in-Union.field-0 c.in-Union.field-1 c.in-Union.is in
+    let size = node_size ns c.args.node _ c.requires.there c.node-here.ensures in
+    let facts = union_node ns c.args.walk.well c.args.node _ c.requires.there c.node-here.ensures c.requires.room c.in-Union.field-0 c.in-Union.field-1 c.in-Union.is in
     let parts : Parts = parts_at_0 (all_at ns c.in-Union.field-1.items) in
     on_ok_weaker c.write_union.result
     (λ put b all held.
@@ -141,9 +141,9 @@ write_node-returns-in-Union-clause-put t c =
 
 pub write_node-write_node-requires : goal.write_node-write_node-requires
 write_node-write_node-requires t c =
-    let size = node_size c.args.walk.nodes.now c.args.node _ c.requires.there c.read_one-here.ensures in
-    let facts = vector_node c.args.walk.nodes.now c.args.walk.well c.args.node _ c.requires.there c.read_one-here.ensures c.requires.room c.in-Vector.lanes c.in-Vector.is in
-    let inside = vector_room c.args.walk.nodes.now c.args.node c.in-Vector.lanes c.read_one-here.result.layout.now facts.1 c.requires.room in (
+    let size = node_size c.args.walk.nodes.now c.args.node _ c.requires.there c.node-here.ensures in
+    let facts = vector_node c.args.walk.nodes.now c.args.walk.well c.args.node _ c.requires.there c.node-here.ensures c.requires.room c.in-Vector.lanes c.in-Vector.is in
+    let inside = vector_room c.args.walk.nodes.now c.args.node c.in-Vector.lanes c.node-here.result.layout.now facts.1 c.requires.room in (
       omega (arith, facts.0, c.decreases),
       (omega (arith, facts.0, c.requires.there), (facts.2, omega (arith, size, inside, c.requires.fits))),
     )
@@ -153,12 +153,12 @@ write_node-returns-in-Vector-clause-put t c =
     let ns = c.args.walk.nodes.now in
     let v : Value = value_of c.args.value.now in
     let lanes : Placed = placed_at ns c.in-Vector.lanes in
-    let facts = vector_node ns c.args.walk.well c.args.node _ c.requires.there c.read_one-here.ensures c.requires.room c.in-Vector.lanes c.in-Vector.is in
+    let facts = vector_node ns c.args.walk.well c.args.node _ c.requires.there c.node-here.ensures c.requires.room c.in-Vector.lanes c.in-Vector.is in
     let start : c.args.at ≡ c.args.at + 0 = omega arith in
     on_ok_weaker c.write_node.result
     (λ put b all held.
     subst (λ p. IsPutOver (is_covered p v) c.args.at b c.args.bytes.now c.write_node.new.bytes) (sym facts.1)
-    (put_vector c.args.walk.order c.read_one-here.result.layout.now c.args.at b c.args.bytes.now c.write_node.new.bytes lanes v
+    (put_vector c.args.walk.order c.node-here.result.layout.now c.args.at b c.args.bytes.now c.write_node.new.bytes lanes v
     (λ at. put_slice c.args.walk.order lanes v c.args.at 0 b c.args.bytes.now c.write_node.new.bytes all at
     (λ s each holds. subst (λ a. IsPutOver (is_covered lanes v) a s c.args.bytes.now c.write_node.new.bytes) start (put s each holds)))
     (subst (λ p. Holds c.args.walk.order p b v) facts.1 held)))
@@ -166,8 +166,8 @@ write_node-returns-in-Vector-clause-put t c =
 
 pub write_node-write_fields-requires-in-Single : goal.write_node-write_fields-requires-in-Single
 write_node-write_fields-requires-in-Single t c =
-    let size = node_size c.args.walk.nodes.now c.args.node _ c.requires.there c.read_one-here.ensures in
-    let facts = single_node c.args.walk.nodes.now c.args.walk.well c.args.node _ c.requires.there c.read_one-here.ensures c.requires.room c.in-Single.field-0 c.in-Single.children c.in-Single.is in (
+    let size = node_size c.args.walk.nodes.now c.args.node _ c.requires.there c.node-here.ensures in
+    let facts = single_node c.args.walk.nodes.now c.args.walk.well c.args.node _ c.requires.there c.node-here.ensures c.requires.room c.in-Single.field-0 c.in-Single.children c.in-Single.is in (
       omega (arith, c.decreases),
       (c.requires.there, (rw c.deref-in-Single.ensures.value facts.0, (rw c.deref-in-Single.ensures.value facts.2, omega (arith, size, c.requires.fits)))),
     )
@@ -175,11 +175,11 @@ write_node-write_fields-requires-in-Single t c =
 pub write_node-returns-in-Single-clause-put : goal.write_node-returns-in-Single-clause-put
 write_node-returns-in-Single-clause-put t c =
     let ns = c.args.walk.nodes.now in
-    let layout : Layout = c.read_one-here.result.layout.now in
+    let layout : Layout = c.node-here.result.layout.now in
     let v : Value = value_of c.args.value.now in
     let us : Values = values_of c.variant-index.result.1.now in
     let new : List ℕ = c.write_fields-in-Single.new.bytes in
-    let facts = single_node ns c.args.walk.well c.args.node _ c.requires.there c.read_one-here.ensures c.requires.room c.in-Single.field-0 c.in-Single.children c.in-Single.is in
+    let facts = single_node ns c.args.walk.well c.args.node _ c.requires.there c.node-here.ensures c.requires.room c.in-Single.field-0 c.in-Single.children c.in-Single.is in
     let parts : Parts = parts_at (listed_offsets layout.fields) (all_at ns c.in-Single.children.items) in
     on_ok_weaker c.write_fields-in-Single.result
     (λ put b all held.
@@ -192,9 +192,9 @@ write_node-returns-in-Single-clause-put t c =
 pub write_node-write_variant-requires : goal.write_node-write_variant-requires
 write_node-write_variant-requires t c =
     let ns = c.args.walk.nodes.now in
-    let size = node_size ns c.args.node _ c.requires.there c.read_one-here.ensures in
-    let facts = tagged_node ns c.args.walk.well c.args.node _ c.requires.there c.read_one-here.ensures c.requires.room c.in-Tagged.mark c.in-Tagged.tag c.in-Tagged.variants c.in-Tagged.is in
-    let width = tag_width_at ns c.args.walk.well c.args.walk.widths c.args.node _ c.requires.there c.read_one-here.ensures c.in-Tagged.mark c.in-Tagged.tag c.in-Tagged.variants c.in-Tagged.is in
+    let size = node_size ns c.args.node _ c.requires.there c.node-here.ensures in
+    let facts = tagged_node ns c.args.walk.well c.args.node _ c.requires.there c.node-here.ensures c.requires.room c.in-Tagged.mark c.in-Tagged.tag c.in-Tagged.variants c.in-Tagged.is in
+    let width = tag_width_at ns c.args.walk.well c.args.walk.widths c.args.node _ c.requires.there c.node-here.ensures c.in-Tagged.mark c.in-Tagged.tag c.in-Tagged.variants c.in-Tagged.is in
     let named = c.arms_of.ensures.tagged c.in-Tagged.mark c.in-Tagged.tag c.in-Tagged.variants c.in-Tagged.is in (
       omega (arith, c.decreases),
       (
@@ -212,10 +212,10 @@ write_node-write_variant-requires t c =
 pub write_node-returns-in-Tagged-clause-put : goal.write_node-returns-in-Tagged-clause-put
 write_node-returns-in-Tagged-clause-put t c =
     let ns = c.args.walk.nodes.now in
-    let layout : Layout = c.read_one-here.result.layout.now in
+    let layout : Layout = c.node-here.result.layout.now in
     let v : Value = value_of c.args.value.now in
     let new : List ℕ = c.write_variant.new.bytes in
-    let facts = tagged_node ns c.args.walk.well c.args.node _ c.requires.there c.read_one-here.ensures c.requires.room c.in-Tagged.mark c.in-Tagged.tag c.in-Tagged.variants c.in-Tagged.is in
+    let facts = tagged_node ns c.args.walk.well c.args.node _ c.requires.there c.node-here.ensures c.requires.room c.in-Tagged.mark c.in-Tagged.tag c.in-Tagged.variants c.in-Tagged.is in
     let named = c.arms_of.ensures.tagged c.in-Tagged.mark c.in-Tagged.tag c.in-Tagged.variants c.in-Tagged.is in
     let whole : ℕ → List (ℕ × ℕ) → Placed = λ tag vs. tagged layout c.in-Tagged.mark (tag_offset layout) (placed_at ns tag) (encoding_of layout.variants) (arms_in (types_in ns) vs) in
     let is : whole c.arms_of.result.tag c.arms_of.result.arms.now ≡ placed_at ns c.args.node =
@@ -228,10 +228,10 @@ write_node-returns-in-Tagged-clause-put t c =
 pub write_node-write_state-requires : goal.write_node-write_state-requires
 write_node-write_state-requires t c =
     let ns = c.args.walk.nodes.now in
-    let layout : Layout = c.read_one-here.result.layout.now in
-    let size = node_size ns c.args.node _ c.requires.there c.read_one-here.ensures in
-    let facts = states_node ns c.args.walk.well c.args.node _ c.requires.there c.read_one-here.ensures c.requires.room c.in-States.prefix c.in-States.tag c.in-States.states c.in-States.is in
-    let width = state_tag_width_at ns c.args.walk.well c.args.walk.widths c.args.node _ c.requires.there c.read_one-here.ensures c.in-States.prefix c.in-States.tag c.in-States.states c.in-States.is in
+    let layout : Layout = c.node-here.result.layout.now in
+    let size = node_size ns c.args.node _ c.requires.there c.node-here.ensures in
+    let facts = states_node ns c.args.walk.well c.args.node _ c.requires.there c.node-here.ensures c.requires.room c.in-States.prefix c.in-States.tag c.in-States.states c.in-States.is in
+    let width = state_tag_width_at ns c.args.walk.well c.args.walk.widths c.args.node _ c.requires.there c.node-here.ensures c.in-States.prefix c.in-States.tag c.in-States.states c.in-States.is in
     let named = c.arms_of-in-States.ensures.states c.in-States.prefix c.in-States.tag c.in-States.states c.in-States.is in (
       omega (arith, c.decreases),
       (
@@ -246,10 +246,10 @@ write_node-write_state-requires t c =
 pub write_node-returns-in-States-clause-put : goal.write_node-returns-in-States-clause-put
 write_node-returns-in-States-clause-put t c =
     let ns = c.args.walk.nodes.now in
-    let layout : Layout = c.read_one-here.result.layout.now in
+    let layout : Layout = c.node-here.result.layout.now in
     let v : Value = value_of c.args.value.now in
     let new : List ℕ = c.write_state.new.bytes in
-    let facts = states_node ns c.args.walk.well c.args.node _ c.requires.there c.read_one-here.ensures c.requires.room c.in-States.prefix c.in-States.tag c.in-States.states c.in-States.is in
+    let facts = states_node ns c.args.walk.well c.args.node _ c.requires.there c.node-here.ensures c.requires.room c.in-States.prefix c.in-States.tag c.in-States.states c.in-States.is in
     let named = c.arms_of-in-States.ensures.states c.in-States.prefix c.in-States.tag c.in-States.states c.in-States.is in
     let beside = c.arms_of-in-States.result in
     let whole : List ℕ → ℕ → List (ℕ × ℕ) → Placed = λ ps tag vs. states_in (types_in ns) layout ps tag vs in
@@ -272,7 +272,7 @@ pub write_elements-loop-i-preserved : goal.write_elements-loop-i-preserved
 write_elements-loop-i-preserved t c =
     let p : Placed = placed_at c.args.walk.nodes.now c.args.element in
     let i : ℕ = c.loop-i.i in
-    let size : c.bytes-size.result ≡ size_of p = rw c.bytes-size.ensures (ap (λ l. l.size) c.read_layout.ensures) in
+    let size : c.bytes-size.result ≡ size_of p = rw c.bytes-size.ensures (ap (λ l. l.size) c.layout.ensures) in
     let there : i < length c.args.values.now = omega (arith, c.loop-i-test.true, c.min-i-end.ensures) in
     record {
       long = c.in_ok-write_node.ensures.long ∙ c.loop-i.invariant.long;
@@ -474,7 +474,7 @@ write_arm-returns-clause-put t c =
     let old : List ℕ = c.args.bytes.now in
     let mid : List ℕ = c.write_tag.new.bytes in
     let new : List ℕ = c.write_own.new.bytes in
-    let width : c.read_layout.result.now.size ≡ size_of tag = ap (λ l. l.size) c.read_layout.ensures in
+    let width : c.layout.result.now.size ≡ size_of tag = ap (λ l. l.size) c.layout.ensures in
     on_ok_weaker c.write_own.result
     (λ put b all held.
     let at = from_arm c.args.walk.order done b vs i (0, 0) us held.2 in

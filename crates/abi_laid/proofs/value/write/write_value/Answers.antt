@@ -54,7 +54,7 @@ returns-else-branch-clause-not_a_value c = λ is dl tree keeps value.
     let new : List ℕ = c.write_node.new.bytes in
     let long : length new ≡ c.in_ok-bytes.bytes.len = c.in_ok-write_node.ensures.long ∙ c.deref_mut.ensures.len in
     let final : c.deref.result.now ≡ new = c.deref.ensures.value ∙ take_at new (drop (length new) c.in_ok-bytes.bytes.items) c.in_ok-bytes.bytes.len long in
-    let size : c.bytes-size.result ≡ size_of p = rw c.bytes-size.ensures (ap (λ l. l.size) c.read_layout.ensures) in
+    let size : c.bytes-size.result ≡ size_of p = rw c.bytes-size.ensures (ap (λ l. l.size) c.layout.ensures) in
     let whole : length new ≡ size_of (placed_of laid) = long ∙ c.in_ok-bytes.ensures.len ∙ size ∙ ap size_of root in
     let refused : ((u w : Value) → Holds o p c.deref.result.now u → Holds o p c.deref.result.now w → u ≡ w) → Holds o p c.deref.result.now v → ⊥ =
     rw c.if-branch.false at c.in_ok-holds.ensures.held in

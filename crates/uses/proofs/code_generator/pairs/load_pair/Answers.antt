@@ -62,7 +62,7 @@ returns-clause-first c =
     let view : (layout_of (placed_of c.in_ok-laid.laid)).backend_repr ≡ ScalarPair c.in-ScalarPair.a c.in-ScalarPair.b c.in-ScalarPair.b_offset = sym (ap (λ (l : Layout). l.backend_repr) c.layout.ensures) ∙ c.in-ScalarPair.is in
     subst (λ s. IsNumberAt c.args.dl.now c.args.bytes.now 0 s c.load_at-first.result.number) (sym c.load_at-first.ensures.scalar)
     (first_number c.args.dl.now c.in_ok-laid.laid c.args.bytes.now c.in-ScalarPair.a c.in-ScalarPair.b c.in-ScalarPair.b_offset held.0 view c.in_ok-laid.ensures.layout held.1
-    c.in_ok-laid.ensures.order (c.in_ok-laid.ensures.view c.requires.locals) c.load_at-first.result.number c.load_at-first.ensures.number c.load_at-first.ensures.bound)
+    c.in_ok-laid.ensures.order (c.in_ok-laid.ensures.faithful c.requires.locals).view c.load_at-first.result.number c.load_at-first.ensures.number c.load_at-first.ensures.bound)
 
 pub returns-clause-second : goal.returns-clause-second
 returns-clause-second c =
@@ -70,7 +70,7 @@ returns-clause-second c =
     let view : (layout_of (placed_of c.in_ok-laid.laid)).backend_repr ≡ ScalarPair c.in-ScalarPair.a c.in-ScalarPair.b c.in-ScalarPair.b_offset = sym (ap (λ (l : Layout). l.backend_repr) c.layout.ensures) ∙ c.in-ScalarPair.is in
     subst (λ s. IsNumberAt c.args.dl.now c.args.bytes.now c.in-ScalarPair.b_offset s c.load_at-second.result.number) (sym c.load_at-second.ensures.scalar)
     (second_number c.args.dl.now c.in_ok-laid.laid c.args.bytes.now c.in-ScalarPair.a c.in-ScalarPair.b c.in-ScalarPair.b_offset held.0 view c.in_ok-laid.ensures.layout held.1
-    c.in_ok-laid.ensures.order (c.in_ok-laid.ensures.view c.requires.locals) c.load_at-second.result.number c.load_at-second.ensures.number c.load_at-second.ensures.bound)
+    c.in_ok-laid.ensures.order (c.in_ok-laid.ensures.faithful c.requires.locals).view c.load_at-second.result.number c.load_at-second.ensures.number c.load_at-second.ensures.bound)
 
 pub returns-clause-laid : goal.returns-clause-laid
 returns-clause-laid c = (c.in_ok-laid.ensures.lawful, placed_of c.in_ok-laid.laid, c.in_ok-laid.ensures.laid)
