@@ -21,6 +21,7 @@ pub mod Sizes
 pub mod Sources
 pub mod Standing
 pub mod Tails
+pub mod Targets
 pub mod Told
 pub mod Trees
 pub mod Types

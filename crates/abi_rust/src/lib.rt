@@ -48,5 +48,5 @@ mod tree;
 
 pub use fault::{Fault, FaultKind, FaultPlace};
 pub use sources::Sources;
-pub use targets::{TARGETS, Target, target_named};
+pub use targets::{Target, data_layout_of, target_named};
 pub use told::{Label, Shape, Told, VariantLabels};

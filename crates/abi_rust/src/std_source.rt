@@ -208,77 +208,109 @@ pub mod hash {
     pub struct DefaultHasher(Hasher);
 }
 pub mod sync {
+    #[cfg(any(unix, windows, target_family = "wasm"))]
     pub use crate::sync::poison::{Mutex, MutexGuard, RwLock, RwLockReadGuard, RwLockWriteGuard, Condvar, Once, PoisonError, TryLockError};
     use crate::{cell::UnsafeCell, marker::PhantomData, mem::{ManuallyDrop, MaybeUninit}, ptr::NonNull};
+    #[cfg(target_has_atomic = "ptr")]
     #[repr(C)]
     struct ArcInner<T: ?Sized> { strong: atomic::AtomicUsize, weak: atomic::AtomicUsize, data: T }
+    #[cfg(target_has_atomic = "ptr")]
     pub struct Arc<T: ?Sized, A = crate::alloc::Global> { ptr: NonNull<ArcInner<T>>, phantom: PhantomData<ArcInner<T>>, alloc: A }
+    #[cfg(target_has_atomic = "ptr")]
     pub struct Weak<T: ?Sized, A = crate::alloc::Global> { ptr: NonNull<ArcInner<T>>, alloc: A }
+    #[cfg(any(unix, windows, target_family = "wasm"))]
     pub struct OnceLock<T> { once: Once, value: UnsafeCell<MaybeUninit<T>>, _marker: PhantomData<T> }
     union LazyData<T, F> { value: ManuallyDrop<T>, f: ManuallyDrop<F> }
+    #[cfg(any(unix, windows, target_family = "wasm"))]
     pub struct LazyLock<T, F = fn() -> T> { once: Once, data: UnsafeCell<LazyData<T, F>> }
+    #[cfg(any(unix, windows, target_family = "wasm"))]
     pub mod poison {
-        use crate::{cell::UnsafeCell, sync::atomic::{AtomicBool, AtomicPtr, AtomicU32, AtomicU8, AtomicUsize}};
+        use crate::{cell::{Cell, UnsafeCell}, sync::atomic::{AtomicBool, AtomicPtr, AtomicU32, AtomicU8, AtomicUsize}};
+        #[cfg(target_os = "linux")]
+        type Lock = AtomicU32;
         #[cfg(windows)]
-        type Small = AtomicU8;
-        #[cfg(any(target_os = "macos", target_os = "ios", target_os = "tvos", target_os = "watchos", target_os = "visionos", target_os = "aix"))]
-        type Small = AtomicPtr<()>;
-        #[cfg(target_os = "none")]
-        type Small = crate::cell::Cell<bool>;
-        #[cfg(not(any(windows, target_os = "none", target_os = "macos", target_os = "ios", target_os = "tvos",
-            target_os = "watchos", target_os = "visionos", target_os = "aix")))]
-        type Small = AtomicU32;
-        #[cfg(any(target_os = "macos", target_os = "ios", target_os = "tvos", target_os = "watchos", target_os = "visionos", target_os = "aix"))]
-        struct Shared { state: AtomicPtr<()> }
-        #[cfg(not(any(target_os = "macos", target_os = "ios", target_os = "tvos", target_os = "watchos", target_os = "visionos", target_os = "aix")))]
+        type Lock = AtomicU8;
+        #[cfg(any(target_os = "linux", windows))]
         struct Shared { state: AtomicU32, writer_notify: AtomicU32 }
-        #[cfg(any(target_os = "macos", target_os = "ios", target_os = "tvos", target_os = "watchos", target_os = "visionos", target_os = "aix"))]
-        type OnceState = AtomicPtr<()>;
-        #[cfg(not(any(target_os = "macos", target_os = "ios", target_os = "tvos", target_os = "watchos", target_os = "visionos", target_os = "aix")))]
-        type OnceState = AtomicU32;
+        #[cfg(any(target_os = "linux", windows))]
+        pub struct Condvar { futex: AtomicU32 }
+        #[cfg(any(target_os = "linux", windows))]
+        pub struct Once { state_and_queued: AtomicU32 }
+        #[cfg(all(unix, not(target_os = "linux")))]
+        type Lock = AtomicPtr<()>;
+        #[cfg(all(unix, not(target_os = "linux")))]
+        struct Shared { state: AtomicPtr<()> }
+        #[cfg(all(unix, not(target_os = "linux")))]
+        pub struct Condvar { cvar: AtomicPtr<()>, mutex: AtomicUsize }
+        #[cfg(all(unix, not(target_os = "linux")))]
+        pub struct Once { state_and_queue: AtomicPtr<()> }
+        #[cfg(target_family = "wasm")]
+        type Lock = Cell<bool>;
+        #[cfg(target_family = "wasm")]
+        struct Shared { mode: Cell<isize> }
+        #[cfg(target_family = "wasm")]
+        pub struct Condvar {}
+        #[cfg(target_family = "wasm")]
+        pub struct Once { state: Cell<u8> }
+        #[cfg(panic = "unwind")]
         struct Flag { failed: AtomicBool }
+        #[cfg(panic = "unwind")]
         struct Guard { panicking: bool }
-        pub struct Mutex<T: ?Sized> { inner: Small, poison: Flag, data: UnsafeCell<T> }
+        #[cfg(panic = "abort")]
+        struct Flag {}
+        #[cfg(panic = "abort")]
+        struct Guard {}
+        pub struct Mutex<T: ?Sized> { inner: Lock, poison: Flag, data: UnsafeCell<T> }
         pub struct MutexGuard<'a, T: ?Sized> { lock: &'a Mutex<T>, poison: Guard }
         pub struct RwLock<T: ?Sized> { inner: Shared, poison: Flag, data: UnsafeCell<T> }
         pub struct RwLockReadGuard<'a, T: ?Sized> { data: crate::ptr::NonNull<T>, inner_lock: &'a Shared }
         pub struct RwLockWriteGuard<'a, T: ?Sized> { lock: &'a RwLock<T>, poison: Guard }
-        pub struct Condvar { inner: Small }
-        pub struct Once { inner: OnceState }
         pub struct PoisonError<T> { data: T }
         pub enum TryLockError<T> { Poisoned(PoisonError<T>), WouldBlock }
     }
     pub mod atomic {
         use crate::cell::UnsafeCell;
         pub enum Ordering { Relaxed, Release, Acquire, AcqRel, SeqCst }
+        #[cfg(any(target_has_atomic = "8", target_arch = "arm", target_arch = "avr"))]
         #[repr(C, align(1))]
         pub struct AtomicBool { v: UnsafeCell<u8> }
+        #[cfg(any(target_has_atomic = "ptr", target_arch = "arm", target_arch = "avr", target_arch = "bpf"))]
         #[cfg_attr(target_pointer_width = "16", repr(C, align(2)))]
         #[cfg_attr(target_pointer_width = "32", repr(C, align(4)))]
         #[cfg_attr(target_pointer_width = "64", repr(C, align(8)))]
         pub struct AtomicPtr<T> { p: UnsafeCell<*mut T> }
+        #[cfg(any(target_has_atomic = "ptr", target_arch = "arm", target_arch = "avr", target_arch = "bpf"))]
         #[cfg_attr(target_pointer_width = "16", repr(C, align(2)))]
         #[cfg_attr(target_pointer_width = "32", repr(C, align(4)))]
         #[cfg_attr(target_pointer_width = "64", repr(C, align(8)))]
         pub struct AtomicUsize { v: UnsafeCell<usize> }
+        #[cfg(any(target_has_atomic = "ptr", target_arch = "arm", target_arch = "avr", target_arch = "bpf"))]
         #[cfg_attr(target_pointer_width = "16", repr(C, align(2)))]
         #[cfg_attr(target_pointer_width = "32", repr(C, align(4)))]
         #[cfg_attr(target_pointer_width = "64", repr(C, align(8)))]
         pub struct AtomicIsize { v: UnsafeCell<isize> }
+        #[cfg(any(target_has_atomic = "8", target_arch = "arm", target_arch = "avr"))]
         #[repr(C, align(1))]
         pub struct AtomicI8 { v: UnsafeCell<i8> }
+        #[cfg(any(target_has_atomic = "16", target_arch = "arm", target_arch = "avr"))]
         #[repr(C, align(2))]
         pub struct AtomicI16 { v: UnsafeCell<i16> }
+        #[cfg(any(target_has_atomic = "32", target_arch = "arm"))]
         #[repr(C, align(4))]
         pub struct AtomicI32 { v: UnsafeCell<i32> }
+        #[cfg(any(target_has_atomic = "64", target_arch = "bpf"))]
         #[repr(C, align(8))]
         pub struct AtomicI64 { v: UnsafeCell<i64> }
+        #[cfg(any(target_has_atomic = "8", target_arch = "arm", target_arch = "avr"))]
         #[repr(C, align(1))]
         pub struct AtomicU8 { v: UnsafeCell<u8> }
+        #[cfg(any(target_has_atomic = "16", target_arch = "arm", target_arch = "avr"))]
         #[repr(C, align(2))]
         pub struct AtomicU16 { v: UnsafeCell<u16> }
+        #[cfg(any(target_has_atomic = "32", target_arch = "arm"))]
         #[repr(C, align(4))]
         pub struct AtomicU32 { v: UnsafeCell<u32> }
+        #[cfg(any(target_has_atomic = "64", target_arch = "bpf"))]
         #[repr(C, align(8))]
         pub struct AtomicU64 { v: UnsafeCell<u64> }
     }
@@ -294,13 +326,16 @@ pub mod sync {
         pub enum TrySendError<T> { Full(T), Disconnected(T) }
     }
 }
+#[cfg(any(unix, windows, target_family = "wasm"))]
 pub mod thread {
     pub struct ThreadId(crate::num::NonZero<u64>);
     pub struct Thread { inner: crate::pin::Pin<crate::sync::Arc<u8>> }
     #[cfg(unix)]
     struct Native { id: usize }
-    #[cfg(not(unix))]
-    struct Native { handle: crate::ptr::NonNull<u8> }
+    #[cfg(windows)]
+    struct Native { handle: *mut crate::ffi::c_void }
+    #[cfg(target_family = "wasm")]
+    struct Native(crate::convert::Infallible);
     pub struct JoinHandle<T> { native: Native, thread: Thread, packet: crate::sync::Arc<T> }
     pub struct AccessError;
 }
@@ -323,7 +358,7 @@ pub mod time {
     struct Timespec { tv_sec: i64, tv_nsec: Nanoseconds }
     #[cfg(unix)]
     pub struct Instant(Timespec);
-    #[cfg(not(unix))]
+    #[cfg(any(windows, target_family = "wasm"))]
     pub struct Instant(Duration);
     #[cfg(unix)]
     pub struct SystemTime(Timespec);
@@ -331,7 +366,7 @@ pub mod time {
     struct FileTime { low: u32, high: u32 }
     #[cfg(windows)]
     pub struct SystemTime(FileTime);
-    #[cfg(not(any(unix, windows)))]
+    #[cfg(target_family = "wasm")]
     pub struct SystemTime(Duration);
     pub struct SystemTimeError(Duration);
 }
@@ -400,7 +435,38 @@ pub mod os {
     }
     pub mod unix { pub mod io { pub use crate::os::fd::*; } }
 }
-#[cfg(not(unix))]
+#[cfg(windows)]
+pub mod os {
+    pub mod raw { pub use crate::ffi::{c_char, c_schar, c_uchar, c_short, c_ushort, c_int, c_uint, c_long, c_ulong,
+        c_longlong, c_ulonglong, c_float, c_double, c_void}; }
+    pub mod windows {
+        pub mod raw {
+            pub type HANDLE = *mut crate::ffi::c_void;
+            #[cfg(target_pointer_width = "64")]
+            pub type SOCKET = u64;
+            #[cfg(target_pointer_width = "32")]
+            pub type SOCKET = u32;
+        }
+        pub mod io {
+            use super::raw;
+            pub type RawHandle = raw::HANDLE;
+            pub type RawSocket = raw::SOCKET;
+            #[cfg(target_pointer_width = "64")]
+            #[rustc_layout_scalar_valid_range(0, 0xffff_ffff_ffff_fffe)]
+            struct ValidRawSocket(RawSocket);
+            #[cfg(target_pointer_width = "32")]
+            #[rustc_layout_scalar_valid_range(0, 0xffff_fffe)]
+            struct ValidRawSocket(RawSocket);
+            pub struct OwnedHandle { handle: RawHandle }
+            pub struct BorrowedHandle<'handle> { handle: RawHandle, _phantom: crate::marker::PhantomData<&'handle OwnedHandle> }
+            pub struct HandleOrNull(RawHandle);
+            pub struct HandleOrInvalid(RawHandle);
+            pub struct OwnedSocket { socket: ValidRawSocket }
+            pub struct BorrowedSocket<'socket> { socket: ValidRawSocket, _phantom: crate::marker::PhantomData<&'socket OwnedSocket> }
+        }
+    }
+}
+#[cfg(not(any(unix, windows)))]
 pub mod os {
     pub mod raw { pub use crate::ffi::{c_char, c_schar, c_uchar, c_short, c_ushort, c_int, c_uint, c_long, c_ulong,
         c_longlong, c_ulonglong, c_float, c_double, c_void}; }
@@ -409,8 +475,15 @@ pub mod fs {
     #[cfg(unix)]
     pub struct File { inner: crate::os::fd::OwnedFd }
     #[cfg(windows)]
-    pub struct File { inner: crate::num::NonZero<usize> }
+    pub struct File { inner: crate::os::windows::io::OwnedHandle }
+    #[cfg(target_family = "wasm")]
+    pub struct File(crate::convert::Infallible);
+    #[cfg(target_os = "macos")]
+    pub struct Permissions { mode: u16 }
+    #[cfg(any(all(unix, not(target_os = "macos")), windows))]
     pub struct Permissions { mode: u32 }
+    #[cfg(target_family = "wasm")]
+    pub struct Permissions(crate::convert::Infallible);
 }
 pub mod net {
     pub struct Ipv4Addr { octets: [u8; 4] }
@@ -423,11 +496,17 @@ pub mod net {
     pub struct AddrParseError(AddrKind);
     enum AddrKind { Ip, Ipv4, Ipv6, Socket, SocketV4, SocketV6 }
     #[cfg(unix)]
-    pub struct TcpStream(crate::os::fd::OwnedFd);
-    #[cfg(unix)]
-    pub struct TcpListener(crate::os::fd::OwnedFd);
-    #[cfg(unix)]
-    pub struct UdpSocket(crate::os::fd::OwnedFd);
+    type Inner = crate::os::fd::OwnedFd;
+    #[cfg(windows)]
+    type Inner = crate::os::windows::io::OwnedSocket;
+    #[cfg(target_family = "wasm")]
+    type Inner = crate::convert::Infallible;
+    #[cfg(any(unix, windows, target_family = "wasm"))]
+    pub struct TcpStream(Inner);
+    #[cfg(any(unix, windows, target_family = "wasm"))]
+    pub struct TcpListener(Inner);
+    #[cfg(any(unix, windows, target_family = "wasm"))]
+    pub struct UdpSocket(Inner);
 }
 pub mod char {
     pub const MAX: char = '\u{10ffff}';

@@ -18,11 +18,11 @@ module _ (n i : ℕ) where
   pub hashes_done : (c : Cursor) → n ≤ i → hashes_from (n - i) c ≡ c
   hashes_done c past = ap (λ k. hashes_from k c) (none_left n i past)
 
-  pub parameters_more : (all : List ParameterRead) (c : Cursor) (names : Known) → i < n → parameters_from (n - i) all c names ≡ (if is_next c 62 then done (all, passed c 1) names else read_on (λ (p : List ParameterRead × Cursor) ns. arguments_on (parameters_from (n - (i + 1))) p.0 p.1 ns) (parameter_more all c names))
-  parameters_more all c names more = ap (λ k. parameters_from k all c names) (turns n i more)
+  pub another : (all : List ParameterRead) (c : Cursor) (names : Known) → i < n → parameters_from (n - i) all c names ≡ (if is_next c 62 then done (all, passed c 1) names else read_on (λ (p : List ParameterRead × Cursor) ns. arguments_on (parameters_from (n - (i + 1))) p.0 p.1 ns) (parameter_more all c names))
+  another all c names more = ap (λ k. parameters_from k all c names) (turns n i more)
 
-  pub parameters_done : (all : List ParameterRead) (c : Cursor) (names : Known) → n ≤ i → parameters_from (n - i) all c names ≡ fault_next ExpectedAngle c names
-  parameters_done all c names past = ap (λ k. parameters_from k all c names) (none_left n i past)
+  pub none_more : (all : List ParameterRead) (c : Cursor) (names : Known) → n ≤ i → parameters_from (n - i) all c names ≡ fault_next ExpectedAngle c names
+  none_more all c names past = ap (λ k. parameters_from k all c names) (none_left n i past)
 
   pub where_more : (all : List ParameterRead) (c : Cursor) (names : Known) → i < n → where_from (n - i) all c names ≡ read_on (λ (p : List ParameterRead × Cursor) ns. where_on (where_from (n - (i + 1))) p.0 p.1 ns) (where_one all c names)
   where_more all c names more = ap (λ k. where_from k all c names) (turns n i more)

@@ -60,11 +60,11 @@ module _ (rules : Rules) where
     pub expanded_done : (room : ℕ) (said : Attributes) (c : Cursor) (known : Noted) → n ≤ i → expanded_from rules (attribute_read rules room) (n - i) said c known ≡ done said known
     expanded_done room said c known past = ap (λ k. expanded_from rules (attribute_read rules room) k said c known) (none_left n i past)
 
-    pub attributes_more : (said : Attributes) (c : Cursor) (known : Noted) → i < n → attributes_from rules (n - i) said c known ≡ (if is_next c 35 then read_on (λ (s : Attributes × Cursor) ns. attributes_from rules (n - (i + 1)) s.0 s.1 ns) (one_attribute rules said (passed c 1) known) else done (said, c) known)
-    attributes_more said c known more = ap (λ k. attributes_from rules k said c known) (turns n i more)
+    pub said_more : (said : Attributes) (c : Cursor) (known : Noted) → i < n → attributes_from rules (n - i) said c known ≡ (if is_next c 35 then read_on (λ (s : Attributes × Cursor) ns. attributes_from rules (n - (i + 1)) s.0 s.1 ns) (one_attribute rules said (passed c 1) known) else done (said, c) known)
+    said_more said c known more = ap (λ k. attributes_from rules k said c known) (turns n i more)
 
-    pub attributes_done : (said : Attributes) (c : Cursor) (known : Noted) → n ≤ i → attributes_from rules (n - i) said c known ≡ done (said, c) known
-    attributes_done said c known past = ap (λ k. attributes_from rules k said c known) (none_left n i past)
+    pub said_done : (said : Attributes) (c : Cursor) (known : Noted) → n ≤ i → attributes_from rules (n - i) said c known ≡ done (said, c) known
+    said_done said c known past = ap (λ k. attributes_from rules k said c known) (none_left n i past)
 
     pub fields_more : (is_tuple : Bool) (all : List FieldRead) (c : Cursor) (known : Noted) → i < n → fields_from rules is_tuple (n - i) all c known ≡ (if is_done c then done all known else read_on (λ (f : List FieldRead × Cursor) ns. fields_from rules is_tuple (n - (i + 1)) f.0 f.1 ns) (field_more rules is_tuple all c known))
     fields_more is_tuple all c known more = ap (λ k. fields_from rules is_tuple k all c known) (turns n i more)

@@ -1,5 +1,6 @@
 mod Digits
 mod Facts
+mod FunctionTurns
 mod GenericTurns
 mod Growth
 mod ItemFacts

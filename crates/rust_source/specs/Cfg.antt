@@ -1,23 +1,24 @@
 -- Predicates of `cfg`: which of them hold of a target, and the names that aren't known here.
-use Rattle.std.specs.Prelude.{ℕ, zero, suc, ◌+◌, ◌-◌, ◌^◌, ◌==◌, ◌&&◌, ◌||◌, Bool, true, false, not, codes, List, [], ◌∷◌, ◌++◌, length, min, nat_lt, Option, None, Some, Result, Ok, Err, if◌then◌else◌}
+use Rattle.std.specs.Prelude.{ℕ, zero, suc, ◌+◌, ◌-◌, ◌^◌, ◌==◌, ◌&&◌, ◌||◌, Bool, true, false, not, codes, List, [], ◌∷◌, ◌++◌, drop, length, min, nat_le, nat_lt, take, Option, None, Some, Result, Ok, Err, if◌then◌else◌}
+use Rattle.std.specs.Borrow.{Bor}
 use Rattle.std.specs.List.{list_any}
-use Rattle.std.specs.Option.{unwrap_or}
 use Rattle.std.specs.Str.{bytes_eq}
 use Rattle.rust_source.specs.declared.fault.SourceFault.{SourceFault}
 use Rattle.rust_source.specs.declared.fault.SourceFaultKind.TheVariants.{BadCfg, TooDeep}
 use Rattle.rust_source.specs.declared.place.Symbol.{Symbol}
 use Rattle.rust_source.specs.declared.reader.cursor.Cursor.{Cursor}
-use Rattle.rust_source.specs.declared.reader.literals.Number.{Number}
-use Rattle.rust_source.specs.declared.reader.literals.Number.TheVariants as number
 use Rattle.rust_source.specs.declared.target.CfgTarget.{CfgTarget}
 use Rattle.rust_source.specs.declared.target.Family.{Family}
 use Rattle.rust_source.specs.declared.target.Family.TheVariants as family
+use Rattle.rust_source.specs.declared.tokens.runs.Run.TheVariants as run
 use Rattle.rust_source.specs.declared.tokens.token.Bracket.TheVariants as bracket
 use Rattle.rust_source.specs.declared.tokens.token.Token.{Token}
 use Rattle.rust_source.specs.declared.tokens.token.TokenKind.{TokenKind}
 use Rattle.rust_source.specs.declared.tokens.token.TokenKind.TheVariants as kind
+use Rattle.rust_source.specs.Blanks.{run_length}
+use Rattle.rust_source.specs.Characters.{byte_at}
 use Rattle.rust_source.specs.Cursor.{behind_group, comma_passed, fault, inside, is_done, is_next, nth, passed, token_text}
-use Rattle.rust_source.specs.Literals.{number_written, bytes_between}
+use Rattle.rust_source.specs.Literals.{bytes_between}
 use Rattle.rust_source.specs.Names.{added, number_of_name as name_number}
 use Rattle.rust_source.specs.Reading.{read_on, read_as, word_text}
 use Rattle.rust_source.specs.Terms.{Known, done, fault_next}
@@ -49,32 +50,29 @@ family_name family.Windows = codes "windows"
 family_name family.Wasm = codes "wasm"
 family_name family.Neither = []
 
--- the number, without a suffix, is the one that the target has
-abbrev pub is_target_number : (wanted : ℕ) → Number → Bool
-is_target_number wanted (number.Integer n None) = n == wanted
-is_target_number wanted _ = false
+-- a value is one of these texts
+abbrev pub is_one_text : List (Bor (List ℕ)) → (value : List ℕ) → Bool
+is_one_text [] value = false
+is_one_text (t ∷ ts) value = bytes_eq value t.now || is_one_text ts value
 
--- a text is this number, without a suffix
-abbrev pub is_number : (text : List ℕ) → (wanted : ℕ) → Bool
-is_number text wanted = is_target_number wanted (number_written text)
-
--- a width of integers that the atomic types have
-unfoldable pub is_atomic_width : (text : List ℕ) → Bool
-is_atomic_width text =
-    bytes_eq text (codes "8") || bytes_eq text (codes "16") || bytes_eq text (codes "32") || bytes_eq text (codes "64")
-    || bytes_eq text (codes "ptr")
+-- whether the target has this value under this name, of which it has several; none where the name isn't known
+unfoldable pub listed_value : CfgTarget → (name value : List ℕ) → Option Bool
+listed_value t name value =
+    if bytes_eq name (codes "target_has_atomic") then Some (is_one_text t.atomics.now value)
+    else (if bytes_eq name (codes "target_feature") then Some (is_one_text t.features.now value) else None)
 
 -- whether the target has this value under this name, which is none of those below; none where the name isn't known
 unfoldable pub other_value : CfgTarget → (name value : List ℕ) → Option Bool
 other_value t name value =
-    if bytes_eq name (codes "target_family") then Some (not (length value == 0) && bytes_eq value (family_name t.family))
-    else (if bytes_eq name (codes "panic") then Some (bytes_eq value (codes "unwind"))
-    else (if bytes_eq name (codes "target_has_atomic") then Some (is_atomic_width value) else None))
+    if bytes_eq name (codes "target_abi") then Some (bytes_eq value t.abi.now)
+    else (if bytes_eq name (codes "target_vendor") then Some (bytes_eq value t.vendor.now)
+    else (if bytes_eq name (codes "target_family") then Some (not (length value == 0) && bytes_eq value (family_name t.family))
+    else (if bytes_eq name (codes "panic") then Some (bytes_eq value t.panic.now) else listed_value t name value)))
 
 -- whether the target has this value under this name; none where the name isn't known
 unfoldable pub has_value : CfgTarget → (name value : List ℕ) → Option Bool
 has_value t name value =
-    if bytes_eq name (codes "target_pointer_width") then Some (is_number value t.pointer_width)
+    if bytes_eq name (codes "target_pointer_width") then Some (bytes_eq value t.pointer_width.now)
     else (if bytes_eq name (codes "target_endian") then Some (bytes_eq value (if t.is_big_endian then codes "big" else codes "little"))
     else (if bytes_eq name (codes "target_arch") then Some (bytes_eq value t.arch.now)
     else (if bytes_eq name (codes "target_os") then Some (bytes_eq value t.os.now)
@@ -98,33 +96,50 @@ has_flag t name =
     else (if bytes_eq name (codes "unix") then Some (is_unix t.family)
     else (if bytes_eq name (codes "windows") then Some (is_windows t.family) else None)))
 
--- what stands between a string's quotes
-abbrev pub unquoted : List ℕ → List ℕ
-unquoted text = unwrap_or (bytes_between 34 34 text) []
+-- the bytes, where no backslash is among them
+abbrev pub without_escapes : Option (List ℕ) → Option (List ℕ)
+without_escapes None = None
+without_escapes (Some inside) = if list_any (λ b. b == 92) inside then None else Some inside
 
--- the text of a token of this kind, where it is a string
+-- what a string without escapes stands for
+abbrev pub plain_value : (text : List ℕ) → Option (List ℕ)
+plain_value text = without_escapes (bytes_between 34 34 text)
+
+-- what a raw string stands for: what lies between its quotes, before the first of which `r` and so many `#` stand
+unfoldable pub raw_value : (hashes : ℕ) → (text : List ℕ) → Option (List ℕ)
+raw_value hashes text =
+    let rest = drop (hashes + 2) text in
+    if nat_le (hashes + 1) (length rest) then Some (take (length rest - (hashes + 1)) rest) else None
+
+-- what a string stands for; none for those of bytes and of C, and for one with an escape, which isn't read
+unfoldable pub string_value : (text : List ℕ) → Option (List ℕ)
+string_value text =
+    if byte_at text 0 == 34 then plain_value text
+    else (if byte_at text 0 == 114 then raw_value (run_length run.Hashes (drop 1 text)) text else None)
+
+-- what a token of this kind stands for, where it is a string
 abbrev pub string_of : (text : List ℕ) → TokenKind → Option (List ℕ)
-string_of text kind.Text = Some text
+string_of text kind.Text = string_value text
 string_of text _ = None
 
--- the text that a token is, where there is a token and it is a string
+-- what a token stands for, where there is one and it is a string
 abbrev pub string_by : Cursor → Option Token → Option (List ℕ)
 string_by c None = None
 string_by c (Some t) = string_of (token_text c t) t.kind
 
--- the string that is next
-unfoldable pub next_string : Cursor → Option (List ℕ)
-next_string c = string_by c (nth c 0)
+-- what the string that is next stands for
+unfoldable pub next_value : Cursor → Option (List ℕ)
+next_value c = string_by c (nth c 0)
 
--- whether a name and its value hold, which is this string
-abbrev pub cfg_value : CfgTarget → (name : List ℕ) → Cursor → Option (List ℕ) → Result (Option Bool × Cursor) SourceFault
+-- whether a name holds with this value
+abbrev pub cfg_value : CfgTarget → (name : List ℕ) → Cursor → (value : Option (List ℕ)) → Result (Option Bool × Cursor) SourceFault
 cfg_value t name c None = Err (fault c BadCfg)
-cfg_value t name c (Some text) = Ok (has_value t name (unquoted text), passed c 1)
+cfg_value t name c (Some value) = Ok (has_value t name value, passed c 1)
 
 -- whether a name, or a name and its value, holds; its name stands before
 unfoldable pub option_answer : CfgTarget → (name : List ℕ) → Cursor → Result (Option Bool × Cursor) SourceFault
 option_answer t name c =
-    if is_next c 61 then cfg_value t name (passed c 1) (next_string (passed c 1)) else Ok (has_flag t name, c)
+    if is_next c 61 then cfg_value t name (passed c 1) (next_value (passed c 1)) else Ok (has_flag t name, c)
 
 -- what is known, where it is; else the name is kept and doesn't hold
 abbrev pub known_or : (name : List ℕ) → Option Bool → Cursor → Noted → Result (Bool × Cursor) SourceFault × Noted

@@ -28,5 +28,6 @@ pub mod Uses
 pub mod Written
 pub mod Having
 pub mod Constants
+pub mod Functions
 pub mod Modules
 pub mod Sources

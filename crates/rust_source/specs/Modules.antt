@@ -17,6 +17,7 @@ use Rattle.rust_source.specs.Attributes.{attributes_read}
 use Rattle.rust_source.specs.Constants.{own_constants}
 use Rattle.rust_source.specs.Cursor.{behind_group, expected, inside, is_done, is_next, is_open, is_keyword_next, next_kind, nth, passed}
 use Rattle.rust_source.specs.Fields.{by_names, visibility_passed}
+use Rattle.rust_source.specs.Functions.{function_read}
 use Rattle.rust_source.specs.Having.{Having, item_of_module, next_module, noted, using_within, with_item, with_module, with_passed, noted_within}
 use Rattle.rust_source.specs.Passing.{item_passed}
 use Rattle.rust_source.specs.Reading.{read_on, is_named, is_path_name, name, word_text}
@@ -84,14 +85,15 @@ ModuleReader = (number : ℕ) → Cursor → Having → Result (Unit {0}) Source
 
 module _ (rules : Rules) where
   -- the item that is next, which makes no type and is no constant
-  unfoldable pub other_read : (number : ℕ) → Cursor → Having → Result Cursor SourceFault × Having
-  other_read number c known =
-      if is_keyword_next c keyword.Use then use_read number (passed c 1) known else read_on (λ _ ns. over_passed c ns) (own_constants rules number c known)
+  unfoldable pub other_read : (number : ℕ) → Attributes → Cursor → Having → Result Cursor SourceFault × Having
+  other_read number said c known =
+      if is_keyword_next c keyword.Use then use_read number (passed c 1) known
+      else read_on (λ _ ns. read_on (λ _ ms. over_passed c ms) (function_read number said c ns)) (own_constants rules number c known)
 
   -- the item that is next, which this was or another one is
   abbrev pub next_item_by : (number : ℕ) → Attributes → Option WrittenRead → Cursor → Having → Result Cursor SourceFault × Having
   next_item_by number said (Some w) c known = done c (known.0, with_item (item_of_module number said w) known.1)
-  next_item_by number said None c known = other_read number c known
+  next_item_by number said None c known = other_read number said c known
 
   -- the item that is next, which is no module, behind its attributes and its `pub`
   unfoldable pub item_read : (number : ℕ) → Attributes → Cursor → Having → Result Cursor SourceFault × Having

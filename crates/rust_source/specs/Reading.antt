@@ -129,9 +129,10 @@ is_named_by c text (Some t) = token_has_name (token_text c t) text t.kind
 unfoldable pub is_named : Cursor → (text : List ℕ) → Bool
 is_named c text = is_named_by c text (nth c 0)
 
--- the text of a token of this kind, where it is a name or a keyword; else nothing
+-- the text of a token of this kind, where it is a name, without its `r#`, or a keyword; else nothing
 abbrev pub word_text_of : (text : List ℕ) → TokenKind → List ℕ
 word_text_of text kind.Name = text
+word_text_of text kind.RawName = bare_text text
 word_text_of text (kind.Keyword k) = text
 word_text_of text _ = []
 

@@ -6,6 +6,7 @@ mod constants;
 mod cursor;
 mod expressions;
 mod fields;
+mod functions;
 mod generics;
 mod items;
 mod literals;

@@ -13,8 +13,8 @@ pub enum Family {
 /// What the predicates of `cfg` are told of a target (Rust Reference, "Conditional compilation").
 #[derive(Clone, Copy)]
 pub struct CfgTarget<'a> {
-    /// `target_pointer_width`, in bits.
-    pub pointer_width: u16,
+    /// `target_pointer_width`, as `64`.
+    pub pointer_width: &'a str,
     /// Whether `target_endian` is `big`.
     pub is_big_endian: bool,
     /// `target_arch`, as `x86_64`.
@@ -23,5 +23,15 @@ pub struct CfgTarget<'a> {
     pub os: &'a str,
     /// `target_env`, as `gnu`, and empty where there is none.
     pub env: &'a str,
+    /// `target_abi`, as `eabihf`, and empty where there is none.
+    pub abi: &'a str,
+    /// `target_vendor`, as `unknown`.
+    pub vendor: &'a str,
     pub family: Family,
+    /// `panic`: `unwind` or `abort`.
+    pub panic: &'a str,
+    /// The values of `target_has_atomic`, as `8` and `ptr`.
+    pub atomics: &'a [&'a str],
+    /// The values of `target_feature` that hold without being asked for, as `sse2`.
+    pub features: &'a [&'a str],
 }

@@ -24,6 +24,7 @@ use crate::tokens::keyword::{Keyword, keyword_of};
 pub(crate) use crate::tokens::number::has_base;
 use crate::tokens::number::number_length;
 use crate::tokens::quoted::{Lexed, prefixed_token, quote_token, string_token};
+pub(crate) use crate::tokens::runs::{Run, run_length};
 use crate::tokens::token::{Bracket, Token, TokenKind};
 use std::alloc::Global;
 

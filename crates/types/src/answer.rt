@@ -10,8 +10,7 @@ use crate::place::Spot;
 use abi_base::TargetDataLayout;
 use abi_laid::Laid;
 use abi_map::map_of;
-use abi_rust::{Fault, Sources, Target, Told};
-use abi_text::read_data_layout;
+use abi_rust::{Fault, Sources, Target, Told, data_layout_of};
 use rust_source::Names;
 use rustc_abi::{LayError, lay_out};
 use serde_json::Value;
@@ -309,7 +308,7 @@ fn tell_targets(
         )?;
     }
     for target in &options.targets {
-        match read_data_layout(alloc, target.data_layout) {
+        match data_layout_of(alloc, target) {
             Ok(dl) => tell_under(alloc, answer, options, target, &dl, source)?,
             Err(_) => return Err(Failure::OutOfMemory),
         }

@@ -242,7 +242,7 @@ fn read_one(
 }
 
 /// What the attributes that are next say.
-#[tactic(auto, unfolding(crate::specs::Attributes::attributes_read), using(crate::proofs::ItemTurns::attributes_more, crate::proofs::ItemTurns::attributes_done))]
+#[tactic(auto, unfolding(crate::specs::Attributes::attributes_read), using(crate::proofs::ItemTurns::said_more, crate::proofs::ItemTurns::said_done))]
 pub(crate) fn read_attributes(
     names: &mut Names,
     unknown: &mut Vec<Symbol>,

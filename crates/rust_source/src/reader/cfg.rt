@@ -1,8 +1,8 @@
 //! Predicates of `cfg`.
 
-ghost use Rattle.std.specs.Prelude.{◌≡◌, ◌∷◌, ◌++◌, [], IfErr, IfOk};
+ghost use Rattle.std.specs.Prelude.{◌≡◌, ◌≤◌, ◌∷◌, ◌++◌, [], IfErr, IfOk, length};
 ghost use Rattle.std.specs.Str.{bytes_eq};
-ghost use Rattle.rust_source.specs.Cfg.{combined, count_read, counting, family_name, has_flag, has_value, is_atomic_width, is_number, known_or, next_string, option_answer, option_read, other_value, predicate_read, predicate_with, unquoted, with_symbol, with_unknown};
+ghost use Rattle.rust_source.specs.Cfg.{combined, count_read, counting, family_name, has_flag, has_value, is_one_text, known_or, listed_value, next_value, option_answer, option_read, other_value, plain_value, predicate_read, predicate_with, raw_value, string_value, with_symbol, with_unknown};
 ghost use Rattle.rust_source.specs.Names.{texts};
 ghost use Rattle.rust_source.specs.Reading.{Reads, read_as};
 ghost use Rattle.rust_source.specs.Slices.{now_of};
@@ -13,11 +13,12 @@ use crate::place::Symbol;
 use crate::reader::cursor::{
     Cursor, expect_comma, fault, is_done, nth, pass, take, take_group, text_of,
 };
-use crate::reader::literals::{Number, number_of, within};
+use crate::reader::literals::within;
 use crate::reader::naming::word_text;
 use crate::reader::room::less;
 use crate::target::{CfgTarget, Family};
 use crate::tokens::token::{Bracket, TokenKind};
+use crate::tokens::{Run, after, byte_at, run_length};
 
 /// The name of a family of systems.
 fn family_name(family: Family) -> &'static str
@@ -38,26 +39,16 @@ fn is_text(value: &[u8], text: &str) -> bool
     value == text.as_bytes()
 }
 
-/// Whether a text is this number in decimal digits.
-fn is_number(text: &[u8], wanted: u16) -> bool
-    ensures { result ≡ is_number text.now wanted }
+/// Whether bytes are those of one of these texts.
+fn is_one_text(texts: &[&str], value: &[u8]) -> bool
+    ensures { result ≡ is_one_text texts.now value.now }
 {
-    match number_of(text) {
-        Number::Integer(value, None) => value == u128::from(wanted),
-        _ => false,
+    for text in texts {
+        if is_text(value, text) {
+            return true;
+        }
     }
-}
-
-/// Whether a text is a width of integers that the atomic types have.
-#[tactic(auto, unfolding(crate::specs::Cfg::is_atomic_width))]
-fn is_atomic_width(text: &[u8]) -> bool
-    ensures { result ≡ is_atomic_width text.now }
-{
-    is_text(text, "8")
-        || is_text(text, "16")
-        || is_text(text, "32")
-        || is_text(text, "64")
-        || is_text(text, "ptr")
+    false
 }
 
 /// Whether the target has this value under this name. None where the name isn't known.
@@ -66,7 +57,7 @@ fn has_value(target: &CfgTarget<'_>, name: &str, value: &[u8]) -> Option<bool>
     ensures { result ≡ has_value target.now name.now value.now }
 {
     if name == "target_pointer_width" {
-        Some(is_number(value, target.pointer_width))
+        Some(is_text(value, target.pointer_width))
     } else if name == "target_endian" {
         let endian = if target.is_big_endian {
             "big"
@@ -90,12 +81,28 @@ fn has_value(target: &CfgTarget<'_>, name: &str, value: &[u8]) -> Option<bool>
 fn other_value(target: &CfgTarget<'_>, name: &str, value: &[u8]) -> Option<bool>
     ensures { result ≡ other_value target.now name.now value.now }
 {
-    if name == "target_family" {
+    if name == "target_abi" {
+        Some(is_text(value, target.abi))
+    } else if name == "target_vendor" {
+        Some(is_text(value, target.vendor))
+    } else if name == "target_family" {
         Some(!value.is_empty() && is_text(value, family_name(target.family)))
     } else if name == "panic" {
-        Some(is_text(value, "unwind"))
-    } else if name == "target_has_atomic" {
-        Some(is_atomic_width(value))
+        Some(is_text(value, target.panic))
+    } else {
+        listed_value(target, name, value)
+    }
+}
+
+/// Whether the target has this value under this name, which has several. None where the name isn't known.
+#[tactic(auto, unfolding(crate::specs::Cfg::listed_value))]
+fn listed_value(target: &CfgTarget<'_>, name: &str, value: &[u8]) -> Option<bool>
+    ensures { result ≡ listed_value target.now name.now value.now }
+{
+    if name == "target_has_atomic" {
+        Some(is_one_text(target.atomics, value))
+    } else if name == "target_feature" {
+        Some(is_one_text(target.features, value))
     } else {
         None
     }
@@ -140,24 +147,49 @@ fn keep_unknown(names: &mut Names, unknown: &mut Vec<Symbol>, name: &str) -> Res
     put_symbol(unknown, name)
 }
 
-/// What stands between a string's quotes.
-fn unquoted(text: &[u8]) -> &[u8]
-    ensures { result.now ≡ unquoted text.now }
+/// What a string without escapes stands for. None where it has one.
+fn plain_value(text: &[u8]) -> Option<&[u8]>
+    ensures { now_of result ≡ plain_value text.now }
 {
-    match within(text, b'"', b'"') {
-        Some(inside) => inside,
-        None => b"",
+    let inside = within(text, b'"', b'"')?;
+    if inside.contains(&b'\\') {
+        None
+    } else {
+        Some(inside)
     }
 }
 
-/// The string that is next.
-#[tactic(auto, unfolding(crate::specs::Cfg::next_string))]
-fn next_string<'a>(cursor: &Cursor<'a>) -> Option<&'a [u8]>
-    ensures { now_of result ≡ next_string cursor.now }
+/// What a raw string stands for: what lies between its quotes, before the first of which `r` and so many `#` stand.
+#[tactic(auto, unfolding(crate::specs::Cfg::raw_value))]
+fn raw_value(text: &[u8], hashes: usize) -> Option<&[u8]>
+    requires { hashes ≤ length text.now }
+    ensures { now_of result ≡ raw_value hashes text.now }
+{
+    let rest = after(text, hashes + 2);
+    let bytes = rest.len().checked_sub(hashes + 1)?;
+    rest.get(..bytes)
+}
+
+/// What a string stands for. None for those of bytes and of C, and for one with an escape, which isn't read.
+#[tactic(auto, unfolding(crate::specs::Cfg::string_value))]
+fn string_value(text: &[u8]) -> Option<&[u8]>
+    ensures { now_of result ≡ string_value text.now }
+{
+    match byte_at(text, 0) {
+        b'"' => plain_value(text),
+        b'r' => raw_value(text, run_length(after(text, 1), Run::Hashes)),
+        _ => None,
+    }
+}
+
+/// What the string that is next stands for.
+#[tactic(auto, unfolding(crate::specs::Cfg::next_value))]
+fn next_value<'a>(cursor: &Cursor<'a>) -> Option<&'a [u8]>
+    ensures { now_of result ≡ next_value cursor.now }
 {
     match nth(cursor, 0) {
         Some(token) => match token.kind {
-            TokenKind::Text => Some(text_of(cursor, token).as_bytes()),
+            TokenKind::Text => string_value(text_of(cursor, token).as_bytes()),
             _ => None,
         },
         None => None,
@@ -177,10 +209,10 @@ fn option_answer(
     if !take(cursor, b'=') {
         return Ok(has_flag(target, name));
     }
-    match next_string(cursor) {
-        Some(text) => {
+    match next_value(cursor) {
+        Some(value) => {
             pass(cursor, 1);
-            Ok(has_value(target, name, unquoted(text)))
+            Ok(has_value(target, name, value))
         }
         None => Err(fault(cursor, SourceFaultKind::BadCfg)),
     }

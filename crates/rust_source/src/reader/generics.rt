@@ -176,7 +176,7 @@ fn add_parameter(
 }
 
 /// Puts parameters behind the others, whose `<` stands before; their `>` is passed over.
-#[tactic(auto, unfolding(crate::specs::Generics::parameters_in), using(crate::proofs::GenericTurns::parameters_more, crate::proofs::GenericTurns::parameters_done))]
+#[tactic(auto, unfolding(crate::specs::Generics::parameters_in), using(crate::proofs::GenericTurns::another, crate::proofs::GenericTurns::none_more))]
 fn add_parameters(
     names: &mut Names,
     cursor: &mut Cursor<'_>,

@@ -21,6 +21,7 @@ use crate::reader::cursor::{
     Cursor, expect, fault, is_done, is_next, is_word, next_kind, nth, pass, take_group, take_word,
 };
 use crate::reader::fields::pass_visibility;
+use crate::reader::functions::read_function;
 use crate::reader::naming::{is_named, is_path_name, take_name, word_text};
 use crate::reader::passing::pass_item;
 use crate::reader::room::{less, most_nested};
@@ -169,16 +170,18 @@ fn read_other(
     names: &mut Names,
     items: &mut Items,
     module: u32,
+    said: &Attributes,
     cursor: &mut Cursor<'_>,
 ) -> Result<(), SourceFault>
     ensures kept { KeepsItems items.old items.new }
-    ensures read { Reads (λ _. cursor.new) (other_read rules.now «module» cursor.old (texts names.old, items_as_read items.old))
+    ensures read { Reads (λ _. cursor.new) (other_read rules.now «module» said.now cursor.old (texts names.old, items_as_read items.old))
         (texts names.new, items_as_read items.new) result }
 {
     if take_word(cursor, Keyword::Use) {
         return read_use(names, items, module, cursor);
     }
     read_own_constants(rules, names, items, module, cursor)?;
+    read_function(names, items, module, said, cursor)?;
     pass_over(names, items, cursor)
 }
 
@@ -198,7 +201,7 @@ fn read_item(
 {
     match read_written(names, &mut items.unknown_cfgs, rules, cursor)? {
         Some(one) => put_item(items, module, said, one),
-        None => read_other(rules, names, items, module, cursor),
+        None => read_other(rules, names, items, module, said, cursor),
     }
 }
 

@@ -66,7 +66,7 @@ pub(crate) fn is_named(cursor: &Cursor<'_>, text: &str) -> bool
     }
 }
 
-/// The text of the next token, where it is a name or a keyword; else nothing.
+/// The text of the next token, where it is a name, without its `r#`, or a keyword; else nothing.
 #[tactic(auto, unfolding(crate::specs::Reading::word_text))]
 pub(crate) fn word_text<'a>(cursor: &Cursor<'a>) -> &'a str
     ensures { result.now ≡ word_text cursor.now }
@@ -74,6 +74,7 @@ pub(crate) fn word_text<'a>(cursor: &Cursor<'a>) -> &'a str
     match nth(cursor, 0) {
         Some(token) => match token.kind {
             TokenKind::Name | TokenKind::Keyword(_) => text_of(cursor, token),
+            TokenKind::RawName => bare_text(text_of(cursor, token)),
             _ => "",
         },
         None => "",
