@@ -87,6 +87,8 @@ const AMDGCN: &str =
     p9:192:256:256:32-i64:64-v16:16-v24:32-v32:32-v48:64-v96:128-v192:256-v256:256-v512:512-v1024:1024-v2048:2048-n32:64-\
     S32-A5-G1-ni:7:8:9";
 
+// What borrows a table is proved with all of it at hand, so that there are six, of few rows each.
+
 /// The targets that are known by their triples: those of x86 processors.
 static X86: [Target; 5] = [
     Target {
