@@ -1,3 +1,4 @@
+mod CfgTurns
 mod Digits
 mod Facts
 mod FunctionTurns

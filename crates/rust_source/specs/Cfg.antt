@@ -6,6 +6,7 @@ use Rattle.std.specs.Str.{bytes_eq}
 use Rattle.rust_source.specs.declared.fault.SourceFault.{SourceFault}
 use Rattle.rust_source.specs.declared.fault.SourceFaultKind.TheVariants.{BadCfg, TooDeep}
 use Rattle.rust_source.specs.declared.place.Symbol.{Symbol}
+use Rattle.rust_source.specs.declared.reader.cfg.CfgValue.{CfgValue}
 use Rattle.rust_source.specs.declared.reader.cursor.Cursor.{Cursor}
 use Rattle.rust_source.specs.declared.target.CfgTarget.{CfgTarget}
 use Rattle.rust_source.specs.declared.target.Family.{Family}
@@ -16,10 +17,11 @@ use Rattle.rust_source.specs.declared.tokens.token.Token.{Token}
 use Rattle.rust_source.specs.declared.tokens.token.TokenKind.{TokenKind}
 use Rattle.rust_source.specs.declared.tokens.token.TokenKind.TheVariants as kind
 use Rattle.rust_source.specs.Blanks.{run_length}
-use Rattle.rust_source.specs.Characters.{byte_at}
+use Rattle.rust_source.specs.Characters.{byte_at, first_char}
 use Rattle.rust_source.specs.Cursor.{behind_group, comma_passed, fault, inside, is_done, is_next, nth, passed, token_text}
-use Rattle.rust_source.specs.Literals.{bytes_between}
+use Rattle.rust_source.specs.Literals.{bytes_between, escape_by}
 use Rattle.rust_source.specs.Names.{added, number_of_name as name_number}
+use Rattle.rust_source.specs.Quoted.{escaped_length}
 use Rattle.rust_source.specs.Reading.{read_on, read_as, word_text}
 use Rattle.rust_source.specs.Terms.{Known, done, fault_next}
 
@@ -50,33 +52,94 @@ family_name family.Windows = codes "windows"
 family_name family.Wasm = codes "wasm"
 family_name family.Neither = []
 
--- a value is one of these texts
-abbrev pub is_one_text : List (Bor (List ℕ)) → (value : List ℕ) → Bool
+-- what a string stands for: what lies between its quotes, without escapes where the string is raw
+pub record ValueRead : Type 0 where
+  pub inside : List ℕ
+  pub is_raw : Bool
+
+-- what a string stands for, as the program keeps it
+abbrev pub value_as_read : CfgValue → ValueRead
+value_as_read v = record { inside = v.inside.now; is_raw = v.is_raw }
+
+-- a code, and what follows it, as the program keeps them
+abbrev pub taken_of : ℕ × Bor (List ℕ) → ℕ × List ℕ
+taken_of p = (p.0, p.1.now)
+
+-- the code of an escape of so many bytes, and what follows them
+abbrev pub code_taken : (rest : List ℕ) → (bytes : ℕ) → Option ℕ → Option (ℕ × List ℕ)
+code_taken rest bytes None = None
+code_taken rest bytes (Some code) = Some (code, drop bytes rest)
+
+-- the code that an escape of so many bytes stands for, with what follows it
+abbrev pub escape_taken : (rest : List ℕ) → (bytes : Option ℕ) → Option (ℕ × List ℕ)
+escape_taken rest None = None
+escape_taken rest (Some n) =
+    if nat_le n (length rest) then code_taken rest n (escape_by (take n rest) (first_char (take n rest))) else None
+
+-- how many bytes an escape has behind its backslash: `x` and two digits, `u` and what stands up to a `}`, or a letter
+unfoldable pub escape_length : (rest : List ℕ) → Option ℕ
+escape_length rest = if byte_at rest 0 == 120 then Some 3 else (if byte_at rest 0 == 117 then escaped_length 125 rest else Some 1)
+
+-- the byte, or the code of the escape, that is next between a string's quotes, with what follows it: of ASCII a code is the byte
+abbrev pub next_code : (inside : List ℕ) → Option (ℕ × List ℕ)
+next_code [] = None
+next_code (b ∷ bs) = if b == 92 then escape_taken bs (escape_length bs) else Some (b, bs)
+
+-- there is a code, and what follows it is so
+abbrev pub is_followed : (on : List ℕ → Bool) → Option (ℕ × List ℕ) → Bool
+is_followed on None = false
+is_followed on (Some p) = on p.1
+
+-- each escape is one that there is, of at most so many bytes
+abbrev pub escapes_from : (limit : ℕ) → (inside : List ℕ) → Bool
+escapes_from zero inside = length inside == 0
+escapes_from (suc limit) inside = (length inside == 0) || is_followed (λ rest. escapes_from limit rest) (next_code inside)
+
+-- each escape between a string's quotes is one that there is
+unfoldable pub has_escapes : (inside : List ℕ) → Bool
+has_escapes inside = escapes_from (length inside) inside
+
+-- there is this code, and what follows it is so
+abbrev pub is_code_followed : (code : ℕ) → (on : List ℕ → Bool) → Option (ℕ × List ℕ) → Bool
+is_code_followed code on None = false
+is_code_followed code on (Some p) = (p.0 == code) && on p.1
+
+-- what lies between a string's quotes stands for a text, which is ASCII's
+abbrev pub stands_for : (inside text : List ℕ) → Bool
+stands_for inside [] = length inside == 0
+stands_for inside (b ∷ bs) = is_code_followed b (λ rest. stands_for rest bs) (next_code inside)
+
+-- a string stands for a text
+abbrev pub is_text : ValueRead → (text : List ℕ) → Bool
+is_text v text = if v.is_raw then bytes_eq v.inside text else stands_for v.inside text
+
+-- a string stands for one of these texts
+abbrev pub is_one_text : List (Bor (List ℕ)) → ValueRead → Bool
 is_one_text [] value = false
-is_one_text (t ∷ ts) value = bytes_eq value t.now || is_one_text ts value
+is_one_text (t ∷ ts) value = is_text value t.now || is_one_text ts value
 
 -- whether the target has this value under this name, of which it has several; none where the name isn't known
-unfoldable pub listed_value : CfgTarget → (name value : List ℕ) → Option Bool
+unfoldable pub listed_value : CfgTarget → (name : List ℕ) → ValueRead → Option Bool
 listed_value t name value =
     if bytes_eq name (codes "target_has_atomic") then Some (is_one_text t.atomics.now value)
     else (if bytes_eq name (codes "target_feature") then Some (is_one_text t.features.now value) else None)
 
 -- whether the target has this value under this name, which is none of those below; none where the name isn't known
-unfoldable pub other_value : CfgTarget → (name value : List ℕ) → Option Bool
+unfoldable pub other_value : CfgTarget → (name : List ℕ) → ValueRead → Option Bool
 other_value t name value =
-    if bytes_eq name (codes "target_abi") then Some (bytes_eq value t.abi.now)
-    else (if bytes_eq name (codes "target_vendor") then Some (bytes_eq value t.vendor.now)
-    else (if bytes_eq name (codes "target_family") then Some (not (length value == 0) && bytes_eq value (family_name t.family))
-    else (if bytes_eq name (codes "panic") then Some (bytes_eq value t.panic.now) else listed_value t name value)))
+    if bytes_eq name (codes "target_abi") then Some (is_text value t.abi.now)
+    else (if bytes_eq name (codes "target_vendor") then Some (is_text value t.vendor.now)
+    else (if bytes_eq name (codes "target_family") then Some (not (is_text value []) && is_text value (family_name t.family))
+    else (if bytes_eq name (codes "panic") then Some (is_text value t.panic.now) else listed_value t name value)))
 
 -- whether the target has this value under this name; none where the name isn't known
-unfoldable pub has_value : CfgTarget → (name value : List ℕ) → Option Bool
+unfoldable pub has_value : CfgTarget → (name : List ℕ) → ValueRead → Option Bool
 has_value t name value =
-    if bytes_eq name (codes "target_pointer_width") then Some (bytes_eq value t.pointer_width.now)
-    else (if bytes_eq name (codes "target_endian") then Some (bytes_eq value (if t.is_big_endian then codes "big" else codes "little"))
-    else (if bytes_eq name (codes "target_arch") then Some (bytes_eq value t.arch.now)
-    else (if bytes_eq name (codes "target_os") then Some (bytes_eq value t.os.now)
-    else (if bytes_eq name (codes "target_env") then Some (bytes_eq value t.env.now) else other_value t name value))))
+    if bytes_eq name (codes "target_pointer_width") then Some (is_text value t.pointer_width.now)
+    else (if bytes_eq name (codes "target_endian") then Some (is_text value (if t.is_big_endian then codes "big" else codes "little"))
+    else (if bytes_eq name (codes "target_arch") then Some (is_text value t.arch.now)
+    else (if bytes_eq name (codes "target_os") then Some (is_text value t.os.now)
+    else (if bytes_eq name (codes "target_env") then Some (is_text value t.env.now) else other_value t name value))))
 
 -- the family is that of Unix
 abbrev pub is_unix : Family → Bool
@@ -96,43 +159,43 @@ has_flag t name =
     else (if bytes_eq name (codes "unix") then Some (is_unix t.family)
     else (if bytes_eq name (codes "windows") then Some (is_windows t.family) else None)))
 
--- the bytes, where no backslash is among them
-abbrev pub without_escapes : Option (List ℕ) → Option (List ℕ)
-without_escapes None = None
-without_escapes (Some inside) = if list_any (λ b. b == 92) inside then None else Some inside
+-- what lies between a string's quotes, where each escape is one that there is
+abbrev pub with_escapes : Option (List ℕ) → Option ValueRead
+with_escapes None = None
+with_escapes (Some inside) = if has_escapes inside then Some (record { inside = inside; is_raw = false }) else None
 
--- what a string without escapes stands for
-abbrev pub plain_value : (text : List ℕ) → Option (List ℕ)
-plain_value text = without_escapes (bytes_between 34 34 text)
+-- what a string with escapes stands for
+abbrev pub plain_value : (text : List ℕ) → Option ValueRead
+plain_value text = with_escapes (bytes_between 34 34 text)
 
 -- what a raw string stands for: what lies between its quotes, before the first of which `r` and so many `#` stand
-unfoldable pub raw_value : (hashes : ℕ) → (text : List ℕ) → Option (List ℕ)
+unfoldable pub raw_value : (hashes : ℕ) → (text : List ℕ) → Option ValueRead
 raw_value hashes text =
     let rest = drop (hashes + 2) text in
-    if nat_le (hashes + 1) (length rest) then Some (take (length rest - (hashes + 1)) rest) else None
+    if nat_le (hashes + 1) (length rest) then Some (record { inside = take (length rest - (hashes + 1)) rest; is_raw = true }) else None
 
--- what a string stands for; none for those of bytes and of C, and for one with an escape, which isn't read
-unfoldable pub string_value : (text : List ℕ) → Option (List ℕ)
+-- what a string stands for; none for those of bytes and of C
+unfoldable pub string_value : (text : List ℕ) → Option ValueRead
 string_value text =
     if byte_at text 0 == 34 then plain_value text
     else (if byte_at text 0 == 114 then raw_value (run_length run.Hashes (drop 1 text)) text else None)
 
 -- what a token of this kind stands for, where it is a string
-abbrev pub string_of : (text : List ℕ) → TokenKind → Option (List ℕ)
+abbrev pub string_of : (text : List ℕ) → TokenKind → Option ValueRead
 string_of text kind.Text = string_value text
 string_of text _ = None
 
 -- what a token stands for, where there is one and it is a string
-abbrev pub string_by : Cursor → Option Token → Option (List ℕ)
+abbrev pub string_by : Cursor → Option Token → Option ValueRead
 string_by c None = None
 string_by c (Some t) = string_of (token_text c t) t.kind
 
 -- what the string that is next stands for
-unfoldable pub next_value : Cursor → Option (List ℕ)
+unfoldable pub next_value : Cursor → Option ValueRead
 next_value c = string_by c (nth c 0)
 
 -- whether a name holds with this value
-abbrev pub cfg_value : CfgTarget → (name : List ℕ) → Cursor → (value : Option (List ℕ)) → Result (Option Bool × Cursor) SourceFault
+abbrev pub cfg_value : CfgTarget → (name : List ℕ) → Cursor → Option ValueRead → Result (Option Bool × Cursor) SourceFault
 cfg_value t name c None = Err (fault c BadCfg)
 cfg_value t name c (Some value) = Ok (has_value t name value, passed c 1)
 

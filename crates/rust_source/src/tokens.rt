@@ -23,6 +23,7 @@ pub(crate) use crate::tokens::characters::{after, byte_at, first_char};
 use crate::tokens::keyword::{Keyword, keyword_of};
 pub(crate) use crate::tokens::number::has_base;
 use crate::tokens::number::number_length;
+pub(crate) use crate::tokens::quoted::escaped_length;
 use crate::tokens::quoted::{Lexed, prefixed_token, quote_token, string_token};
 pub(crate) use crate::tokens::runs::{Run, run_length};
 use crate::tokens::token::{Bracket, Token, TokenKind};

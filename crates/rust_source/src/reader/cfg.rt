@@ -1,11 +1,10 @@
 //! Predicates of `cfg`.
 
 ghost use Rattle.std.specs.Prelude.{◌≡◌, ◌≤◌, ◌∷◌, ◌++◌, [], IfErr, IfOk, length};
-ghost use Rattle.std.specs.Str.{bytes_eq};
-ghost use Rattle.rust_source.specs.Cfg.{combined, count_read, counting, family_name, has_flag, has_value, is_one_text, known_or, listed_value, next_value, option_answer, option_read, other_value, plain_value, predicate_read, predicate_with, raw_value, string_value, with_symbol, with_unknown};
+ghost use Rattle.std.specs.Option.{option_map};
+ghost use Rattle.rust_source.specs.Cfg.{combined, count_read, counting, escape_length, escape_taken, family_name, has_escapes, has_flag, has_value, is_one_text, is_text, known_or, listed_value, next_code, next_value, option_answer, option_read, other_value, plain_value, predicate_read, predicate_with, raw_value, stands_for, string_value, taken_of, value_as_read, with_symbol, with_unknown};
 ghost use Rattle.rust_source.specs.Names.{texts};
 ghost use Rattle.rust_source.specs.Reading.{Reads, read_as};
-ghost use Rattle.rust_source.specs.Slices.{now_of};
 
 use crate::fault::{SourceFault, SourceFaultKind};
 use crate::names::Names;
@@ -13,12 +12,12 @@ use crate::place::Symbol;
 use crate::reader::cursor::{
     Cursor, expect_comma, fault, is_done, nth, pass, take, take_group, text_of,
 };
-use crate::reader::literals::within;
+use crate::reader::literals::{escape_code, within};
 use crate::reader::naming::word_text;
 use crate::reader::room::less;
 use crate::target::{CfgTarget, Family};
 use crate::tokens::token::{Bracket, TokenKind};
-use crate::tokens::{Run, after, byte_at, run_length};
+use crate::tokens::{Run, after, byte_at, escaped_length, run_length};
 
 /// The name of a family of systems.
 fn family_name(family: Family) -> &'static str
@@ -32,16 +31,101 @@ fn family_name(family: Family) -> &'static str
     }
 }
 
-/// Whether bytes are those of a text.
-fn is_text(value: &[u8], text: &str) -> bool
-    ensures { result ≡ bytes_eq value.now text.now }
-{
-    value == text.as_bytes()
+/// What a string stands for: what lies between its quotes.
+#[derive(Clone, Copy)]
+struct CfgValue<'a> {
+    inside: &'a [u8],
+    /// Whether it has no escapes, since the string is raw.
+    is_raw: bool,
 }
 
-/// Whether bytes are those of one of these texts.
-fn is_one_text(texts: &[&str], value: &[u8]) -> bool
-    ensures { result ≡ is_one_text texts.now value.now }
+/// The code that an escape of so many bytes stands for, with what follows it.
+fn escape_taken(rest: &[u8], length: Option<usize>) -> Option<(u32, &[u8])>
+    ensures { option_map taken_of result ≡ escape_taken rest.now length }
+{
+    let length = length?;
+    let escape = rest.get(..length)?;
+    let code = escape_code(escape)?;
+    Some((code, after(rest, length)))
+}
+
+/// How many bytes an escape has behind its backslash. None where it has no end.
+#[tactic(auto, unfolding(crate::specs::Cfg::escape_length))]
+fn escape_length(rest: &[u8]) -> Option<usize>
+    ensures { result ≡ escape_length rest.now }
+{
+    match byte_at(rest, 0) {
+        b'x' => Some(3),
+        b'u' => escaped_length(rest, b'}'),
+        _ => Some(1),
+    }
+}
+
+/// The byte, or the code of the escape, that is next between a string's quotes, with what follows it.
+#[tactic(auto, unfolding(crate::specs::Cfg::next_code))]
+fn next_code(inside: &[u8]) -> Option<(u32, &[u8])>
+    ensures { option_map taken_of result ≡ next_code inside.now }
+{
+    let first = *inside.first()?;
+    let rest = after(inside, 1);
+    if first == b'\\' {
+        escape_taken(rest, escape_length(rest))
+    } else {
+        Some((u32::from(first), rest))
+    }
+}
+
+/// Whether each escape between a string's quotes is one that there is.
+#[tactic(auto, unfolding(crate::specs::Cfg::has_escapes), using(crate::proofs::CfgTurns::more, crate::proofs::CfgTurns::done))]
+fn has_escapes(inside: &[u8]) -> bool
+    ensures { result ≡ has_escapes inside.now }
+{
+    let mut rest = inside;
+    let turns = inside.len();
+    for turn in 0..turns {
+        if rest.is_empty() {
+            return true;
+        }
+        let Some((_code, more)) = next_code(rest) else {
+            return false;
+        };
+        rest = more;
+    }
+    rest.is_empty()
+}
+
+/// Whether what lies between a string's quotes stands for a text.
+#[tactic(auto, using(crate::proofs::CfgTurns::stops))]
+fn stands_for(inside: &[u8], text: &[u8]) -> bool
+    ensures { result ≡ stands_for inside.now text.now }
+{
+    let mut rest = inside;
+    for byte in text {
+        let Some((code, more)) = next_code(rest) else {
+            return false;
+        };
+        if code != u32::from(*byte) {
+            return false;
+        }
+        rest = more;
+    }
+    rest.is_empty()
+}
+
+/// Whether a string stands for a text.
+fn is_text(value: CfgValue<'_>, text: &str) -> bool
+    ensures { result ≡ is_text (value_as_read value.entry) text.now }
+{
+    if value.is_raw {
+        value.inside == text.as_bytes()
+    } else {
+        stands_for(value.inside, text.as_bytes())
+    }
+}
+
+/// Whether a string stands for one of these texts.
+fn is_one_text(texts: &[&str], value: CfgValue<'_>) -> bool
+    ensures { result ≡ is_one_text texts.now (value_as_read value.entry) }
 {
     for text in texts {
         if is_text(value, text) {
@@ -53,8 +137,8 @@ fn is_one_text(texts: &[&str], value: &[u8]) -> bool
 
 /// Whether the target has this value under this name. None where the name isn't known.
 #[tactic(auto, unfolding(crate::specs::Cfg::has_value))]
-fn has_value(target: &CfgTarget<'_>, name: &str, value: &[u8]) -> Option<bool>
-    ensures { result ≡ has_value target.now name.now value.now }
+fn has_value(target: &CfgTarget<'_>, name: &str, value: CfgValue<'_>) -> Option<bool>
+    ensures { result ≡ has_value target.now name.now (value_as_read value.entry) }
 {
     if name == "target_pointer_width" {
         Some(is_text(value, target.pointer_width))
@@ -78,15 +162,15 @@ fn has_value(target: &CfgTarget<'_>, name: &str, value: &[u8]) -> Option<bool>
 
 /// Whether the target has this value under this name, which is none of those above. None where the name isn't known.
 #[tactic(auto, unfolding(crate::specs::Cfg::other_value))]
-fn other_value(target: &CfgTarget<'_>, name: &str, value: &[u8]) -> Option<bool>
-    ensures { result ≡ other_value target.now name.now value.now }
+fn other_value(target: &CfgTarget<'_>, name: &str, value: CfgValue<'_>) -> Option<bool>
+    ensures { result ≡ other_value target.now name.now (value_as_read value.entry) }
 {
     if name == "target_abi" {
         Some(is_text(value, target.abi))
     } else if name == "target_vendor" {
         Some(is_text(value, target.vendor))
     } else if name == "target_family" {
-        Some(!value.is_empty() && is_text(value, family_name(target.family)))
+        Some(!is_text(value, "") && is_text(value, family_name(target.family)))
     } else if name == "panic" {
         Some(is_text(value, target.panic))
     } else {
@@ -96,8 +180,8 @@ fn other_value(target: &CfgTarget<'_>, name: &str, value: &[u8]) -> Option<bool>
 
 /// Whether the target has this value under this name, which has several. None where the name isn't known.
 #[tactic(auto, unfolding(crate::specs::Cfg::listed_value))]
-fn listed_value(target: &CfgTarget<'_>, name: &str, value: &[u8]) -> Option<bool>
-    ensures { result ≡ listed_value target.now name.now value.now }
+fn listed_value(target: &CfgTarget<'_>, name: &str, value: CfgValue<'_>) -> Option<bool>
+    ensures { result ≡ listed_value target.now name.now (value_as_read value.entry) }
 {
     if name == "target_has_atomic" {
         Some(is_one_text(target.atomics, value))
@@ -147,33 +231,40 @@ fn keep_unknown(names: &mut Names, unknown: &mut Vec<Symbol>, name: &str) -> Res
     put_symbol(unknown, name)
 }
 
-/// What a string without escapes stands for. None where it has one.
-fn plain_value(text: &[u8]) -> Option<&[u8]>
-    ensures { now_of result ≡ plain_value text.now }
+/// What a string with escapes stands for. None where one of them is none that there is.
+fn plain_value(text: &[u8]) -> Option<CfgValue<'_>>
+    ensures { option_map value_as_read result ≡ plain_value text.now }
 {
     let inside = within(text, b'"', b'"')?;
-    if inside.contains(&b'\\') {
-        None
+    if has_escapes(inside) {
+        Some(CfgValue {
+            inside,
+            is_raw: false,
+        })
     } else {
-        Some(inside)
+        None
     }
 }
 
 /// What a raw string stands for: what lies between its quotes, before the first of which `r` and so many `#` stand.
 #[tactic(auto, unfolding(crate::specs::Cfg::raw_value))]
-fn raw_value(text: &[u8], hashes: usize) -> Option<&[u8]>
+fn raw_value(text: &[u8], hashes: usize) -> Option<CfgValue<'_>>
     requires { hashes ≤ length text.now }
-    ensures { now_of result ≡ raw_value hashes text.now }
+    ensures { option_map value_as_read result ≡ raw_value hashes text.now }
 {
     let rest = after(text, hashes + 2);
     let bytes = rest.len().checked_sub(hashes + 1)?;
-    rest.get(..bytes)
+    let inside = rest.get(..bytes)?;
+    Some(CfgValue {
+        inside,
+        is_raw: true,
+    })
 }
 
-/// What a string stands for. None for those of bytes and of C, and for one with an escape, which isn't read.
+/// What a string stands for. None for those of bytes and of C.
 #[tactic(auto, unfolding(crate::specs::Cfg::string_value))]
-fn string_value(text: &[u8]) -> Option<&[u8]>
-    ensures { now_of result ≡ string_value text.now }
+fn string_value(text: &[u8]) -> Option<CfgValue<'_>>
+    ensures { option_map value_as_read result ≡ string_value text.now }
 {
     match byte_at(text, 0) {
         b'"' => plain_value(text),
@@ -184,8 +275,8 @@ fn string_value(text: &[u8]) -> Option<&[u8]>
 
 /// What the string that is next stands for.
 #[tactic(auto, unfolding(crate::specs::Cfg::next_value))]
-fn next_value<'a>(cursor: &Cursor<'a>) -> Option<&'a [u8]>
-    ensures { now_of result ≡ next_value cursor.now }
+fn next_value<'a>(cursor: &Cursor<'a>) -> Option<CfgValue<'a>>
+    ensures { option_map value_as_read result ≡ next_value cursor.now }
 {
     match nth(cursor, 0) {
         Some(token) => match token.kind {

@@ -241,7 +241,7 @@ fn escaped_code(letter: char, digits: &[u8]) -> Option<u32>
 }
 
 /// The code of an escape, of which this stands behind the backslash.
-fn escape_code(rest: &[u8]) -> Option<u32>
+pub(crate) fn escape_code(rest: &[u8]) -> Option<u32>
     ensures { result ≡ escape_by rest.now (first_char rest.now) }
 {
     let (letter, length) = first_char(rest)?;

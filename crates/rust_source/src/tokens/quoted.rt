@@ -25,7 +25,7 @@ fn escapes(is_escaped: bool, byte: u8) -> bool
 /// How many bytes a text has that the bytes begin with by its first quote. A backslash takes the next byte with it. None
 /// where it has no end.
 #[tactic(auto, unfolding(crate::specs::Quoted::escaped_length))]
-fn escaped_length(rest: &[u8], quote: u8) -> Option<usize>
+pub(crate) fn escaped_length(rest: &[u8], quote: u8) -> Option<usize>
     ensures same { result ≡ escaped_length quote rest.now }
     ensures within { IfSome result (λ bytes. bytes ≤ length rest.now) }
 {
