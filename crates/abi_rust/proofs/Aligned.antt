@@ -10,22 +10,22 @@ use Rattle.abi_rust.specs.Aligned.{Aligning, aligning, any_aligned, fields_align
 use Rattle.abi_rust.specs.Meaning.{then_meant, too_deep}
 
 module _ (cx : Context) where
-  pub fields_less : (room left m : ℕ) (fs : List Field) → left + 1 ≡ room → (aligning cx room).of_fields m fs ≡ any_aligned cx (aligning cx left) m fs
+  pub fields_less : (room left : ℕ) (m : Item) (fs : List Field) → left + 1 ≡ room → (aligning cx room).of_fields m fs ≡ any_aligned cx (aligning cx left) m fs
   unfolding aligning
   fields_less zero left m fs is = absurd (omega arith)
   fields_less (suc room) left m fs is = let q : room ≡ left = omega arith in ap (λ r. any_aligned cx (aligning cx r) m fs) q
 
-  pub fields_none : (room m : ℕ) (fs : List Field) → room ≡ 0 → (aligning cx room).of_fields m fs ≡ too_deep
+  pub fields_none : (room : ℕ) (m : Item) (fs : List Field) → room ≡ 0 → (aligning cx room).of_fields m fs ≡ too_deep
   unfolding aligning
   fields_none zero m fs is = refl
   fields_none (suc room) m fs is = absurd (omega arith)
 
-  pub type_less : (room left m : ℕ) (t : Written) → left + 1 ≡ room → (aligning cx room).of_type m t ≡ type_aligned cx (aligning cx left) m t
+  pub type_less : (room left : ℕ) (m : Item) (t : Written) → left + 1 ≡ room → (aligning cx room).of_type m t ≡ type_aligned cx (aligning cx left) m t
   unfolding aligning
   type_less zero left m t is = absurd (omega arith)
   type_less (suc room) left m t is = let q : room ≡ left = omega arith in ap (λ r. type_aligned cx (aligning cx r) m t) q
 
-  pub type_none : (room m : ℕ) (t : Written) → room ≡ 0 → (aligning cx room).of_type m t ≡ too_deep
+  pub type_none : (room : ℕ) (m : Item) (t : Written) → room ≡ 0 → (aligning cx room).of_type m t ≡ too_deep
   unfolding aligning
   type_none zero m t is = refl
   type_none (suc room) m t is = absurd (omega arith)
@@ -41,9 +41,9 @@ module _ (cx : Context) where
   item_none (suc room) it fs is = absurd (omega arith)
 
   module _ (A : Aligning) where
-    pub aligned_more : (m i : ℕ) (all : List Field) (f : Field) → i < length all → f ≡ get_or all i f
+    pub aligned_more : (m : Item) (i : ℕ) (all : List Field) (f : Field) → i < length all → f ≡ get_or all i f
         → any_aligned cx A m (drop i all) ≡ then_meant (λ is. if is then Ok true else any_aligned cx A m (drop (i + 1) all)) (A.of_type m f.ty)
     aligned_more m i all f more is = rw (drop-cons all i f, ← is, add-one i) refl
 
-    pub aligned_done : (m i : ℕ) (all : List Field) → length all ≤ i → any_aligned cx A m (drop i all) ≡ Ok false
+    pub aligned_done : (m : Item) (i : ℕ) (all : List Field) → length all ≤ i → any_aligned cx A m (drop i all) ≡ Ok false
     aligned_done m i all done = ap (λ rest. any_aligned cx A m rest) (drop_all i all done)

@@ -11,14 +11,14 @@ use Rattle.abi_rust.specs.declared.fault.FaultKind.TheVariants.{AlignedInPacked,
 use Rattle.abi_rust.specs.declared.paths.Found.{Found}
 use Rattle.abi_rust.specs.declared.paths.Found.TheVariants.{Item as ItemFound}
 use Rattle.abi_rust.specs.declared.work.Context.{Context}
-use Rattle.abi_rust.specs.Kinds.{found_by, item_at}
+use Rattle.abi_rust.specs.Kinds.{found_by, is_parameter_of, item_at}
 use Rattle.abi_rust.specs.Meaning.{Meaning, then_meant, fault_at, too_deep}
 use Rattle.abi_rust.specs.Names.{root}
 
--- whether fields that are written in a module, a type that is, or an item has `align`, or a field of it
+-- whether fields that are written in an item, a type that is, or an item has `align`, or a field of it
 pub record Aligning : Type 0 where
-  pub of_fields : (inside : ℕ) → List Field → Meaning Bool
-  pub of_type : (inside : ℕ) → Written → Meaning Bool
+  pub of_fields : (inside : Item) → List Field → Meaning Bool
+  pub of_type : (inside : Item) → Written → Meaning Bool
   pub of_item : Item → List Field → Meaning Bool
 
 -- the place of the `repr`, where there is one; else this place
@@ -48,12 +48,12 @@ discriminants_checked it vs =
 module _ (cx : Context) where
   module _ (A : Aligning) where
     -- one of these fields has `align` in its type, or in a field of that
-    abbrev pub any_aligned : (inside : ℕ) → List Field → Meaning Bool
-    any_aligned m [] = Ok false
-    any_aligned m (f ∷ fs) = then_meant (λ is. if is then Ok true else any_aligned m fs) (A.of_type m f.ty)
+    abbrev pub any_aligned : (inside : Item) → List Field → Meaning Bool
+    any_aligned it [] = Ok false
+    any_aligned it (f ∷ fs) = then_meant (λ is. if is then Ok true else any_aligned it fs) (A.of_type it f.ty)
 
     abbrev pub kind_aligned : Item → ItemKind → Meaning Bool
-    kind_aligned it (AliasItem t) = A.of_type it.«module» t
+    kind_aligned it (AliasItem t) = A.of_type it t
     kind_aligned it (StructItem fields) = A.of_item it fields.all.items
     kind_aligned it (UnionItem fields) = A.of_item it fields.all.items
     kind_aligned it _ = Ok false
@@ -66,24 +66,24 @@ module _ (cx : Context) where
     found_aligned (Some (ItemFound n)) = item_aligned (item_at cx.items.now cx.scope.now n)
     found_aligned _ = Ok false
 
-    -- a type has `align`, or a field of it: by what it names alone
-    unfoldable pub type_aligned : (inside : ℕ) → Written → Meaning Bool
-    type_aligned m t = found_aligned (found_by cx.items.now cx.scope.now m t)
+    -- a type has `align`, or a field of it: by what it names alone, which of a parameter is nothing
+    unfoldable pub type_aligned : (inside : Item) → Written → Meaning Bool
+    type_aligned it t = if is_parameter_of it t then Ok false else found_aligned (found_by cx.items.now cx.scope.now it.«module» t)
 
     -- a struct or a union has `align`, or a field of it, of which the standard library's aren't looked at
     unfoldable pub fields_aligned : Item → List Field → Meaning Bool
     fields_aligned it fs =
         if is_some it.repr.align then Ok true
-        else (if nat_eq (root cx.items.now it.«module») cx.scope.now.std_root then Ok false else A.of_fields it.«module» fs)
+        else (if nat_eq (root cx.items.now it.«module») cx.scope.now.std_root then Ok false else A.of_fields it fs)
 
   -- the same, where types may need one another so deep
   unfoldable pub aligning : (room : ℕ) → Aligning
-  aligning zero = record { of_fields = λ m fs. too_deep; of_type = λ m t. too_deep; of_item = λ it fs. too_deep }
+  aligning zero = record { of_fields = λ it fs. too_deep; of_type = λ it t. too_deep; of_item = λ it fs. too_deep }
   aligning (suc room) = record { of_fields = any_aligned (aligning room); of_type = type_aligned (aligning room); of_item = fields_aligned (aligning room) }
 
   -- a packed struct or union has no field whose type has `align`
   unfoldable pub packed_checked : (room : ℕ) → Item → List Field → Meaning Bool
   packed_checked room it fs =
       if is_some it.repr.packed
-      then then_meant (λ is. if is then fault_at (place_of_repr it) AlignedInPacked else Ok true) ((aligning room).of_fields it.«module» fs)
+      then then_meant (λ is. if is then fault_at (place_of_repr it) AlignedInPacked else Ok true) ((aligning room).of_fields it fs)
       else Ok true

@@ -54,6 +54,16 @@ abbrev pub number_from : (counted : ℕ) → Symbol → List Parameter → Optio
 number_from n name [] = None
 number_from n name (p ∷ ps) = if is_same_name p.name name then Some n else number_from (suc n) name ps
 
+-- one of an item's parameters has this name
+abbrev pub has_parameter : Item → Option Symbol → Bool
+has_parameter it None = false
+has_parameter it (Some name) = is_some (number_from 0 name it.parameters.items)
+
+-- a type is one of an item's parameters
+abbrev pub is_parameter_of : Item → Written → Bool
+is_parameter_of it (PathType p) = has_parameter it (single_name p)
+is_parameter_of it _ = false
+
 -- the name that so many names are, where they are one
 abbrev pub name_alone : (count : ℕ) → List Segment → Option Symbol
 name_alone (suc zero) (s ∷ ss) = Some (out-Segment s).name

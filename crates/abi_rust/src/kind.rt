@@ -3,7 +3,7 @@
 ghost use Rattle.std.specs.Prelude.{◌≡◌, IfSome, slice_get};
 ghost use Rattle.std.specs.Option.{option_and_then, option_copied, option_map};
 ghost use Rattle.rust_source.specs.declared.syntax.Path.{out-Path};
-ghost use Rattle.abi_rust.specs.Kinds.{constant_type, given_named, is_shift, is_test, kind_of_names, kind_found, kind_given, kind_of_expr, kind_of_primitive, kind_written, limit_type, name_alone, number_from, operand_kind, operands_kind, outside, parameter_named, parameter_type, parameters_of, path_kind, single_name};
+ghost use Rattle.abi_rust.specs.Kinds.{constant_type, given_named, is_parameter_of, is_shift, is_test, kind_of_names, kind_found, kind_given, kind_of_expr, kind_of_primitive, kind_written, limit_type, name_alone, number_from, operand_kind, operands_kind, outside, parameter_named, parameter_type, parameters_of, path_kind, single_name};
 ghost use Rattle.abi_rust.specs.Places.{last_name};
 ghost use Rattle.abi_rust.specs.Types.{given_of, where_of};
 
@@ -39,6 +39,19 @@ pub(crate) fn parameter_named(
 {
     let item = item_at(cx.items, item?)?;
     number_named(item, name)
+}
+
+/// Whether a type that is written in an item is one of its parameters.
+pub(crate) fn is_parameter_of(item: &Item, ty: &Type) -> bool
+    ensures { result ≡ is_parameter_of item.now ty.now }
+{
+    let Type::Path(path) = ty else {
+        return false;
+    };
+    match single_name(path) {
+        Some(name) => number_named(item, name).is_some(),
+        None => false,
+    }
 }
 
 /// The number of the first parameter of this name.

@@ -7,6 +7,7 @@ ghost use Rattle.abi_rust.specs.Meaning.{Means, then_meant};
 ghost use Rattle.abi_rust.specs.Measure.{IsMeasure, Measure, room_takers, takes_room, transparent_checked};
 
 use crate::fault::{FaultKind, Stop, stop_at};
+use crate::kind::is_parameter_of;
 use crate::paths::{Found, found_by, item_at, root_of};
 use crate::told::size_and_align;
 use crate::work::{Context, Work, less};
@@ -82,26 +83,26 @@ pub(crate) fn check_packed<'a>(
     if item.repr.packed.is_none() {
         return Ok(());
     }
-    if has_aligned(cx, work, item.module, fields.all.as_slice(), room)? {
+    if has_aligned(cx, work, item, fields.all.as_slice(), room)? {
         return Err(stop_at(place_of(item), FaultKind::AlignedInPacked));
     }
     Ok(())
 }
 
-/// Whether a field that is written in a module has `align` in its type, or in a field of that.
+/// Whether a field that is written in an item has `align` in its type, or in a field of that.
 #[cycle(aligning)]
 #[tactic(auto, using(crate::proofs::Aligned::fields_less, crate::proofs::Aligned::fields_none))]
 fn has_aligned<'a>(
     cx: &Context<'a, '_>,
     work: &mut Work<'a>,
-    module: u32,
+    inside: &Item,
     fields: &[Field],
     room: u32,
 ) -> Result<bool, Stop>
-    ensures { Means (λ is. is) ((aligning cx.now room).of_fields «module» fields.now) result }
+    ensures { Means (λ is. is) ((aligning cx.now room).of_fields inside.now fields.now) result }
 {
     let room = less(room)?;
-    any_aligned(cx, work, module, fields, room)
+    any_aligned(cx, work, inside, fields, room)
 }
 
 /// The same, within less room.
@@ -110,35 +111,35 @@ fn has_aligned<'a>(
 fn any_aligned<'a>(
     cx: &Context<'a, '_>,
     work: &mut Work<'a>,
-    module: u32,
+    inside: &Item,
     fields: &[Field],
     room: u32,
 ) -> Result<bool, Stop>
-    ensures { Means (λ is. is) (any_aligned cx.now (aligning cx.now room) «module» fields.now) result }
+    ensures { Means (λ is. is) (any_aligned cx.now (aligning cx.now room) inside.now fields.now) result }
 {
     for field in fields {
-        if is_aligned(cx, work, module, &field.ty, room)? {
+        if is_aligned(cx, work, inside, &field.ty, room)? {
             return Ok(true);
         }
     }
     Ok(false)
 }
 
-/// Whether a type that is written in a module has `align`, or a field of it has.
+/// Whether a type that is written in an item has `align`, or a field of it has; a parameter of the item hasn't.
 #[cycle(aligning)]
 #[tactic(auto, using(crate::proofs::Aligned::type_less, crate::proofs::Aligned::type_none))]
 fn is_aligned<'a>(
     cx: &Context<'a, '_>,
     work: &mut Work<'a>,
-    module: u32,
+    inside: &Item,
     ty: &Type,
     room: u32,
 ) -> Result<bool, Stop>
-    ensures { Means (λ is. is) ((aligning cx.now room).of_type «module» ty.now) result }
+    ensures { Means (λ is. is) ((aligning cx.now room).of_type inside.now ty.now) result }
 {
     work.spend()?;
     let room = less(room)?;
-    is_aligned_with(cx, work, module, ty, room)
+    is_aligned_with(cx, work, inside, ty, room)
 }
 
 /// The same, within less room.
@@ -147,20 +148,23 @@ fn is_aligned<'a>(
 fn is_aligned_with<'a>(
     cx: &Context<'a, '_>,
     work: &mut Work<'a>,
-    module: u32,
+    inside: &Item,
     ty: &Type,
     room: u32,
 ) -> Result<bool, Stop>
-    ensures { Means (λ is. is) (type_aligned cx.now (aligning cx.now room) «module» ty.now) result }
+    ensures { Means (λ is. is) (type_aligned cx.now (aligning cx.now room) inside.now ty.now) result }
 {
-    let Some(Found::Item(number)) = found_by(cx.items, cx.scope, module, ty) else {
+    if is_parameter_of(inside, ty) {
+        return Ok(false);
+    }
+    let Some(Found::Item(number)) = found_by(cx.items, cx.scope, inside.module, ty) else {
         return Ok(false);
     };
     let Some(item) = item_at(cx.items, number) else {
         return Ok(false);
     };
     match &item.kind {
-        ItemKind::Alias(ty) => is_aligned(cx, work, item.module, ty, room),
+        ItemKind::Alias(ty) => is_aligned(cx, work, item, ty, room),
         ItemKind::Struct(fields) => is_item_aligned(cx, work, item, fields.all.as_slice(), room),
         ItemKind::Union(fields) => is_item_aligned(cx, work, item, fields.all.as_slice(), room),
         _ => Ok(false),
@@ -201,7 +205,7 @@ fn is_item_aligned_with<'a>(
     if root_of(cx.items, item.module) == cx.scope.std_root {
         return Ok(false);
     }
-    has_aligned(cx, work, item.module, fields, room)
+    has_aligned(cx, work, item, fields, room)
 }
 
 /// Whether a discriminant of these variants is written.

@@ -24,4 +24,4 @@ decreases-is_item_aligned_with l = 2 * l.room + 1
 -- one of the fields that are left is aligned where one of all is
 abbrev pub invariant-any_aligned-loop-field : goal.invariant-any_aligned-loop-field
 invariant-any_aligned-loop-field l =
-    any_aligned l.cx (aligning l.cx l.room) l.«module» (drop l.field-index l.fields) ≡ any_aligned l.cx (aligning l.cx l.room) l.«module» l.fields
+    any_aligned l.cx (aligning l.cx l.room) l.inside (drop l.field-index l.fields) ≡ any_aligned l.cx (aligning l.cx l.room) l.inside l.fields
