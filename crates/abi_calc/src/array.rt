@@ -1,6 +1,6 @@
 //! Arrays and slices.
 
-ghost use Rattle.std.specs.Prelude.{◌≡◌, ◌≢◌, ℕ, ◌*◌, ◌≤◌, Err, IfErr, IfOk, None, is_some, unwrap_or};
+ghost use Rattle.std.specs.Prelude.{◌≡◌, ◌≢◌, ◌*◌, ◌≤◌, Err, IfErr, IfOk, None, is_some, unwrap_or};
 ghost use Rattle.abi_base.specs.DataLayout.{IsLawfulDataLayout, size_bound};
 ghost use Rattle.abi_scalar.specs.declared.backend_repr.BackendRepr.TheVariants.{Memory};
 ghost use Rattle.abi_scalar.specs.Lawful.{IsLawfulLayout};

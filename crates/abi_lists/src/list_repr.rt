@@ -1,6 +1,6 @@
 //! How a list of fields is to be laid out.
 
-ghost use Rattle.std.specs.Prelude.{◌≡◌, ℕ, ◌+◌, ◌^◌, ◌<◌, ◌≤◌};
+ghost use Rattle.std.specs.Prelude.{◌≡◌, ◌+◌, ◌^◌, ◌<◌, ◌≤◌};
 ghost use Rattle.std.specs.Int.{next_multiple_of};
 ghost use Rattle.abi_lists.specs.Part.{max_align};
 ghost use Rattle.abi_lists.specs.Placement.{cut, own_align, list_repr, unraised};

@@ -1,12 +1,12 @@
 //! How a code generator sees a list of fields.
 
-ghost use Rattle.std.specs.Prelude.{◌≡◌, ℕ, ◌+◌, ◌^◌, ◌<◌, ◌≤◌, ◌⊎◌, ⊤, All, IfOk, MatchBool, length, not, slice_index};
+ghost use Rattle.std.specs.Prelude.{◌≡◌, ◌+◌, ◌<◌, ◌⊎◌, ⊤, All, MatchBool, length, not};
 ghost use Rattle.abi_lists.specs.declared.list_view.Bulk.TheVariants.{More, Nothing};
-ghost use Rattle.abi_base.specs.DataLayout.{IsLawfulDataLayout, size_bound};
+ghost use Rattle.abi_base.specs.DataLayout.{IsLawfulDataLayout};
 ghost use Rattle.abi_scalar.specs.Scalar.{IsLawfulScalar};
 ghost use Rattle.abi_lists.specs.Part.{is_empty_view};
 ghost use Rattle.abi_lists.specs.LawfulPart.{IsLawfulPart};
-ghost use Rattle.abi_lists.specs.ListView.{any_unsized, bulk_of, bulk_with, bulky_align, bulky_parts, bulky_view, kept_view, list_view, one_view, pair_view, part_at, transparent_align, two_view};
+ghost use Rattle.abi_lists.specs.ListView.{any_unsized, bulk_of, bulk_with, bulky_parts, bulky_view, kept_view, list_view, one_view, pair_view, transparent_align, two_view};
 
 use crate::part::{Part, Parts, is_unsized};
 use abi_base::{Align, Size, TargetDataLayout};

@@ -1,6 +1,6 @@
 //! The order that fields have in memory.
 
-ghost use Rattle.std.specs.Prelude.{◌≡◌, ℕ, ◌+◌, ◌≤◌, All, IfOk, IsPermutation, OnOk, fold, map, max, length};
+ghost use Rattle.std.specs.Prelude.{◌≡◌, ◌+◌, ◌≤◌, All, IfOk, IsPermutation, OnOk, fold, map, max, length};
 ghost use Rattle.std.specs.List.Sorted.{IsSortedByKey, IsStableByKey};
 ghost use Rattle.abi_lists.specs.Part.{max_align};
 ghost use Rattle.abi_lists.specs.LawfulPart.{IsAlignedPart};

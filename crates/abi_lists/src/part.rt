@@ -1,8 +1,6 @@
 //! What the layout of a list asks of its fields.
 
 ghost use Rattle.std.specs.Prelude.{◌≡◌, ◌<◌, All, IfSome, length, map, slice_index_or};
-ghost use Rattle.std.specs.Option.{option_map_or};
-ghost use Rattle.abi_base.specs.DataLayout.{IsLawfulDataLayout};
 ghost use Rattle.abi_scalar.specs.Lawful.{IsLawfulLayout, IsLawfulNiche};
 ghost use Rattle.abi_lists.specs.ListView.{part_at};
 ghost use Rattle.abi_lists.specs.Order.{movable};

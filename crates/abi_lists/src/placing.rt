@@ -1,6 +1,6 @@
 //! Fields placed one after another, in an order.
 
-ghost use Rattle.std.specs.Prelude.{◌≡◌, ℕ, ◌+◌, ◌^◌, ◌<◌, ◌≤◌, ◌⊎◌, All, IfOk, IfErr, IfSome, List, Some, None, length, map, slice_index, IsPermutation, not, ◌&&◌};
+ghost use Rattle.std.specs.Prelude.{◌≡◌, ◌+◌, ◌^◌, ◌<◌, ◌⊎◌, All, IfOk, IfErr, Some, None, length, map, slice_index, IsPermutation, not, ◌&&◌};
 ghost use Rattle.abi_base.specs.DataLayout.{IsLawfulDataLayout, size_bound};
 ghost use Rattle.abi_lists.specs.Part.{is_unsized, max_align};
 ghost use Rattle.abi_lists.specs.Placement.{align_of, prefix_align, end_from, in_order, IsLawfulPrefix, offsets_from, source_order, start_of};

@@ -1,6 +1,6 @@
 //! The layout of a list's fields, its niche as near an edge as the named orders bring it.
 
-ghost use Rattle.std.specs.Prelude.{◌≡◌, ℕ, ◌+◌, ◌^◌, ◌<◌, ◌≤◌, ◌⊎◌, All, Err, IfOk, IfErr, IfSome, IsPermutation, IsTrue, List, Some, None, length, map, slice_index, if◌then◌else◌};
+ghost use Rattle.std.specs.Prelude.{◌≡◌, ◌+◌, ◌<◌, ◌≤◌, ◌⊎◌, All, Err, IfOk, IfErr, IfSome, IsPermutation, Some, None, length, if◌then◌else◌};
 ghost use Rattle.abi_base.specs.DataLayout.{IsLawfulDataLayout, size_bound};
 ghost use Rattle.abi_scalar.specs.Lawful.{IsLawfulNiche};
 ghost use Rattle.abi_scalar.specs.Niche.{IsReadableNiche};

@@ -1,6 +1,6 @@
 //! How types without parts, and pairs of scalars, are laid out.
 
-ghost use Rattle.std.specs.Prelude.{◌≡◌, ◌+◌, ◌<◌, IfOk, IfErr, Err, None, Ok, OnErr, false, length, true};
+ghost use Rattle.std.specs.Prelude.{◌≡◌, ◌<◌, IfOk, IfErr, Err, None, Ok, OnErr, false, true};
 ghost use Rattle.abi_base.specs.DataLayout.{IsLawfulDataLayout, size_bound};
 ghost use Rattle.abi_scalar.specs.Pair.{pair_size};
 ghost use Rattle.abi_scalar.specs.Scalar.{primitive_of};

@@ -1,6 +1,6 @@
 //! Nodes that are put behind others.
 
-ghost use Rattle.std.specs.Prelude.{◌≡◌, ◌<◌, ◌≤◌, IfErr, IfOk, OnErr, length, map, true};
+ghost use Rattle.std.specs.Prelude.{◌≡◌, ◌≤◌, IfErr, IfOk, OnErr, length, map, true};
 ghost use Rattle.abi_laid.specs.Placed.{layout_of};
 ghost use Rattle.abi_laid.specs.Nodes.{types_in, meaning};
 ghost use Rattle.abi_laid.specs.Laws.{keeps_laws};

@@ -4,8 +4,8 @@ ghost use Rattle.std.specs.Prelude.{◌≡◌, ◌+◌, ◌≤◌, ◌⊎◌, Al
 ghost use Rattle.abi_base.specs.DataLayout.{IsLawfulDataLayout, size_bound};
 ghost use Rattle.abi_scalar.specs.Lawful.{IsLawfulLayout};
 ghost use Rattle.abi_lists.specs.List.{HasLawfulAligns, IsListError};
-ghost use Rattle.abi_lists.specs.Placement.{IsLawfulPrefix, IsNonEmptyIfUnsized, IsSized};
-ghost use Rattle.abi_calc.specs.Enums.Lists.{AreGoodLists, AreListLayouts, AreListsOf, IsFirstListError, IsGoodList, align_with_all, behind_tag, tag_align};
+ghost use Rattle.abi_lists.specs.Placement.{IsLawfulPrefix, IsSized};
+ghost use Rattle.abi_calc.specs.Enums.Lists.{AreGoodLists, AreListLayouts, AreListsOf, IsFirstListError, IsGoodList, align_with_all, behind_tag};
 
 use crate::calculator::LayoutCalculator;
 use abi_base::{Align, HasDataLayout, Integer, StructKind, TargetDataLayout};

@@ -2,7 +2,6 @@
 
 ghost use Rattle.std.specs.Prelude.{◌≡◌, ◌≤◌, ◌<◌, ◌+◌, ◌⊎◌, All, Err, IfErr, IfOk, IfSome, None, OnOk, length, map};
 ghost use Rattle.abi_base.specs.DataLayout.{IsLawfulDataLayout, size_bound};
-ghost use Rattle.abi_base.specs.Integer.{integer_size};
 ghost use Rattle.abi_scalar.specs.Lawful.{IsLawfulLayout};
 ghost use Rattle.abi_scalar.specs.Scalar.{IsLawfulScalar, scalar_size};
 ghost use Rattle.abi_scalar.specs.Variant.{variant_of};
