@@ -2,12 +2,12 @@
 
 ghost use Rattle.std.specs.Prelude.{◌≡◌, ◌<◌, IfOk, IfErr, Err, None, Ok, OnErr, false, true};
 ghost use Rattle.abi_base.specs.DataLayout.{IsLawfulDataLayout, size_bound};
-ghost use Rattle.abi_scalar.specs.Pair.{pair_size};
+ghost use Rattle.abi_scalar.specs.Pair.{pair_layout, pair_size};
 ghost use Rattle.abi_scalar.specs.Scalar.{primitive_of};
 ghost use Rattle.abi_laid.specs.Tree.{scalar, pair, never, unit};
 ghost use Rattle.abi_scalar.specs.Lawful.{IsLawfulLayout};
 ghost use Rattle.abi_laid.specs.Placed.{layout_of};
-ghost use Rattle.rustc_abi.specs.Laying.{one_scalar, pair_answer, scalar_answer, two_scalars, unless};
+ghost use Rattle.rustc_abi.specs.Laying.{one_scalar, pair_answer, placed_by, scalar_answer, two_scalars};
 ghost use Rattle.rustc_abi.specs.declared.error.LayError.{LayError};
 ghost use Rattle.rustc_abi.specs.ScalarFault.{is_lawful_primitive, has_range_within, scalar_fault};
 ghost use Rattle.abi_laid.specs.Well.{IsPut};
@@ -102,40 +102,47 @@ pub(crate) fn add_scalar(
     }
 }
 
-/// The fault of two scalars, if they have one: the first's, then the second's, then that their size isn't below the bound.
-/// No memory is asked for.
-fn pair_fault(alloc: Global, dl: &TargetDataLayout, a: Scalar, b: Scalar) -> Option<LayError>
+/// Two scalars' layout, or their fault: the first's, then the second's, then that their size isn't below the bound. No
+/// memory is asked for.
+fn lay_two(
+    alloc: Global,
+    dl: &TargetDataLayout,
+    a: Scalar,
+    b: Scalar,
+) -> Result<LayoutData<FieldIdx, VariantIdx>, LayError>
     requires { IsLawfulDataLayout dl.now }
-    ensures { pair_answer dl.now a b ≡ unless result (Ok (two_scalars dl.now a b)) }
+    ensures exact { IfOk result (λ layout. layout ≡ pair_layout 0 0 1 dl.now a b) }
+    ensures lawful { IfOk result (IsLawfulLayout dl.now) }
+    ensures answer { pair_answer dl.now a b ≡ placed_by (λ _. two_scalars dl.now a b) result }
 {
-    let first = scalar_fault(dl, a);
-    if first.is_some() {
-        return first;
+    if let Some(fault) = scalar_fault(dl, a) {
+        return Err(fault);
     }
-    let second = scalar_fault(dl, b);
-    if second.is_some() {
-        return second;
+    if let Some(fault) = scalar_fault(dl, b) {
+        return Err(fault);
     }
-    let layout: LayoutData<FieldIdx, VariantIdx> = LayoutData::scalar_pair(alloc, &dl, a, b);
+    let layout = LayoutData::scalar_pair(alloc, &dl, a, b);
     if layout.size.bytes() < dl.obj_size_bound() {
-        None
+        Ok(layout)
     } else {
-        Some(LayError::SizeOverflow)
+        Err(LayError::SizeOverflow)
     }
 }
 
-/// Nodes for two scalars without faults, whose size is below the bound, and one for both.
+/// Nodes for two scalars without faults, whose size is below the bound, and one for both, with their layout.
 fn add_two(
-    alloc: Global,
     dl: &TargetDataLayout,
     nodes: &mut Nodes,
     a: Scalar,
     b: Scalar,
+    layout: LayoutData<FieldIdx, VariantIdx>,
 ) -> Result<usize, LayError>
     requires data_layout { IsLawfulDataLayout dl.now }
     requires first { scalar_fault dl.now a ≡ None }
     requires second { scalar_fault dl.now b ≡ None }
     requires below { pair_size dl.now a b < size_bound dl.now }
+    requires exact { layout ≡ pair_layout 0 0 1 dl.now a b }
+    requires lawful { IsLawfulLayout dl.now layout }
     ensures ok { IfOk result (λ i. IsAdded dl.now nodes.old nodes.new i (pair a b)) }
     ensures own { IfOk result (IsOwnPut nodes.old nodes.new) }
     ensures err { IfErr result (λ e. e ≡ LayError.OutOfMemory) }
@@ -143,7 +150,6 @@ fn add_two(
 {
     let first = add_lawful(dl, nodes, a)?;
     let second = add_lawful(dl, nodes, b)?;
-    let layout = LayoutData::scalar_pair(alloc, &dl, a, b);
     add(nodes, layout, Shape::Pair { first, second })
 }
 
@@ -163,10 +169,8 @@ pub(crate) fn add_pair(
     ensures fault { (e : LayError) → pair_answer dl.now a b ≡ Err e → result ≡ Err e }
     ensures behind { AreStillThere nodes.old nodes.new }
 {
-    if let Some(fault) = pair_fault(alloc, dl, a, b) {
-        return Err(fault);
-    }
-    add_two(alloc, dl, nodes, a, b)
+    let layout = lay_two(alloc, dl, a, b)?;
+    add_two(dl, nodes, a, b, layout)
 }
 
 /// A node for a type with no values.
