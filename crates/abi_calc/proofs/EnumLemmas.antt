@@ -38,6 +38,8 @@ pub mod Sums
 pub mod Bounds
 -- where they tell it, no layout with a niche is better than one with a tag
 pub mod TagWins
+-- what is known where one of both is made first
+pub mod WhichFirst
 -- what is promised of each way that a type is laid out
 pub mod Whole
 -- the tag and the variants' fields share no byte

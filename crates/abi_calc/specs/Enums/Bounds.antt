@@ -9,6 +9,8 @@ use Rattle.abi_scalar.specs.declared.layout_data.LayoutData.{LayoutData}
 use Rattle.abi_scalar.specs.declared.repr.ReprOptions.{ReprOptions}
 use Rattle.abi_scalar.specs.Range.{numbers_of}
 use Rattle.abi_lists.specs.Part.{free_numbers, max_align}
+use Rattle.abi_calc.specs.declared.enums.bounds.First.{First}
+use Rattle.abi_calc.specs.declared.enums.bounds.First.TheVariants.{Niche, OnlyTagged, Tagged}
 use Rattle.abi_calc.specs.Enums.Growth.{align_or}
 use Rattle.abi_calc.specs.Enums.Lists.{align_with_all}
 use Rattle.abi_calc.specs.Enums.Path.{is_free}
@@ -71,6 +73,14 @@ least_whole dl variants = next_multiple_of (size_bound dl - least_left (size_bou
 -- the layout with a tag is made first where no niche with as many free numbers, in a whole of so many bytes, is sure to be better
 abbrev pub tag_first : {F V : Type 0} → (asked : Integer) → (least free : ℕ) → (variants : List (List (LayoutData F V))) → Bool
 tag_first asked least free variants = not (outdoes asked (room_of_tag least asked variants) free)
+
+-- which layout is made first: the one with a tag, and no other, where no niche has a free number; that one too, beside these bounds
+-- of one with a niche, where none within them is sure to be better; else the one with a niche
+abbrev pub which_first : {F V : Type 0} → TargetDataLayout → ReprOptions → (asked : Integer) → (variants : List (List (LayoutData F V))) → First
+which_first dl repr asked variants =
+    let least = least_whole dl variants in
+    let free = most_free dl repr variants in
+    if free == 0 then OnlyTagged else if tag_first asked least free variants then Tagged least free else Niche
 
 -- a layout with a tag that has no more bytes than these, and no fewer free numbers, is the better one where no layout with a niche
 -- has fewer bytes or more free numbers

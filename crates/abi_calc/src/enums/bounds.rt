@@ -5,7 +5,7 @@ ghost use Rattle.abi_base.specs.DataLayout.{IsLawfulDataLayout};
 ghost use Rattle.abi_scalar.specs.Lawful.{IsLawfulLayout, IsLawfulNiche};
 ghost use Rattle.abi_scalar.specs.Range.{numbers_of};
 ghost use Rattle.abi_lists.specs.Part.{max_align};
-ghost use Rattle.abi_calc.specs.Enums.Bounds.{fits_behind, greatest_free, greatest_of_all, least_left, least_only, least_whole, left_beside, most_free, most_tag, only_align, outdoes, room_of_tag, tag_first, tag_wins, wins};
+ghost use Rattle.abi_calc.specs.Enums.Bounds.{fits_behind, greatest_free, greatest_of_all, least_left, least_only, least_whole, left_beside, most_free, most_tag, only_align, outdoes, room_of_tag, tag_first, tag_wins, which_first, wins};
 
 use crate::enums::growth::align_at;
 use crate::enums::lists::align_with_all;
@@ -15,6 +15,17 @@ use abi_base::{Align, Integer, Size, TargetDataLayout};
 use abi_index::{Idx, IndexVec};
 use abi_lists::{free_numbers, rounded};
 use abi_scalar::{LayoutData, LayoutHandle, ReprOptions};
+
+/// Which layout of an enum is made first.
+#[derive(Clone, Copy)]
+pub enum First {
+    /// The one with a tag: there is none with a niche.
+    OnlyTagged,
+    /// The one with a tag: one with a niche has at least so many bytes, and at most so many free numbers.
+    Tagged { least: Size, free: u128 },
+    /// The one with a niche, if there is one.
+    Niche,
+}
 
 /// So many bytes without these, none where these are more.
 fn without(whole: Size, part: Size) -> Size
@@ -192,7 +203,7 @@ fn greatest_of_all<FieldIdx: Idx, VariantIdx: Idx, F: LayoutHandle<FieldIdx, Var
 }
 
 /// How many free numbers a layout with a niche has at most: there is none where this is 0.
-pub(crate) fn most_free<FieldIdx: Idx, VariantIdx: Idx, F: LayoutHandle<FieldIdx, VariantIdx>>(
+fn most_free<FieldIdx: Idx, VariantIdx: Idx, F: LayoutHandle<FieldIdx, VariantIdx>>(
     dl: &TargetDataLayout,
     repr: &ReprOptions,
     variants: &[IndexVec<FieldIdx, F>],
@@ -209,7 +220,7 @@ pub(crate) fn most_free<FieldIdx: Idx, VariantIdx: Idx, F: LayoutHandle<FieldIdx
 
 /// How many bytes a layout of these variants has at least: those of the largest one's fields together, rounded up to the
 /// greatest alignment of any field.
-pub(crate) fn least_whole<FieldIdx: Idx, VariantIdx: Idx, F: LayoutHandle<FieldIdx, VariantIdx>>(
+fn least_whole<FieldIdx: Idx, VariantIdx: Idx, F: LayoutHandle<FieldIdx, VariantIdx>>(
     dl: &TargetDataLayout,
     variants: &[IndexVec<FieldIdx, F>],
 ) -> Size
@@ -224,7 +235,7 @@ pub(crate) fn least_whole<FieldIdx: Idx, VariantIdx: Idx, F: LayoutHandle<FieldI
 
 /// Whether a tag that is asked for as this integer has no more numbers than a niche leaves free, however far it grows: then
 /// the layout with a niche is made first, whatever the sizes.
-pub(crate) fn is_outnumbered<FieldIdx: Idx, VariantIdx: Idx, F: LayoutHandle<FieldIdx, VariantIdx>>(
+fn is_outnumbered<FieldIdx: Idx, VariantIdx: Idx, F: LayoutHandle<FieldIdx, VariantIdx>>(
     asked: Integer,
     free: u128,
     variants: &[IndexVec<FieldIdx, F>],
@@ -236,7 +247,7 @@ pub(crate) fn is_outnumbered<FieldIdx: Idx, VariantIdx: Idx, F: LayoutHandle<Fie
 
 /// Whether the layout with a tag of this integer is made first: where one with a niche of so many bytes and free numbers
 /// isn't sure to be the better one.
-pub(crate) fn tag_first<FieldIdx: Idx, VariantIdx: Idx, F: LayoutHandle<FieldIdx, VariantIdx>>(
+fn tag_first<FieldIdx: Idx, VariantIdx: Idx, F: LayoutHandle<FieldIdx, VariantIdx>>(
     asked: Integer,
     least: Size,
     free: u128,
@@ -245,6 +256,33 @@ pub(crate) fn tag_first<FieldIdx: Idx, VariantIdx: Idx, F: LayoutHandle<FieldIdx
     ensures { result ≡ tag_first asked least free (map (map F.layout_of) variants.now) }
 {
     !outdoes(asked, room_of_tag(least, asked, variants), free)
+}
+
+/// Which layout is made first, where the one with a tag is asked for as this integer. The sizes aren't summed up where
+/// they don't matter.
+pub(crate) fn which_first<FieldIdx: Idx, VariantIdx: Idx, F: LayoutHandle<FieldIdx, VariantIdx>>(
+    dl: &TargetDataLayout,
+    repr: &ReprOptions,
+    asked: Integer,
+    variants: &[IndexVec<FieldIdx, F>],
+) -> First
+    requires data_layout { IsLawfulDataLayout dl.now }
+    requires fields { All (All (λ f. IsLawfulLayout dl.now (F.layout_of f))) variants.now }
+    ensures { result ≡ which_first dl.now repr.now asked (map (map F.layout_of) variants.now) }
+{
+    let free = most_free(dl, repr, variants);
+    if free == 0 {
+        return First::OnlyTagged;
+    }
+    if is_outnumbered(asked, free, variants) {
+        return First::Niche;
+    }
+    let least = least_whole(dl, variants);
+    if tag_first(asked, least, free, variants) {
+        First::Tagged { least, free }
+    } else {
+        First::Niche
+    }
 }
 
 /// Whether this layout with a tag is the better one, where one with a niche has at least so many bytes, and at most so

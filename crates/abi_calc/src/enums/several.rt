@@ -16,7 +16,7 @@ ghost use Rattle.abi_calc.specs.Enums.Promised.{AreSizedVariants, IsSizedEnum};
 ghost use Rattle.abi_calc.specs.Enums.Several.{AreLawfulTags, HasEnumSize, IsAskedFor, IsBestAnswer, IsBetterAnswer, IsEnumAnswer, IsSeveralAnswer};
 
 use crate::calculator::LayoutCalculator;
-use crate::enums::bounds::{is_outnumbered, least_whole, most_free, tag_first, tag_wins, wins};
+use crate::enums::bounds::{First, tag_wins, which_first, wins};
 use crate::enums::choice::better;
 use crate::enums::discriminants::{asked_with, counting_of, listed};
 use abi_base::{HasDataLayout, Integer, Size, TargetDataLayout};
@@ -221,19 +221,14 @@ impl<Cx: HasDataLayout> LayoutCalculator<Cx> {
         ensures within { IfOk result
             (λ l. All (λ fields. length fields ≤ FieldIdx.MAX_INDEX + 1) variants.now) }
     {
-        let dl = self.cx.data_layout();
-        let free = most_free(dl, repr, variants);
-        if free == 0 {
-            return self.layout_of_tagged(alloc, variants, repr, asked.0, asked.1, values);
-        }
-        if is_outnumbered(asked.0, free, variants) {
-            return self.layout_niche_first(alloc, repr, variants, asked, values);
-        }
-        let least = least_whole(dl, variants);
-        if tag_first(asked.0, least, free, variants) {
-            self.layout_tag_first(alloc, repr, variants, asked, values, (least, free))
-        } else {
-            self.layout_niche_first(alloc, repr, variants, asked, values)
+        match which_first(self.cx.data_layout(), repr, asked.0, variants) {
+            First::OnlyTagged => {
+                self.layout_of_tagged(alloc, variants, repr, asked.0, asked.1, values)
+            }
+            First::Tagged { least, free } => {
+                self.layout_tag_first(alloc, repr, variants, asked, values, (least, free))
+            }
+            First::Niche => self.layout_niche_first(alloc, repr, variants, asked, values),
         }
     }
 
