@@ -127,6 +127,9 @@ pub reaches : (direct : List (List ℕ)) (scope : Scope) → lists_of scope.reac
 unfolding reached_from
 reaches direct scope same = listed_at scope.reached.items direct (led_to direct) (led_none direct) same
 
+pub reaches_through : (direct is : List (List ℕ)) (scope : Scope) → direct ≡ is → lists_of scope.reached.items ≡ map (led_to direct) direct → Reaches is scope
+reaches_through direct is scope same leads = subst (λ d. Reaches d scope) same (reaches direct scope leads)
+
 none_listed : {S : Type 0} (all : List (Vec ℕ S)) (n : ℕ) → lists_of all ≡ replicate n [] → (m : ℕ) → modules_listed (slice_get all m) ≡ []
 none_listed [] n same m = refl
 none_listed (v ∷ all) zero same m = cc

@@ -13,11 +13,11 @@ use Rattle.abi_rust.specs.Globs.{KeepsGlobs}
 use Rattle.abi_rust.specs.Kinds.{type_named}
 use Rattle.abi_rust.specs.Names.{named_behind, first, found_of, most_uses, own, target, target_with, within}
 use Rattle.abi_rust.specs.OwnConstants.{is_own, last_told, own_at, own_type, own_type_by, type_owning}
-use Rattle.abi_rust.specs.Scope.{constant_standing, module_in, reached_from, same_key, type_standing, use_in}
+use Rattle.abi_rust.specs.Scope.{constant_standing, leads_nowhere, module_in, reached_from, same_key, type_standing, use_in}
 use Rattle.abi_rust.specs.ScopeNames.{HasSameNames, KeepsNames, KeepsOwn}
 use Rattle.abi_rust.specs.Standing.{ModuleName, first_so}
 use Rattle.abi_rust.specs.Words.{symbol_of}
-use Rattle.abi_rust.proofs.GlobLemmas.{rounds_same, same_added}
+use Rattle.abi_rust.proofs.GlobLemmas.{names_on}
 
 -- an error that was passed on
 pub passed_on : {B : Type 0} (P : Stop → Type 0) (e : Stop) (r : Result B Stop) → IsErrAnd r (λ stop. stop ≡ e) → P e → IfErr r P
@@ -44,13 +44,13 @@ with_own scope other = record scope { owners = other.owners; own_constants = oth
 
 -- that tells nothing of what uses bring in
 same_target : (items : Items) (scope other : Scope) (room : ℕ) → target items (with_own scope other) room ≡ target items scope room
-unfolding target target_with first named_behind within own use_in module_in type_standing constant_standing reached_from
+unfolding target target_with first named_behind within own use_in module_in type_standing constant_standing reached_from leads_nowhere
 same_target items scope other zero = refl
 same_target items scope other (suc room) = ap (target_with items scope) (same_target items scope other room)
 
 -- nor of what paths name
 same_type : (items : Items) (scope other : Scope) (m : ℕ) (p : Path) (count : ℕ) → type_named items (with_own scope other) m p count ≡ type_named items scope m p count
-unfolding type_named found_of first named_behind within own use_in module_in type_standing constant_standing reached_from target target_with
+unfolding type_named found_of first named_behind within own use_in module_in type_standing constant_standing reached_from leads_nowhere target target_with
 same_type items scope other m p count = rw (same_target items scope other most_uses) refl
 
 same_types : (items : Items) (scope other : Scope) → type_named items (with_own scope other) ≡ type_named items scope
@@ -75,11 +75,9 @@ unfolding reached_from
 keeps_globs items scope other keeps =
     let same : HasSameNames scope (with_own scope other) = record { roots = record { words = refl; root = refl }; modules = refl; types = refl; constants = refl; uses = refl; prelude = refl } in
     record {
-      rounds = keeps.rounds;
       direct = keeps.direct;
-      followed = rounds_same items keeps.rounds keeps.direct scope (with_own scope other) keeps.followed same (λ m. refl);
-      over = elim keeps.over [
-        | inl none ↦ inl (same_added items scope (with_own scope other) keeps.direct (same_target items scope other most_uses) ∙ none)
-        | inr all ↦ inr all
-      ];
+      before = keeps.before;
+      followed = keeps.followed;
+      same = names_on keeps.before scope (with_own scope other) keeps.same same;
+      leads = λ m. keeps.leads m;
     }

@@ -3,10 +3,12 @@ use Rattle.std.specs.Prelude.{◌≡◌, ◌⊎◌, ℕ, zero, suc, ◌+◌, nat
 use Rattle.std.specs.List.{list_any}
 use Rattle.rust_source.specs.declared.item.Items.{Items}
 use Rattle.rust_source.specs.declared.item.Use.{Use}
+use Rattle.abi_rust.specs.declared.paths.Found.{Found}
+use Rattle.abi_rust.specs.declared.paths.Found.TheVariants.{Module, Item}
 use Rattle.abi_rust.specs.declared.paths.Space.TheVariants.{Types}
 use Rattle.abi_rust.specs.declared.scope.Scope.{Scope}
 use Rattle.abi_rust.specs.Names.{module_found, most_uses, target}
-use Rattle.abi_rust.specs.Scope.{reached_from}
+use Rattle.abi_rust.specs.Scope.{nowhere, reached_from}
 use Rattle.abi_rust.specs.ScopeNames.{HasSameNames}
 use Rattle.abi_rust.specs.Standing.{numbered}
 
@@ -24,6 +26,16 @@ other_than m (Some found) = if nat_eq found m then None else Some found
 abbrev pub glob_target : Items → Scope → (use_number : ℕ) → Use → Option ℕ
 glob_target items scope n u =
     if u.is_glob then other_than u.«module» (module_found (target items scope most_uses n Types)) else None
+
+-- nowhere, but for a module, and for an item: the glob of an enum brings in its variants, which are no types
+abbrev pub nowhere_by : Option Found → Option ℕ
+nowhere_by (Some (Module m)) = None
+nowhere_by (Some (Item n)) = None
+nowhere_by _ = Some nowhere
+
+-- where the use of this number leads, if it is a glob that leads to nothing that is read
+abbrev pub lost_target : Items → Scope → (use_number : ℕ) → Use → Option ℕ
+lost_target items scope n u = if u.is_glob then nowhere_by (target items scope most_uses n Types) else None
 
 -- the module is in the list
 abbrev pub is_in : List ℕ → ℕ → Bool
@@ -57,6 +69,10 @@ with_globs target_of n (u ∷ us) lists = with_globs target_of (n + 1) us (with_
 abbrev pub globs_added : Items → Scope → (direct : List (List ℕ)) → List (List ℕ)
 globs_added items scope direct = with_globs (glob_target items scope) 0 items.uses.items direct
 
+-- what each module's own globs name, and behind that nowhere, if one of them leads there
+abbrev pub lost_added : Items → Scope → (direct : List (List ℕ)) → List (List ℕ)
+lost_added items scope direct = with_globs (lost_target items scope) 0 items.uses.items direct
+
 -- what the module's own globs name, if there is a module
 abbrev pub named_by : (direct : List (List ℕ)) → Option ℕ → List ℕ
 named_by direct None = []
@@ -89,10 +105,16 @@ pub data AreRounds (items : Items) : (rounds : ℕ) → (direct : List (List ℕ
       → HasSameNames before after → Reaches (globs_added items before direct) after
       → AreRounds items (rounds + 1) (globs_added items before direct) after
 
--- each module reaches where its globs lead: rounds were made until none led further, or as many as there are uses and
--- one more
-pub record KeepsGlobs (items : Items) (scope : Scope) : Type 0 where
+-- rounds were made until no glob led further, or as many as there are uses and one more
+pub record AreFollowed (items : Items) (direct : List (List ℕ)) (scope : Scope) : Type 0 where
   pub rounds : ℕ
-  pub direct : List (List ℕ)
-  pub followed : AreRounds items rounds direct scope
+  pub made : AreRounds items rounds direct scope
   pub over : (globs_added items scope direct ≡ direct) ⊎ (rounds ≡ length items.uses.items + 1)
+
+-- each module reaches where its globs lead, when all of them were followed, and nowhere, if one of those leads there
+pub record KeepsGlobs (items : Items) (scope : Scope) : Type 0 where
+  pub direct : List (List ℕ)
+  pub before : Scope
+  pub followed : AreFollowed items direct before
+  pub same : HasSameNames before scope
+  pub leads : Reaches (lost_added items before direct) scope

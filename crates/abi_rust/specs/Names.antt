@@ -1,5 +1,5 @@
 -- What paths name.
-use Rattle.std.specs.Prelude.{ℕ, zero, suc, nat_eq, Bool, false, List, [], ◌∷◌, length, map, slice_get, Option, Some, None, if◌then◌else◌}
+use Rattle.std.specs.Prelude.{ℕ, zero, suc, nat_eq, Bool, false, List, [], ◌∷◌, length, map, not, slice_get, is_some, ◌&&◌, Option, Some, None, if◌then◌else◌}
 use Rattle.std.specs.Option.{option_and_then, option_map, option_or}
 use Rattle.rust_source.specs.declared.item.Items.{Items}
 use Rattle.rust_source.specs.declared.item.Use.{Use}
@@ -8,11 +8,11 @@ use Rattle.rust_source.specs.declared.place.TheConstants.Symbol.{CRATE, SELF, SU
 use Rattle.rust_source.specs.declared.syntax.Path.{Path, out-Path}
 use Rattle.rust_source.specs.declared.syntax.Segment.{out-Segment}
 use Rattle.abi_rust.specs.declared.paths.Found.{Found}
-use Rattle.abi_rust.specs.declared.paths.Found.TheVariants.{Module, Item as ItemFound, Primitive as PrimitiveFound}
+use Rattle.abi_rust.specs.declared.paths.Found.TheVariants.{Module, Item as ItemFound, Primitive as PrimitiveFound, Unknown}
 use Rattle.abi_rust.specs.declared.paths.Space.{Space}
 use Rattle.abi_rust.specs.declared.paths.Space.TheVariants.{Types, Values}
 use Rattle.abi_rust.specs.declared.scope.Scope.{Scope}
-use Rattle.abi_rust.specs.Scope.{constant_standing, module_in, reached_from, type_standing, use_in}
+use Rattle.abi_rust.specs.Scope.{constant_standing, leads_nowhere, module_in, reached_from, type_standing, use_in}
 use Rattle.abi_rust.specs.Words.{is_std, primitive_named, is_same_name}
 
 -- how many uses may lead from one to another
@@ -41,6 +41,20 @@ root_within (suc most) items m = root_above (root_within most items) m (parent i
 unfoldable pub root : Items → (inside : ℕ) → ℕ
 root items m = root_within most_modules items m
 
+-- a module's name
+abbrev pub called : Items → (inside : ℕ) → Option Symbol
+called items m = option_map (λ found. found.name) (slice_get items.modules.items m)
+
+-- the name is `crate`
+abbrev pub is_crate : Option Symbol → Bool
+is_crate None = false
+is_crate (Some name) = is_same_name name CRATE
+
+-- what `crate` names in a module: the root above it, where that is the root of its crate. The root of a file that is
+-- another module of its crate has another name, and what stands in other files isn't known
+abbrev pub crate_above : Items → (inside : ℕ) → Found
+crate_above items m = if is_crate (called items (root items m)) then Module (root items m) else Unknown
+
 -- which names are looked for at a name of a path behind which so many stand: modules before the last
 abbrev pub space_before : (named_behind : ℕ) → Space → Space
 space_before zero space = space
@@ -61,16 +75,39 @@ abbrev pub module_found : Option Found → Option ℕ
 module_found (Some (Module m)) = Some m
 module_found _ = None
 
+-- the other names
+abbrev pub other_space : Space → Space
+other_space Types = Values
+other_space Values = Types
+
+-- what a use brings in that leads to no item of these names, by what it leads to of the others: an import brings in a
+-- name of whichever kind has an item, and where neither has one, what it brings in isn't known, and yet stands before
+-- the names of the prelude and of the language
+abbrev pub unless_other : Option Found → Option Found
+unless_other (Some found) = None
+unless_other None = Some Unknown
+
 -- the names of a path
 abbrev pub names_in_path : Path → List Symbol
 names_in_path p = map (λ s. (out-Segment s).name) (out-Path p).segments.items
 
+-- a name that a glob may bring into a module, if one leads to nothing that is read: it stands before the names of the
+-- prelude and of the language. At the head of a use it is none of the standard library's own names, since it would be
+-- ambiguous there
+abbrev pub perhaps : Scope → (inside : ℕ) → Symbol → (skipped : Option ℕ) → Option Found
+perhaps scope m name skipped =
+    if leads_nowhere scope m && not (is_some skipped && is_std scope.words name) then Some Unknown else None
+
 module _ (items : Items) (scope : Scope) where
   module _ (brought : (use_number : ℕ) → Space → Option Found) where
+    -- the item that a use leads to, or else one that isn't known, unless it leads to one of the other names
+    abbrev pub imported : (use_number : ℕ) → Space → Option Found
+    imported u space = option_or (brought u space) (unless_other (brought u (other_space space)))
+
     -- what a use brings in, but for the one that counts for nothing
     abbrev pub used_by : (skipped : Option ℕ) → Space → Option ℕ → Option Found
     used_by skipped space None = None
-    used_by skipped space (Some u) = if is_skipped skipped u then None else brought u space
+    used_by skipped space (Some u) = if is_skipped skipped u then None else imported u space
 
     -- what a name names in a module without its globs: what stands there, or else what a use brings in
     unfoldable pub own : (inside : ℕ) → Symbol → Space → (skipped : Option ℕ) → Option Found
@@ -90,30 +127,39 @@ module _ (items : Items) (scope : Scope) where
     within_some None name space skipped = None
     within_some (Some m) name space skipped = within m name space skipped
 
+    -- what a name names in a module, or what a glob may bring into it, or else what the prelude has
+    abbrev pub named_near : (inside : ℕ) → Symbol → Space → (skipped : Option ℕ) → Option Found
+    named_near m name space skipped =
+        option_or (within m name space skipped) (option_or (perhaps scope m name skipped) (within_some scope.prelude name space skipped))
+
     -- what a name names that no other stands before: in the module, or else in the prelude, or else everywhere
     abbrev pub first_named : (inside : ℕ) → Symbol → (is_global : Bool) → Space → (skipped : Option ℕ) → Option Found
     first_named m name is_global space skipped =
-        option_or (if is_global then None else option_or (within m name space skipped) (within_some scope.prelude name space skipped))
+        option_or (if is_global then None else named_near m name space skipped)
         (if is_std scope.words name then Some (Module scope.std_root) else option_map PrimitiveFound (primitive_named scope.words name))
 
     -- what the first name of a path names in a module
     unfoldable pub first : (inside : ℕ) → Symbol → (is_global : Bool) → Space → (skipped : Option ℕ) → Option Found
     first m name is_global space skipped =
-        if is_same_name name CRATE then Some (Module (root items m))
+        if is_same_name name CRATE then Some (crate_above items m)
         else (if is_same_name name SELF then Some (Module m)
         else (if is_same_name name SUPER then option_map Module (parent items m)
         else first_named m name is_global space skipped))
 
-    abbrev pub behind_module : Symbol → Space → Option ℕ → Option Found
-    behind_module name space None = None
-    behind_module name space (Some m) =
+    abbrev pub behind_module : Symbol → Space → (inside : ℕ) → Option Found
+    behind_module name space m =
         if is_same_name name SUPER then option_map Module (parent items m)
         else (if is_same_name name SELF then Some (Module m)
-        else within m name space None)
+        else option_or (within m name space None) (perhaps scope m name None))
 
-    -- what a name names behind others, which have to name a module
+    abbrev pub behind_found : Symbol → Space → Option Found → Option Found
+    behind_found name space (Some (Module m)) = behind_module name space m
+    behind_found name space (Some Unknown) = Some Unknown
+    behind_found name space _ = None
+
+    -- what a name names behind others, which have to name a module; what isn't known has only what isn't
     unfoldable pub named_behind : Option Found → Symbol → Space → Option Found
-    named_behind before name space = behind_module name space (module_found before)
+    named_behind before name space = behind_found name space before
 
     -- what names name behind others, so many of them
     abbrev pub behind_all : (count : ℕ) → Space → Option Found → List Symbol → Option Found

@@ -20,9 +20,9 @@ use Rattle.rust_source.specs.declared.syntax.Segment.{Segment, out-Segment}
 use Rattle.rust_source.specs.declared.syntax.«Type».{«Type» as Written, out-Type, Path as PathType}
 use Rattle.rust_source.specs.declared.syntax.Unevaluated.TheVariants.{Associated, Inferred}
 use Rattle.abi_rust.specs.declared.fault.FaultKind.{FaultKind}
-use Rattle.abi_rust.specs.declared.fault.FaultKind.TheVariants.{Binding, NotAType, Overflow, Unevaluated, UnknownType, WrongArguments, WrongKindOfArgument, WrongType}
+use Rattle.abi_rust.specs.declared.fault.FaultKind.TheVariants.{Binding, NotAType, Overflow, Unevaluated, UnknownOrigin, UnknownType, WrongArguments, WrongKindOfArgument, WrongType}
 use Rattle.abi_rust.specs.declared.paths.Found.{Found}
-use Rattle.abi_rust.specs.declared.paths.Found.TheVariants.{Module, Item as ItemFound, Primitive as PrimitiveFound}
+use Rattle.abi_rust.specs.declared.paths.Found.TheVariants.{Module, Item as ItemFound, Primitive as PrimitiveFound, Unknown}
 use Rattle.abi_rust.specs.declared.paths.Space.TheVariants.{Types, Values}
 use Rattle.abi_rust.specs.declared.ty.Kind.{Kind}
 use Rattle.abi_rust.specs.declared.ty.Kind.TheVariants.{Integer as KindInteger}
@@ -171,6 +171,7 @@ module _ (cx : Context) where
     type_named_by w p s (Some (PrimitiveFound found)) = Ok (primitive found)
     type_named_by w p s (Some (ItemFound n)) = R.item_of w n s
     type_named_by w p s (Some (Module m)) = fault_at (place_of_path p) (NotAType (out-Segment s).name)
+    type_named_by w p s (Some Unknown) = fault_at (place_of_path p) (UnknownOrigin (out-Segment s).name)
     type_named_by w p s None = fault_at (place_of_path p) (unknown w p (out-Segment s).name)
 
     abbrev pub named_in : Where → Path → Option Segment → Meaning TyRead

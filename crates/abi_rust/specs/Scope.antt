@@ -1,5 +1,6 @@
 -- What the names of modules are.
-use Rattle.std.specs.Prelude.{ℕ, ◌&&◌, nat_eq, Bool, List, [], slice_get, Option, Some, None, Vec}
+use Rattle.std.specs.Prelude.{ℕ, ◌-◌, ◌^◌, ◌&&◌, nat_eq, Bool, List, [], slice_get, Option, Some, None, Vec}
+use Rattle.std.specs.List.{list_any}
 use Rattle.indexmap.specs.IndexMap.{get}
 use Rattle.rust_source.specs.declared.place.Symbol.{Symbol}
 use Rattle.abi_rust.specs.declared.scope.Scope.{Scope}
@@ -40,3 +41,11 @@ modules_listed (Some ms) = ms.items
 -- the modules that a module's globs lead to
 unfoldable pub reached_from : Scope → (inside : ℕ) → List ℕ
 reached_from s m = modules_listed (slice_get s.reached.items m)
+
+-- where globs lead that lead to nothing that is read: no module has this number, since there are fewer
+abbrev pub nowhere : ℕ
+nowhere = 2 ^ 32 - 1
+
+-- a glob of the module, or of one that its globs lead to, leads to nothing that is read
+unfoldable pub leads_nowhere : Scope → (inside : ℕ) → Bool
+leads_nowhere s m = list_any (λ other. nat_eq other nowhere) (reached_from s m)

@@ -33,6 +33,8 @@ pub enum FaultKind {
     UnknownType(Symbol),
     /// No constant has this name.
     UnknownConstant(Symbol),
+    /// What this name is comes, or may come, from what isn't read here.
+    UnknownOrigin(Symbol),
     /// This name is no type's, but a constant's or a module's.
     NotAType(Symbol),
     /// This type is given another number of arguments than it has parameters, or fewer than have no default.

@@ -39,6 +39,10 @@ fn said_of_name(kind: FaultKind) -> Option<(&'static str, Symbol)>
         FaultKind::RepeatedConstant(name) => Some(("two constants are called ", name)),
         FaultKind::UnknownType(name) => Some(("no type is called ", name)),
         FaultKind::UnknownConstant(name) => Some(("no constant is called ", name)),
+        FaultKind::UnknownOrigin(name) => Some((
+            "it comes, or may come, from what isn't read here: ",
+            name,
+        )),
         FaultKind::NotAType(name) => Some(("no type, but something else is called ", name)),
         FaultKind::WrongArguments(name) => Some((
             "another number of arguments than the parameters of ",

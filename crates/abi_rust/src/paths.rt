@@ -4,7 +4,7 @@ ghost use Rattle.std.specs.Prelude.{◌≡◌, ◌+◌, IfNone, IfSome, length, 
 ghost use Rattle.std.specs.Option.{option_copied};
 ghost use Rattle.rust_source.specs.declared.syntax.Path.{out-Path};
 ghost use Rattle.abi_rust.specs.Kinds.{found_by, most_aliases, type_named};
-ghost use Rattle.abi_rust.specs.Names.{named_behind, beside_module, declared, first, found, found_of, most_modules, most_uses, names_in_path, own, parent, path_named, root, space_before, target, target_with, within};
+ghost use Rattle.abi_rust.specs.Names.{named_behind, beside_module, crate_above, declared, first, found, found_of, imported, most_modules, most_uses, names_in_path, other_space, own, parent, path_named, perhaps, root, space_before, target, target_with, within};
 
 use crate::scope::Scope;
 use crate::ty::Primitive;
@@ -25,6 +25,8 @@ pub(crate) enum Found {
     Module(u32),
     Item(u32),
     Primitive(Primitive),
+    /// What a `use` brings in that leads to nothing that is read here, or what stands in a file that isn't read.
+    Unknown,
 }
 
 /// Which names are looked for.
@@ -65,6 +67,24 @@ pub(crate) fn root_of(items: &Items, module: u32) -> u32
         }
     }
     root
+}
+
+/// What `crate` names in a module: the root above it, where that is the root of its crate. In a file that is another
+/// module of its crate it isn't known.
+fn crate_above(items: &Items, module: u32) -> Found
+    ensures { result ≡ crate_above items.now «module» }
+{
+    let root = root_of(items, module);
+    match items.modules.get(root as usize) {
+        Some(found) => {
+            if found.name == Symbol::CRATE {
+                Found::Module(root)
+            } else {
+                Found::Unknown
+            }
+        }
+        None => Found::Unknown,
+    }
 }
 
 /// What a path in a module names, if anything.
@@ -335,7 +355,7 @@ fn first(
         ≡ first items.now scope.now (target items.now scope.now room) «module» name is_global space skipped }
 {
     if name == Symbol::CRATE {
-        return Some(Found::Module(root_of(items, module)));
+        return Some(crate_above(items, module));
     }
     if name == Symbol::SELF {
         return Some(Found::Module(module));
@@ -345,6 +365,9 @@ fn first(
     }
     if !is_global {
         if let Some(found) = within(items, scope, module, name, space, skipped, room) {
+            return Some(found);
+        }
+        if let Some(found) = perhaps(scope, module, name, skipped) {
             return Some(found);
         }
         if let Some(prelude) = scope.prelude() {
@@ -372,8 +395,10 @@ fn behind(
 ) -> Option<Found>
     ensures { result ≡ named_behind items.now scope.now (target items.now scope.now room) before name space }
 {
-    let Some(Found::Module(module)) = before else {
-        return None;
+    let module = match before {
+        Some(Found::Module(module)) => module,
+        Some(Found::Unknown) => return Some(Found::Unknown),
+        _ => return None,
     };
     if name == Symbol::SUPER {
         return Some(Found::Module(parent_of(items, module)?));
@@ -381,7 +406,22 @@ fn behind(
     if name == Symbol::SELF {
         return Some(Found::Module(module));
     }
-    within(items, scope, module, name, space, None, room)
+    match within(items, scope, module, name, space, None, room) {
+        Some(found) => Some(found),
+        None => perhaps(scope, module, name, None),
+    }
+}
+
+/// What a glob may bring into a module under a name that leads to nothing that is read.
+fn perhaps(scope: &Scope, module: u32, name: Symbol, skipped: Option<u32>) -> Option<Found>
+    ensures { result ≡ perhaps scope.now «module» name skipped }
+{
+    let is_at_head = skipped.is_some() && scope.words.is_std(name);
+    if scope.leads_nowhere(module) && !is_at_head {
+        Some(Found::Unknown)
+    } else {
+        None
+    }
 }
 
 /// What a name names in a module: what stands there, what its uses bring in, and then what its globs do.
@@ -431,7 +471,32 @@ fn own(
     if skipped == Some(number) {
         return None;
     }
-    follow(items, scope, number, space, room)
+    imported(items, scope, number, space, room)
+}
+
+/// What the use of this number brings in: the item that it leads to, or else one that isn't known, unless it leads to
+/// one of the other names.
+#[cycle(names)]
+fn imported(items: &Items, scope: &Scope, number: u32, space: Space, room: u32) -> Option<Found>
+    ensures { result ≡ imported items.now scope.now (target items.now scope.now room) number space }
+{
+    if let Some(found) = follow(items, scope, number, space, room) {
+        return Some(found);
+    }
+    match follow(items, scope, number, other_space(space), room) {
+        Some(_) => None,
+        None => Some(Found::Unknown),
+    }
+}
+
+/// The other names.
+fn other_space(space: Space) -> Space
+    ensures { result ≡ other_space space }
+{
+    match space {
+        Space::Types => Space::Values,
+        Space::Values => Space::Types,
+    }
 }
 
 /// What stands in a module under a name.

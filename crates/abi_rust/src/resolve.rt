@@ -194,6 +194,7 @@ fn resolve_named<'a>(
         Some(Found::Primitive(primitive)) => Ok(Ty::Primitive(primitive)),
         Some(Found::Item(number)) => resolve_item(cx, work, setting, number, last, room),
         Some(Found::Module(_)) => Err(stop_at(at, FaultKind::NotAType(last.name))),
+        Some(Found::Unknown) => Err(stop_at(at, FaultKind::UnknownOrigin(last.name))),
         None => Err(stop_at(at, unknown(cx, setting, path, last.name))),
     }
 }

@@ -1,8 +1,8 @@
 //! The names that each module has.
 
 ghost use Rattle.std.specs.Prelude.{◌≡◌, ◌⊎◌, [], IfErr, IfOk, None, Some, false, map, not, replicate, slice_get};
-ghost use Rattle.abi_rust.specs.Globs.{KeepsGlobs, glob_target, globs_added, is_in, led_to, list_at, lists_of, with_module, with_modules, with_target};
-ghost use Rattle.abi_rust.specs.Scope.{constant_standing, module_in, own_constant, owner_of, reached_from, type_standing, use_in};
+ghost use Rattle.abi_rust.specs.Globs.{AreFollowed, KeepsGlobs, glob_target, globs_added, is_in, led_to, list_at, lists_of, lost_added, lost_target, with_module, with_modules, with_target};
+ghost use Rattle.abi_rust.specs.Scope.{constant_standing, leads_nowhere, module_in, own_constant, owner_of, reached_from, type_standing, use_in};
 ghost use Rattle.abi_rust.specs.ScopeNames.{HasSameNames, HasSameRoots, IsEmpty, KeepsNames, KeepsOwn, repeated_of};
 ghost use Rattle.abi_rust.specs.Standing.{IsMemory};
 
@@ -14,6 +14,9 @@ use crate::words::{Word, Words};
 use indexmap::IndexMap;
 use rust_source::{Items, Symbol, Use};
 use std::alloc::Global;
+
+/// Where globs lead that lead to nothing that is read: no module has this number, since there are fewer.
+const NOWHERE: u32 = u32::MAX;
 
 /// The names that each module has.
 #[derive(Drop)]
@@ -35,7 +38,7 @@ pub(crate) struct Scope {
     owners: IndexMap<u32, u32>,
     /// Uses that bring in a name.
     uses: IndexMap<Key, u32>,
-    /// For each module those that its globs lead to.
+    /// For each module those that its globs lead to, and `NOWHERE` where one of them leads to nothing that is read.
     reached: Vec<Vec<u32>>,
 }
 
@@ -111,10 +114,22 @@ impl Scope {
         Ok(())
     }
 
-    /// Finds the modules that globs lead to, until none leads further: each round but the last finds one that was not
-    /// found before.
+    /// Finds where globs lead: to modules, and to nothing that is read.
     fn follow_globs(&mut self, alloc: Global, items: &Items) -> Result<(), Stop>
         ensures globs { IfOk result (λ _. KeepsGlobs items.now self.new) }
+        ensures same { IfOk result (λ _. HasSameNames self.old self.new) }
+        ensures err { IfErr result IsMemory }
+    {
+        let mut direct = self.follow_rounds(alloc, items)?;
+        self.add_lost(items, &mut direct)?;
+        self.reached = reached_through(alloc, &direct)?;
+        Ok(())
+    }
+
+    /// Finds the modules that globs lead to, until none leads further: each round but the last finds one that was not
+    /// found before. The answer has those that each module's own globs name.
+    fn follow_rounds(&mut self, alloc: Global, items: &Items) -> Result<Vec<Vec<u32>>, Stop>
+        ensures globs { IfOk result (λ direct. AreFollowed items.now (lists_of direct.items) self.new) }
         ensures same { IfOk result (λ _. HasSameNames self.old self.new) }
         ensures err { IfErr result IsMemory }
     {
@@ -123,11 +138,39 @@ impl Scope {
         let rounds = items.uses.len().saturating_add(1);
         for _round in 0..rounds {
             if !self.add_globs(items, &mut direct)? {
-                break;
+                return Ok(direct);
             }
             self.reached = reached_through(alloc, &direct)?;
         }
+        Ok(direct)
+    }
+
+    /// Adds to those that each module's own globs name where a glob of it leads to nothing that is read.
+    fn add_lost(&self, items: &Items, direct: &mut Vec<Vec<u32>>) -> Result<(), Stop>
+        ensures added { IfOk result (λ _.
+            lists_of direct.new.items ≡ lost_added items.now self.now (lists_of direct.old.items)) }
+        ensures err { IfErr result IsMemory }
+    {
+        for (number, used) in items.uses.iter().enumerate() {
+            let target = self.lost_target(items, numbered(number), used);
+            let _is_new = add_target(direct, used.module, target)?;
+        }
         Ok(())
+    }
+
+    /// Where the use of this number leads, if it is a glob that leads to nothing that is read. The glob of an enum brings
+    /// in its variants, which are no types.
+    fn lost_target(&self, items: &Items, number: u32, used: &Use) -> Option<u32>
+        ensures { result ≡ lost_target items.now self.now number used.now }
+    {
+        if !used.is_glob {
+            return None;
+        }
+        match target_of(items, self, number, Space::Types) {
+            Some(Found::Module(_)) => None,
+            Some(Found::Item(_)) => None,
+            _ => Some(NOWHERE),
+        }
     }
 
     /// Adds to each module those that its own globs name, and tells whether one is new.
@@ -222,6 +265,14 @@ impl Scope {
             Some(reached) => reached.as_slice(),
             None => &[],
         }
+    }
+
+    /// Whether a glob of the module, or of one that its globs lead to, leads to nothing that is read.
+    #[tactic(auto, unfolding(crate::specs::Scope::leads_nowhere))]
+    pub(crate) fn leads_nowhere(&self, module: u32) -> bool
+        ensures { result ≡ leads_nowhere self.now «module» }
+    {
+        self.reached(module).contains(&NOWHERE)
     }
 
     /// The module whose names are everywhere.

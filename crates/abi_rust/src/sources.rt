@@ -3,7 +3,7 @@
 ghost use Rattle.std.specs.Prelude.{◌≡◌, ◌-◌, ◌<◌, ◌^◌, ◌++◌, IfErr, IfOk, OnOk, Some, [], length, slice_get, string_bytes};
 ghost use Rattle.rust_source.specs.Growth.{BeginsWith};
 ghost use Rattle.abi_rust.specs.Measure.{IsMeasure, Measure};
-ghost use Rattle.abi_rust.specs.Reading.{AllRead, IsSourceOf, IsUnread, ReadsText, Stops, StopsReading, having, library_text, place_behind};
+ghost use Rattle.abi_rust.specs.Reading.{AllRead, IsSourceOf, IsUnread, ReadsText, Stops, StopsReading, file_kind, having, is_library, library_text, place_behind, root_name};
 ghost use Rattle.abi_rust.specs.Sources.{IsWorkOver, Tells, TellsWritten, fault_told, is_told_of, items_read, modules_told, name_told, place_of_item, place_told, pointer_bits};
 
 use crate::fault::{Fault, FaultKind, FaultPlace, Stop, stop_at};
@@ -17,6 +17,17 @@ use rust_source::{
     CfgTarget, ItemKind, Items, Names, ParameterKind, Place, Source, Symbol, read_items, read_type,
 };
 use std::alloc::{AllocError, Global};
+
+/// What a text is that is read.
+#[derive(Clone, Copy)]
+enum TextKind {
+    /// The standard library's source.
+    Library,
+    /// The root of a crate, which `crate` names.
+    CrateRoot,
+    /// Another file of a crate: a module whose name and place in the crate aren't known.
+    OtherFile,
+}
 
 /// The standard library's types, a file of Rust source, and the names of both.
 #[derive(Drop)]
@@ -57,51 +68,64 @@ impl Sources {
         })
     }
 
-    /// Reads the standard library's types, and then the file. It is called once. After a fault there are no types.
-    pub fn read(&mut self, alloc: Global, target: &CfgTarget<'_>, text: &str) -> Result<(), Fault>
-        ensures ok { IfOk result (λ _. AllRead target.now text.now self.old self.new) }
+    /// Reads the standard library's types, and then the file, which is the root of a crate or another file of one. It is
+    /// called once. After a fault there are no types.
+    pub fn read(
+        &mut self,
+        alloc: Global,
+        target: &CfgTarget<'_>,
+        is_root: bool,
+        text: &str,
+    ) -> Result<(), Fault>
+        ensures ok { IfOk result (λ _. AllRead target.now is_root text.now self.old self.new) }
         ensures err { IfErr result (λ fault. (stop : Stop) × (fault ≡ fault_told self.new stop) ×
-            StopsReading target.now text.now self.old self.new stop) }
+            StopsReading target.now is_root text.now self.old self.new stop) }
     {
-        match self.read_both(alloc, target, text) {
+        match self.read_both(alloc, target, is_root, text) {
             Ok(()) => Ok(()),
             Err(stop) => Err(self.fault(stop)),
         }
     }
 
     /// Reads the standard library's types, and then the file.
-    fn read_both(&mut self, alloc: Global, target: &CfgTarget<'_>, text: &str) -> Result<(), Stop>
-        ensures ok { IfOk result (λ _. AllRead target.now text.now self.old self.new) }
+    fn read_both(
+        &mut self,
+        alloc: Global,
+        target: &CfgTarget<'_>,
+        is_root: bool,
+        text: &str,
+    ) -> Result<(), Stop>
+        ensures ok { IfOk result (λ _. AllRead target.now is_root text.now self.old self.new) }
         ensures err { IfErr result
-            (λ stop. StopsReading target.now text.now self.old self.new stop) }
+            (λ stop. StopsReading target.now is_root text.now self.old self.new stop) }
     {
         let library = library_text();
         self.file = behind(Place(0), library);
-        let std_root = self.read_text(alloc, target, library, Place(0), true)?;
+        let std_root = self.read_text(alloc, target, library, Place(0), TextKind::Library)?;
         self.first = self.items.items.len();
         self.passed_over = self.items.passed_over;
         self.argument = behind(self.file, text);
-        self.root = self.read_text(alloc, target, text, self.file, false)?;
+        self.root = self.read_text(alloc, target, text, self.file, file_kind(is_root))?;
         self.scope = Some(Scope::new(alloc, self.words, &self.items, std_root)?);
         Ok(())
     }
 
-    /// Reads a text whose first byte has a place, in a new root module called `crate`.
+    /// Reads a text whose first byte has a place, in a new root module.
     fn read_text(
         &mut self,
         alloc: Global,
         target: &CfgTarget<'_>,
         text: &str,
         start: Place,
-        is_trusted: bool,
+        kind: TextKind,
     ) -> Result<u32, Stop>
-        ensures read { Stops (ReadsText target.now text.now start.0 is_trusted
+        ensures read { Stops (ReadsText target.now text.now start.0 kind
             (having self.old) (having self.new)) result }
         ensures front { BeginsWith (having self.new).1.items (having self.old).1.items }
         ensures same { self.new
             ≡ record self.old { names = self.new.names; items = self.new.items } }
     {
-        let source = source_of(text, start, is_trusted);
+        let source = source_of(text, start, kind);
         match read_items(alloc, target, &mut self.names, &mut self.items, source) {
             Ok(root) => Ok(root),
             Err(fault) => Err(stop_at(fault.at, FaultKind::Source(fault.kind))),
@@ -321,15 +345,47 @@ fn library_text() -> &'static str
     STD_SOURCES
 }
 
-/// A source of this text, whose first byte has this place, with a root module called `crate`.
-fn source_of<'a>(text: &'a str, start: Place, is_trusted: bool) -> Source<'a>
-    ensures { IsSourceOf text.now start.0 is_trusted result }
+/// What a user's text is.
+fn file_kind(is_root: bool) -> TextKind
+    ensures { result ≡ file_kind is_root }
+{
+    if is_root {
+        TextKind::CrateRoot
+    } else {
+        TextKind::OtherFile
+    }
+}
+
+/// The name of a text's root module.
+fn root_name(kind: TextKind) -> Symbol
+    ensures { result ≡ root_name kind }
+{
+    match kind {
+        TextKind::Library => Symbol::CRATE,
+        TextKind::CrateRoot => Symbol::CRATE,
+        TextKind::OtherFile => Symbol::UNDERSCORE,
+    }
+}
+
+/// Whether a text is the standard library's.
+fn is_library(kind: TextKind) -> bool
+    ensures { result ≡ is_library kind }
+{
+    match kind {
+        TextKind::Library => true,
+        _ => false,
+    }
+}
+
+/// A source of this text, whose first byte has this place.
+fn source_of<'a>(text: &'a str, start: Place, kind: TextKind) -> Source<'a>
+    ensures { IsSourceOf text.now start.0 kind result }
 {
     Source {
         text,
         start,
-        root: Symbol::CRATE,
-        is_trusted,
+        root: root_name(kind),
+        is_trusted: is_library(kind),
     }
 }
 

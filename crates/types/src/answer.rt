@@ -260,7 +260,7 @@ fn tell_read(
     target: &Target,
     sources: &mut Sources,
 ) -> Result<(), Failure> {
-    if let Err(fault) = sources.read(alloc, &target.cfg, under.source) {
+    if let Err(fault) = sources.read(alloc, &target.cfg, options.is_root, under.source) {
         return Err(faulty(alloc, sources, &fault, Spot::Nowhere));
     }
     note(&mut answer.notes, sources)?;

@@ -30,6 +30,8 @@ pub(crate) struct Options<'a> {
     pub(crate) form: Form,
     /// The file, where it isn't standard input.
     pub(crate) file: Option<&'a str>,
+    /// Whether it is the root of a crate, which `crate` names in it.
+    pub(crate) is_root: bool,
 }
 
 /// The option that names a target.
@@ -78,6 +80,11 @@ pub(crate) fn command<'a>(alloc: Global) -> Result<Command<'a>, AllocError> {
         "svg",
         "draws the map of one type, as a picture (SVG)",
     );
+    let root = form_option(
+        alloc,
+        "root",
+        "takes the file for the root of a crate, as lib.rs, main.rs and standard input are",
+    );
     let command = Command::new(alloc, "types")
         .about("Lays out the types that a Rust source defines")
         .arg(target_option(alloc))?
@@ -85,6 +92,7 @@ pub(crate) fn command<'a>(alloc: Global) -> Result<Command<'a>, AllocError> {
         .arg(json)?
         .arg(map)?
         .arg(svg)?
+        .arg(root)?
         .arg(file_argument(alloc))?;
     Ok(command)
 }
@@ -146,6 +154,18 @@ fn form_of(matches: &ArgMatches<'_>) -> Form {
     }
 }
 
+/// Whether a file is the root of a crate by its name; standard input is one.
+fn is_root(file: Option<&str>) -> bool {
+    let Some(path) = file else {
+        return true;
+    };
+    let name = match path.rsplit_once('/') {
+        Some((_, name)) => name,
+        None => path,
+    };
+    name == "lib.rs" || name == "main.rs"
+}
+
 /// What the matches ask for.
 pub(crate) fn options_of<'a>(
     alloc: Global,
@@ -162,11 +182,13 @@ pub(crate) fn options_of<'a>(
     } else {
         default_targets(alloc)?
     };
+    let file = matches.get_str("file");
     Ok(Options {
         targets,
         names_target,
         types,
         form: form_of(matches),
-        file: matches.get_str("file"),
+        file,
+        is_root: matches.get_flag("root") || is_root(file),
     })
 }

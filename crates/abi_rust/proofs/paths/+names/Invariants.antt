@@ -6,17 +6,20 @@ use Rattle.abi_rust.proofs.paths.+names.Given as goal
 abbrev pub decreases-follow : goal.decreases-follow
 decreases-follow l = 8 * l.room
 
+abbrev pub decreases-imported : goal.decreases-imported
+decreases-imported l = 8 * l.room + 1
+
 abbrev pub decreases-own : goal.decreases-own
-decreases-own l = 8 * l.room + 1
+decreases-own l = 8 * l.room + 2
 
 abbrev pub decreases-within : goal.decreases-within
-decreases-within l = 8 * l.room + 2
+decreases-within l = 8 * l.room + 3
 
 abbrev pub decreases-first : goal.decreases-first
-decreases-first l = 8 * l.room + 3
+decreases-first l = 8 * l.room + 4
 
 abbrev pub decreases-behind : goal.decreases-behind
-decreases-behind l = 8 * l.room + 3
+decreases-behind l = 8 * l.room + 4
 
 abbrev pub decreases-follow_names : goal.decreases-follow_names
 decreases-follow_names l = 8 * l.room + 5

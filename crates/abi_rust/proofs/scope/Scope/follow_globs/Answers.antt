@@ -1,48 +1,26 @@
-use Rattle.std.proofs.Common.{◌≡◌, ◌∙◌, ◌+◌, ◌<◌, ◌^◌, arith, inl, inr, length, refl, sym}
+-- The globs were followed, and then those that lead nowhere added.
+use Rattle.std.proofs.Common.{refl}
 use Rattle.abi_rust.specs.Globs.{lists_of}
 use Rattle.abi_rust.specs.ScopeNames.{HasSameNames}
-use Rattle.abi_rust.proofs.GlobLemmas.{begun, names_on, once_more}
+use Rattle.abi_rust.proofs.GlobLemmas.{names_on, reaches_through}
 use Rattle.abi_rust.proofs.scope.Scope.follow_globs.Goals as goal
-use Rattle.abi_rust.proofs.scope.Scope.follow_globs.Goals.{else-loop-round-test, then-loop-round-test+in_ok-add_globs+then-not-branch}
-
-pub loop-round-init : goal.loop-round-init
-loop-round-init c =
-    let new = record c.args.self.now { reached = c.in_ok-self.field-0 } in
-    let same : HasSameNames c.args.self.now new = record { roots = record { words = refl; root = refl }; modules = refl; types = refl; constants = refl; uses = refl; prelude = refl } in
-    let long : c.len.result ≡ length c.args.items.now.modules.items = omega (arith, c.len.ensures) in
-    (same, begun c.args.items.now new (lists_of c.in_ok-direct.direct.items) c.len.result c.len-2.result c.in_ok-direct.ensures.none long c.in_ok-self.ensures.none)
-
-pub loop-round-preserved : goal.loop-round-preserved
-loop-round-preserved c =
-    let old = c.loop-round.self in
-    let new = record old { reached = c.in_ok-self-2.field-0 } in
-    let same : HasSameNames old new = record { roots = record { words = refl; root = refl }; modules = refl; types = refl; constants = refl; uses = refl; prelude = refl } in (
-      names_on c.args.self.now old new c.loop-round.invariant.0 same,
-      once_more c.args.items.now c.loop-round._round (lists_of c.loop-round.direct.items) (lists_of c.add_globs.new.direct.items) old new
-          c.loop-round.invariant.1 same c.in_ok-add_globs.ensures.added c.in_ok-self-2.ensures.all,
-    )
 
 pub returns-clause-globs : goal.returns-clause-globs
 returns-clause-globs c =
-    let items = c.args.items.now in
-    elim c.loop-round-test.branch [
-      | else-loop-round-test w ↦
-          let few : length items.uses.items + 1 < 2 ^ 64 = omega (arith, items.uses.small) in
-          let all : c.loop-round._round ≡ length items.uses.items + 1 = omega (arith, few, c.len-3.ensures, c.saturating_add-rounds.ensures) in
-          record {
-            rounds = c.loop-round._round;
-            direct = lists_of c.loop-round.direct.items;
-            followed = c.loop-round.invariant.1;
-            over = inr all;
-          }
-      | then-loop-round-test+in_ok-add_globs+then-not-branch w ↦
-          record {
-            rounds = c.loop-round._round;
-            direct = lists_of c.loop-round.direct.items;
-            followed = c.loop-round.invariant.1;
-            over = inl (sym w.in_ok-add_globs.ensures.added ∙ w.in_ok-add_globs.ensures.none w.if-not-branch.true);
-          }
-    ]
+    let before = c.follow_rounds.new.self in
+    let after = record before { reached = c.in_ok-self.field-0 } in
+    let same : HasSameNames before after = record { roots = record { words = refl; root = refl }; modules = refl; types = refl; constants = refl; uses = refl; prelude = refl } in
+    record {
+      direct = lists_of c.in_ok-direct.direct.items;
+      before = before;
+      followed = c.in_ok-direct.ensures.globs;
+      same = same;
+      leads = reaches_through (lists_of c.add_lost.new.direct.items) _ after c.in_ok-add_lost.ensures.added c.in_ok-self.ensures.all;
+    }
 
 pub returns-clause-same : goal.returns-clause-same
-returns-clause-same c = c.loop-round.invariant.0
+returns-clause-same c =
+    let before = c.follow_rounds.new.self in
+    let after = record before { reached = c.in_ok-self.field-0 } in
+    names_on c.args.self.now before after c.in_ok-direct.ensures.same
+    (record { roots = record { words = refl; root = refl }; modules = refl; types = refl; constants = refl; uses = refl; prelude = refl })

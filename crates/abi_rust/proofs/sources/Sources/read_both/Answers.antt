@@ -23,7 +23,7 @@ returns-clause-ok c =
           passed_over = search rules;
           words = search rules;
         };
-        file = rw (ap (λ s. s.file.0) behind) c.in_ok-self.ensures.read;
+        file = rw (ap (λ s. s.file.0) behind, ← c.file_kind.ensures) c.in_ok-self.ensures.read;
         behind = c.in_ok-self.ensures.front;
       };
       once = c.in_ok-new.ensures.once;
