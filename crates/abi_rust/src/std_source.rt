@@ -421,6 +421,7 @@ pub mod io {
     pub struct Empty;
     pub struct Sink;
     pub struct Cursor<T> { inner: T, pos: u64 }
+    pub mod prelude {}
 }
 #[cfg(unix)]
 pub mod os {
@@ -433,7 +434,7 @@ pub mod os {
         #[rustc_layout_scalar_valid_range(0, 0xffff_fffe)]
         pub struct BorrowedFd<'a>(i32);
     }
-    pub mod unix { pub mod io { pub use crate::os::fd::*; } }
+    pub mod unix { pub mod io { pub use crate::os::fd::*; } pub mod prelude { pub use crate::os::fd::*; } }
 }
 #[cfg(windows)]
 pub mod os {
