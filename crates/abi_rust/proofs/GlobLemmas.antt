@@ -1,15 +1,12 @@
 -- Globs, one more, and where they lead.
-use Rattle.std.proofs.Common.{◌≡◌, ◌∙◌, ℕ, zero, suc, ◌+◌, ◌-◌, ◌<◌, ◌≤◌, List, [], ◌∷◌, ◌++◌, Bool, Err, Ok, Result, true, false, Vec, Option, Some, None, add-one, ap, arith, drop, drop-cons, get_or, length, map, refl, set, subst, sym, take}
+use Rattle.std.proofs.Common.{◌≡◌, ◌∙◌, ℕ, zero, suc, ◌+◌, ◌-◌, ◌<◌, ◌≤◌, List, [], ◌∷◌, ◌++◌, Bool, Err, Ok, Result, true, false, Vec, Some, None, add-one, ap, arith, drop, drop-cons, get_or, length, map, refl, set, subst, sym, take}
 use Rattle.std.proofs.lemmas.List.{map-append, map-set, take_all, take_more}
 use Rattle.std.specs.Prelude.{IfOk, not, replicate, slice_get, if◌then◌else◌}
 use Rattle.std.proofs.Math.Seq.{map-set_same}
 use Rattle.rust_source.specs.declared.item.Items.{Items}
-use Rattle.rust_source.specs.declared.item.Use.{Use}
 use Rattle.abi_rust.specs.declared.fault.Stop.{Stop}
 use Rattle.abi_rust.specs.declared.scope.Scope.{Scope}
-use Rattle.abi_rust.specs.declared.paths.Space.TheVariants.{Types}
-use Rattle.abi_rust.specs.Globs.{AreRounds, no_round, round, Reaches, glob_target, globs_added, led_from, is_in, led_to, list_at, lists_of, named_by, none_direct, other_than, with_globs, with_module, with_modules, with_target}
-use Rattle.abi_rust.specs.Names.{module_found, most_uses, target}
+use Rattle.abi_rust.specs.Globs.{AreRounds, no_round, round, Reaches, globs_added, led_from, is_in, led_to, list_at, lists_of, named_by, none_direct, with_module, with_modules, with_target}
 use Rattle.abi_rust.specs.Scope.{modules_listed, reached_from}
 use Rattle.abi_rust.specs.ScopeNames.{HasSameNames}
 
@@ -145,14 +142,6 @@ pub none_each : {A : Type 0} (xs : List A) → replicate (length xs) [] ≡ map 
 none_each [] = refl
 none_each (x ∷ xs) = ap (λ rest. [] ∷ rest) (none_each xs)
 
--- a scope whose targets are the same
-same_globs : (items : Items) (old new : Scope) → target items new most_uses ≡ target items old most_uses → glob_target items new ≡ glob_target items old
-same_globs items old new same = λ i n u. if u.is_glob then other_than u.«module» (module_found (same i n Types)) else None
-
-pub same_added : (items : Items) (old new : Scope) (direct : List (List ℕ)) → target items new most_uses ≡ target items old most_uses
-    → globs_added items new direct ≡ globs_added items old direct
-same_added items old new direct same = ap (λ (told : ℕ → Use → Option ℕ). with_globs told 0 items.uses.items direct) (same_globs items old new same)
-
 -- names that stay, and stay
 pub names_on : (a b c : Scope) → HasSameNames a b → HasSameNames b c → HasSameNames a c
 names_on a b c ab bc = record {
@@ -163,16 +152,6 @@ names_on a b c ab bc = record {
   uses = bc.uses ∙ ab.uses;
   prelude = bc.prelude ∙ ab.prelude;
 }
-
--- rounds end in each scope of the same names that reaches the same
-pub rounds_same : (items : Items) (rounds : ℕ) (direct : List (List ℕ)) (old new : Scope) → AreRounds items rounds direct old
-    → HasSameNames old new → ((m : ℕ) → reached_from new m ≡ reached_from old m) → AreRounds items rounds direct new
-rounds_same items rounds direct old new made same reached =
-    elim made as (λ rounds direct scope made. HasSameNames scope new → ((m : ℕ) → reached_from new m ≡ reached_from scope m) → AreRounds items rounds direct new) [
-      | no_round scope empty ↦ λ same reached. no_round new (λ m. reached m ∙ empty m)
-      | round rounds direct before after made names leads ↦
-          λ same reached. round rounds direct before new made (names_on before after new names same) (λ m. reached m ∙ leads m)
-    ] same reached
 
 -- no round was made
 pub begun : (items : Items) (scope : Scope) (direct : List (List ℕ)) (n k : ℕ) → direct ≡ replicate n [] → n ≡ length items.modules.items
