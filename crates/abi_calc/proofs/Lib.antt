@@ -5,7 +5,6 @@ pub mod Arrays
 -- structs and enums
 pub mod EnumLemmas
 -- what types take over from all of their lists
-pub mod OverLists
 -- coroutines
 pub mod CoroutineLemmas
 -- views, orders handed in, and the lists that a layout is made of

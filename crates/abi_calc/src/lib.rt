@@ -9,10 +9,9 @@ mod list;
 mod simd;
 mod unions;
 
-// Structs and enums, coroutines, and what both take over from their lists.
+// Structs and enums, and coroutines.
 mod coroutine;
 mod enums;
-mod over_lists;
 
 pub use calculator::LayoutCalculator;
 pub use coroutine::state_tag;

@@ -5,3 +5,4 @@ pub mod PartsLemmas
 pub mod OneOrder
 pub mod SomeOrder
 pub mod ListLayoutsLemmas
+pub mod OverallLemmas

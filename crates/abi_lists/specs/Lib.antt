@@ -22,3 +22,4 @@ pub mod Union
 pub mod Simd
 -- lists that are to be variants
 pub mod ListLayouts
+pub mod Overall

@@ -27,6 +27,7 @@ mod list_view;
 // Lists that are to be the variants of a type.
 mod lent_list;
 mod list_layouts;
+mod overall;
 
 pub use array::layout_of_array;
 pub use fields::greatest_align;
@@ -38,6 +39,7 @@ pub use list_layouts::{ListLayouts, Rest};
 pub use list_repr::rounded;
 pub use list_view::pair_view;
 pub use one_item::one;
+pub use overall::Overall;
 pub use part::free_numbers;
 pub use simd::{layout_of_scalable, layout_of_simd};
 pub use unions::layout_of_union;

@@ -2,9 +2,11 @@
 
 ghost use Rattle.std.specs.Prelude.{◌≡◌, ◌<◌, ◌++◌, ◌∷◌, [], IfOk, OnOk, Some, length, map, slice_get};
 ghost use Rattle.abi_scalar.specs.Variant.{variant_of};
+ghost use Rattle.abi_lists.specs.Overall.{overall_of};
 
 use crate::lent_list::LentList;
 use crate::list_layout::ListLayout;
+use crate::overall::Overall;
 use abi_base::Align;
 use abi_index::{Hash64, Idx};
 use abi_scalar::VariantLayout;
@@ -43,18 +45,22 @@ impl<VariantIdx> Rest<VariantIdx> {
 pub struct ListLayouts<FieldIdx: Idx, VariantIdx: Idx> {
     variants: Vec<VariantLayout<FieldIdx>>,
     rests: Vec<Rest<VariantIdx>>,
+    /// What they have together, kept as they come, so that nobody goes over them again.
+    overall: Overall,
 }
 
 impl<FieldIdx: Idx, VariantIdx: Idx> Model for ListLayouts<FieldIdx, VariantIdx> {
     ghost use Rattle.std.specs.Prelude.{◌≡◌, List, length};
     ghost use Rattle.abi_scalar.specs.declared.layout_data.LayoutData.{LayoutData};
     ghost use Rattle.abi_lists.specs.ListLayouts.{lists_of};
+    ghost use Rattle.abi_lists.specs.Overall.{overall_of};
 
     ghost Value = { List (LayoutData FieldIdx VariantIdx) };
 
     ghost view = { λ a. lists_of a.variants.items a.rests.items };
 
-    ghost invariant = { λ a. length a.variants.items ≡ length a.rests.items };
+    ghost invariant = { λ a. (length a.variants.items ≡ length a.rests.items)
+        × (a.overall ≡ overall_of (lists_of a.variants.items a.rests.items)) };
 }
 
 impl<FieldIdx: Idx, VariantIdx: Idx> ListLayouts<FieldIdx, VariantIdx> {
@@ -65,6 +71,7 @@ impl<FieldIdx: Idx, VariantIdx: Idx> ListLayouts<FieldIdx, VariantIdx> {
         Ok(ListLayouts {
             variants: Vec::with_capacity(alloc, capacity)?,
             rests: Vec::with_capacity(alloc, capacity)?,
+            overall: Overall::new(),
         })
     }
 
@@ -73,6 +80,13 @@ impl<FieldIdx: Idx, VariantIdx: Idx> ListLayouts<FieldIdx, VariantIdx> {
         ensures { result ≡ length self.now }
     {
         self.rests.len()
+    }
+
+    /// What the lists have together.
+    pub fn overall(&self) -> Overall
+        ensures { result ≡ overall_of self.now }
+    {
+        self.overall
     }
 
     /// The list at an index, lent, as one layout.
@@ -90,6 +104,7 @@ impl<FieldIdx: Idx, VariantIdx: Idx> ListLayouts<FieldIdx, VariantIdx> {
         self.variants.reserve(1)?;
         self.rests.reserve(1)?;
         let (variant, rest) = list.into_parts();
+        self.overall = self.overall.with(&variant, &rest);
         self.variants.push_reserved(variant);
         self.rests.push_reserved(rest);
         Ok(())

@@ -12,7 +12,6 @@ ghost use Rattle.abi_calc.specs.Coroutine.Lists.{own_of};
 ghost use Rattle.abi_calc.specs.Coroutine.States.{HasFields, ranks_of, state_layouts};
 
 use crate::coroutine::states::{Promoted, place_state, ranks_below};
-use crate::over_lists::{all_uninhabited, greater_size, greatest_align, greatest_size};
 use abi_base::{AbiAlign, Align, HasDataLayout, Integer, Primitive, Size, TargetDataLayout};
 use abi_index::{DenseBitSet, Hash64, Idx, IndexList, IndexVec};
 use abi_lists::{ListLayout, ListLayouts, field_offsets, rounded};
@@ -60,7 +59,7 @@ fn whole_align<FieldIdx: Idx, VariantIdx: Idx>(
 ) -> Align
     ensures { result ≡ whole_align first.now lists.now }
 {
-    greatest_align(first.align(), lists)
+    lists.overall().align_with(first.align())
 }
 
 /// The size of the greatest list in bytes, rounded up to the greatest alignment.
@@ -76,7 +75,7 @@ fn whole_size<FieldIdx: Idx, VariantIdx: Idx>(
     requires align { align ≡ whole_align first.now lists.now }
     ensures { result ≡ whole_size first.now lists.now }
 {
-    rounded(greater_size(first.size(), greatest_size(lists)), align)
+    rounded(first.size().max(lists.overall().size), align)
 }
 
 /// Whether the coroutine has no values: the first list has none, or no state has any.
@@ -86,7 +85,7 @@ fn is_uninhabited<FieldIdx: Idx, VariantIdx: Idx>(
 ) -> bool
     ensures { result ≡ (first.now.uninhabited || list_all (λ list. list.uninhabited) lists.now) }
 {
-    first.uninhabited() | all_uninhabited(lists)
+    first.uninhabited() | lists.overall().uninhabited
 }
 
 /// The fields that stand before the promoted locals, as they follow one another in memory.

@@ -10,7 +10,6 @@ ghost use Rattle.abi_calc.specs.Enums.Bounds.{fits_behind, greatest_free, greate
 use crate::enums::growth::align_at;
 use crate::enums::lists::align_with_all;
 use crate::enums::path::is_free;
-use crate::over_lists::greater_align;
 use abi_base::{Align, Integer, Size, TargetDataLayout};
 use abi_index::{Idx, IndexVec};
 use abi_lists::{free_numbers, rounded};
@@ -145,7 +144,7 @@ fn fits_behind<FieldIdx: Idx, VariantIdx: Idx>(
     requires size { layout.now.size < 2 ^ 63 }
     ensures { result ≡ fits_behind dl.now asked layout.now }
 {
-    let align = greater_align(layout.align.abi, asked.align(dl));
+    let align = layout.align.abi.max(asked.align(dl));
     let tag = rounded(asked.size(), align);
     let whole = rounded(layout.size, align);
     (tag + whole).bytes() < dl.obj_size_bound()

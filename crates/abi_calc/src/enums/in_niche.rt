@@ -16,10 +16,7 @@ ghost use Rattle.abi_calc.specs.Enums.Niche.{IsRoomy, IsSmallList, if_placed, ni
 use crate::calculator::LayoutCalculator;
 use crate::enums::niche::{Room, others_empty, placed_variants, span_of, untagged_of, view_with};
 use crate::enums::path::is_free;
-use crate::enums::tagged::lists_size;
-use crate::over_lists::{
-    all_uninhabited, greatest_align, greatest_repr_align, greatest_unadjusted, seed_with,
-};
+use crate::enums::tagged::{lists_align, lists_size};
 use abi_base::{AbiAlign, Align, HasDataLayout, Size, StructKind, TargetDataLayout};
 use abi_index::{Idx, IndexList, IndexVec};
 use abi_lists::{LentList, ListLayouts, one};
@@ -150,13 +147,13 @@ fn layout_in_niche<FieldIdx: Idx, VariantIdx: Idx>(
         (variants_from (room_beside dl.now niche lists) among.untagged 0 lists)) }
 {
     let untagged = among.untagged;
-    let align = greatest_align(dl.aggregate_align, &lists);
+    let align = lists_align(dl, &lists);
     let size = lists_size(dl, &lists, align);
     let (fills, own_view) = untagged_view(&lists, untagged, size, align);
-    let uninhabited = all_uninhabited(&lists);
-    let max_repr_align = greatest_repr_align(repr.align, &lists);
-    let unadjusted_abi_align = greatest_unadjusted(dl.aggregate_align, &lists);
-    let randomization_seed = seed_with(repr.field_shuffle_seed, &lists);
+    let overall = lists.overall();
+    let max_repr_align = overall.max_repr_align_with(repr.align);
+    let unadjusted_abi_align = overall.unadjusted_align_with(dl.aggregate_align);
+    let randomization_seed = overall.seed_with(repr.field_shuffle_seed);
     let offset = niche.offset;
     let room = room_beside(dl, niche, size);
     let Some(variants) = placed_variants(alloc, &room, untagged, lists)? else {
@@ -178,7 +175,7 @@ fn layout_in_niche<FieldIdx: Idx, VariantIdx: Idx>(
         },
         backend_repr,
         largest_niche: Niche::from_scalar(dl, offset, tag),
-        uninhabited,
+        uninhabited: overall.uninhabited,
         align: AbiAlign::new(align),
         size,
         max_repr_align,

@@ -17,10 +17,6 @@ use crate::enums::discriminants::tag_range;
 use crate::enums::growth::{grow_variant, grown_tag, start_align};
 use crate::enums::lists::behind_tag;
 use crate::enums::payload::{see_as, tagged_view};
-use crate::over_lists::{
-    all_uninhabited, greatest_align, greatest_repr_align, greatest_size, greatest_unadjusted,
-    seed_with,
-};
 use abi_base::{AbiAlign, Align, HasDataLayout, Integer, Primitive, Size, TargetDataLayout};
 use abi_index::{Idx, IndexList, IndexVec};
 use abi_lists::{ListLayouts, one, rounded};
@@ -29,6 +25,16 @@ use abi_scalar::{
     Scalar, TagEncoding, VariantLayout, Variants,
 };
 use std::alloc::{AllocError, Global};
+
+/// The greatest alignment of the variants' lists, and no less than that of aggregates.
+pub(crate) fn lists_align<FieldIdx: Idx, VariantIdx: Idx>(
+    dl: &TargetDataLayout,
+    lists: &ListLayouts<FieldIdx, VariantIdx>,
+) -> Align
+    ensures { result ≡ lists_align dl.now lists.now }
+{
+    lists.overall().align_with(dl.aggregate_align)
+}
 
 /// The greatest size of the variants' lists, rounded up to the greatest alignment.
 pub(crate) fn lists_size<FieldIdx: Idx, VariantIdx: Idx>(
@@ -41,7 +47,7 @@ pub(crate) fn lists_size<FieldIdx: Idx, VariantIdx: Idx>(
     requires align { align ≡ lists_align dl.now lists.now }
     ensures { result ≡ lists_size dl.now lists.now }
 {
-    rounded(greatest_size(lists), align)
+    rounded(lists.overall().size, align)
 }
 
 /// That size, where it is below the data layout's bound.
@@ -128,10 +134,10 @@ fn layout_seen_as<FieldIdx: Idx, VariantIdx: Idx>(
     ensures { IfOk result (λ l. l ≡ layout_seen_as (FieldIdx.at 0) dl.now repr.now old tag
         (scalar_size dl.now tag) lists whole.view) }
 {
-    let uninhabited = all_uninhabited(&lists);
-    let max_repr_align = greatest_repr_align(repr.align, &lists);
-    let unadjusted_abi_align = greatest_unadjusted(dl.aggregate_align, &lists);
-    let randomization_seed = seed_with(repr.field_shuffle_seed, &lists);
+    let overall = lists.overall();
+    let max_repr_align = overall.max_repr_align_with(repr.align);
+    let unadjusted_abi_align = overall.unadjusted_align_with(dl.aggregate_align);
+    let randomization_seed = overall.seed_with(repr.field_shuffle_seed);
     let variants = variants_of(alloc, old, tag.size(dl), &whole.view, whole.size, lists)?;
     let first = FieldIdx::new(0);
     Ok(LayoutData {
@@ -147,7 +153,7 @@ fn layout_seen_as<FieldIdx: Idx, VariantIdx: Idx>(
         },
         backend_repr: whole.view,
         largest_niche: Niche::from_scalar(dl, Size::ZERO, tag),
-        uninhabited,
+        uninhabited: overall.uninhabited,
         align: AbiAlign::new(whole.align),
         size: whole.size,
         max_repr_align,
@@ -180,7 +186,7 @@ fn layout_of_lists<FieldIdx: Idx, VariantIdx: Idx, F: LayoutHandle<FieldIdx, Var
         (e ≡ LayoutCalculatorError.OutOfMemory)) }
 {
     let (asked, signed) = asked;
-    let align = greatest_align(dl.aggregate_align, &lists);
+    let align = lists_align(dl, &lists);
     let Some(size) = bounded_size(dl, &lists, align) else {
         return Err(LayoutCalculatorError::SizeOverflow);
     };

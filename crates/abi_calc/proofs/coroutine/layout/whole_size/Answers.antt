@@ -1,13 +1,14 @@
 -- Sizes and alignments of lawful lists are small.
-use Rattle.std.proofs.Common.{◌∙◌, ap₂, arith, max}
+use Rattle.std.proofs.Common.{◌≡◌, ap, arith, max}
+use Rattle.std.proofs.lemmas.Grind.{common_steps}
 use Rattle.abi_calc.proofs.CoroutineLemmas.Layout.{whole_align_small, whole_small}
 use Rattle.abi_calc.proofs.coroutine.layout.whole_size.Goals as goal
 
 pub rounded-requires-clause-offset : goal.rounded-requires-clause-offset
 rounded-requires-clause-offset g c =
     let small = whole_small c.args.dl.now c.args.first.now c.args.lists.now c.requires.data_layout c.requires.first c.requires.lists in
-    let read = c.greater_size.ensures ∙ ap₂ max c.size.ensures c.greatest_size.ensures in
-    omega (arith, small, read)
+    let greater : c.max.result ≡ max c.size.result c.overall.result.size = grind (arith, common_steps) in
+    omega (arith, small, greater, c.size.ensures, ap (λ o. o.size) c.overall.ensures)
 
 pub rounded-requires-clause-align : goal.rounded-requires-clause-align
 rounded-requires-clause-align g c = rw c.requires.align (whole_align_small c.args.dl.now c.args.first.now c.args.lists.now c.requires.first c.requires.lists)

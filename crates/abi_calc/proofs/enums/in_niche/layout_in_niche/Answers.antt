@@ -1,9 +1,10 @@
 -- The layout has what its parts are told to be.
-use Rattle.std.proofs.Common.{◌≡◌, ◌∙◌, ◌&&◌, ◌==◌, true, ap, refl, sym, if◌then◌else◌}
+use Rattle.std.proofs.Common.{◌≡◌, ◌∙◌, ◌&&◌, ◌==◌, true, ap, arith, max, refl, sym, if◌then◌else◌}
 use Rattle.std.specs.Prelude.{Some, None}
 use Rattle.abi_scalar.specs.Niche.{niche_at}
 use Rattle.abi_scalar.specs.declared.backend_repr.BackendRepr.TheVariants.{Memory}
 use Rattle.abi_scalar.proofs.ReadableLemmas.{lawful_readable}
+use Rattle.abi_lists.specs.Fields.{greater}
 use Rattle.abi_calc.specs.Enums.Niche.{if_placed, layout_in_niche, others_empty, room_beside, span_count, variants_from, view_with}
 use Rattle.abi_calc.specs.Enums.Tagged.{lists_align, lists_size}
 use Rattle.abi_scalar.specs.Reserve.{reserved}
@@ -27,7 +28,7 @@ pub returns : goal.returns
 returns g c = λ list is.
     let dl = c.args.dl.now in
     let lists = c.args.lists in
-    let align : c.greatest_align-align.result ≡ lists_align dl lists = c.greatest_align-align.ensures in
+    let align : c.lists_align-align.result ≡ lists_align dl lists = c.lists_align-align.ensures in
     let size : c.lists_size-size.result ≡ lists_size dl lists = c.lists_size-size.ensures in
     let room : c.room_beside-room.result ≡ room_beside dl c.args.niche lists
     = λ i. record { before = c.room_beside-room.ensures.before i; after = c.room_beside-room.ensures.after i; whole = (c.room_beside-room.ensures.whole ∙ size) i } in
@@ -42,11 +43,11 @@ returns g c = λ list is.
     (rw (c.niche_encoding.ensures, c.new-first.ensures, c.requires.handed) refl)
     (c.niche_view-backend_repr.ensures ∙ (λ i. if◌then◌else◌ (fills i && others_empty c.args.among.untagged 0 c.in-Some.variants) (view_with c.args.niche.offset (c.requires.handed i).1 (view i)) (Memory true)))
     (c.from_scalar.ensures.exact ∙ ap (λ h. niche_at dl c.args.niche.offset h.1) c.requires.handed)
-    c.all_uninhabited-uninhabited.ensures
+    (ap (λ o. o.uninhabited) c.overall-overall.ensures)
     (ap (λ a. record { abi = a }) (c.new.ensures ∙ align))
     size
-    c.greatest_repr_align-max_repr_align.ensures
-    c.greatest_unadjusted-unadjusted_abi_align.ensures
+    (c.max_repr_align_with-max_repr_align.ensures ∙ ap (λ o. greater c.args.repr.now.align o.max_repr_align) c.overall-overall.ensures)
+    (c.unadjusted_align_with-unadjusted_abi_align.ensures ∙ ap (λ o. max c.args.dl.now.aggregate_align o.unadjusted_abi_align) c.overall-overall.ensures)
     c.c.ensures
-    c.seed_with-randomization_seed.ensures)
+    (omega (arith, c.seed_with-randomization_seed.ensures, ap (λ o. o.randomization_seed) c.overall-overall.ensures)))
     ∙ sym (ap (if_placed (g.FieldIdx.Idx.at 0) g.VariantIdx.Idx.at dl c.args.repr.now c.args.among.untagged c.args.among.span lists list c.args.niche) some)

@@ -38,7 +38,7 @@ layout_seen_as-requires-clause-count g c = rw (lists_count c.args.variants.now c
 pub returns-in-Ok-clause-exact : goal.returns-in-Ok-clause-exact
 returns-in-Ok-clause-exact g c =
     let vs = map (map g.F.LayoutHandle.layout_of) c.args.variants.now in
-    let align : c.greatest_align-align.result ≡ lists_align c.args.dl.now c.args.lists = c.greatest_align-align.ensures in
+    let align : c.lists_align-align.result ≡ lists_align c.args.dl.now c.args.lists = c.lists_align-align.ensures in
     let size : c.in-Some.size ≡ lists_size c.args.dl.now c.args.lists = c.in-Some.ensures.some.0 in
     let grown : c.grown_tag-integer.result ≡ grown_tag c.args.dl.now c.args.repr.now c.args.asked.0 (start_align g.FieldIdx.Idx.number vs c.args.lists)
     = c.grown_tag-integer.ensures ∙ ap (grown_tag c.args.dl.now c.args.repr.now c.args.asked.0) c.start_align.ensures in
@@ -49,9 +49,9 @@ returns-in-Ok-clause-exact g c =
         c.in_ok-range.range,
         subst (λ n. IsTagRange n c.args.values.now c.in_ok-range.range) (c.size.ensures ∙ ap integer_size grown) c.in_ok-range.ensures,
         tagged_exact g.FieldIdx.Idx.number (g.FieldIdx.Idx.at 0) c.args.dl.now c.args.repr.now c.args.asked.0 c.grown_tag-integer.result c.args.asked.1 c.in_ok-range.range vs c.args.lists
-            c.size-3.result c.in-Some.size c.greatest_align-align.result c.tagged_view-view.result c.in-Ok.layout grown c.size-3.ensures size align
+            c.size-3.result c.in-Some.size c.lists_align-align.result c.tagged_view-view.result c.in-Ok.layout grown c.size-3.ensures size align
             (c.tagged_view-view.ensures
-            ∙ ap (λ o. tagged_view c.args.dl.now tag c.in-Some.size c.greatest_align-align.result (payloads_of c.args.dl.now o (integer_size c.grown_tag-integer.result) vs c.args.lists)) (c.size-2.ensures ∙ sym c.size-3.ensures))
+            ∙ ap (λ o. tagged_view c.args.dl.now tag c.in-Some.size c.lists_align-align.result (payloads_of c.args.dl.now o (integer_size c.grown_tag-integer.result) vs c.args.lists)) (c.size-2.ensures ∙ sym c.size-3.ensures))
             c.in-Ok.ensures,
       );
     }

@@ -1,7 +1,8 @@
 -- The layout has what its parts are told to be.
-use Rattle.std.proofs.Common.{◌∙◌, ap, refl}
+use Rattle.std.proofs.Common.{◌∙◌, ap, arith, max, refl}
 use Rattle.abi_scalar.specs.Scalar.{primitive_of, scalar_size}
 use Rattle.abi_scalar.proofs.ReadableLemmas.{lawful_readable}
+use Rattle.abi_lists.specs.Fields.{greater}
 use Rattle.abi_lists.proofs.Views.NicheLemmas.{readable_size}
 use Rattle.abi_calc.specs.Enums.Tagged.{layout_seen_as}
 use Rattle.abi_calc.proofs.EnumLemmas.Tagged.{same_parts}
@@ -20,10 +21,10 @@ returns g c =
     (rw (c.new-first.ensures, c.in_ok-variants.ensures, c.size.ensures, c.requires.size) refl)
     refl
     c.from_scalar.ensures.exact
-    c.all_uninhabited-uninhabited.ensures
+    (ap (λ o. o.uninhabited) c.overall-overall.ensures)
     (ap (λ a. record { abi = a }) (c.new.ensures ∙ c.requires.align))
     c.requires.size
-    c.greatest_repr_align-max_repr_align.ensures
-    c.greatest_unadjusted-unadjusted_abi_align.ensures
+    (c.max_repr_align_with-max_repr_align.ensures ∙ ap (λ o. greater c.args.repr.now.align o.max_repr_align) c.overall-overall.ensures)
+    (c.unadjusted_align_with-unadjusted_abi_align.ensures ∙ ap (λ o. max c.args.dl.now.aggregate_align o.unadjusted_abi_align) c.overall-overall.ensures)
     c.c.ensures
-    c.seed_with-randomization_seed.ensures
+    (omega (arith, c.seed_with-randomization_seed.ensures, ap (λ o. o.randomization_seed) c.overall-overall.ensures))

@@ -4,5 +4,5 @@ use Rattle.abi_lists.proofs.list_layouts.ListLayouts.len.Goals as goal
 
 pub returns : goal.returns
 returns g c =
-    let count = lists_count c.self.inside.variants.items c.self.inside.rests.items c.self.invariant in
+    let count = lists_count c.self.inside.variants.items c.self.inside.rests.items c.self.invariant.0 in
     omega (arith, c.len.ensures, count, ap length c.self.view_is)
