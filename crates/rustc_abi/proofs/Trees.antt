@@ -9,6 +9,7 @@ pub mod OrderLemmas
 -- how types are laid out, one after another
 pub mod LayLemmas
 -- nodes that are still there
+pub mod MovedLemmas
 pub mod StillLemmas
 -- each type that is laid out is sized, and its layout is lawful
 pub mod LaidLemmas

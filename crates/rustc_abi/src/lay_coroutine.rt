@@ -87,18 +87,18 @@ fn add_each_state(
     alloc: Global,
     nodes: &mut Nodes,
     layout: &LayoutData<FieldIdx, VariantIdx>,
-    children: &[Vec<usize>],
+    children: Vec<Vec<usize>>,
 ) -> Result<Vec<(u128, usize)>, LayError>
-    requires each { length (variants_of layout.now.variants) ≡ length children.now }
-    requires few { length children.now ≤ most_fields }
-    requires few_each { All (λ fields. length fields.items ≤ most_fields) children.now }
-    requires there { AreEachThere (length nodes.old) children.now }
+    requires each { length (variants_of layout.now.variants) ≡ length children.items }
+    requires few { length children.items ≤ most_fields }
+    requires few_each { All (λ fields. length fields.items ≤ most_fields) children.items }
+    requires there { AreEachThere (length nodes.old) children.items }
     requires inside { VariantsInside layout.now.size (variants_of layout.now.variants)
-        (variants_in nodes.old children.now) }
+        (variants_in nodes.old children.items) }
     ensures ok { IfOk result (λ states. AreArms nodes.old nodes.new
         (map (λ l. l.size) (variants_of layout.now.variants)) states.items
         (arms_at layout.now Mark.Plain 0 (variants_of layout.now.variants)
-        (source_order (length children.now)) (variants_in nodes.old children.now))) }
+        (source_order (length children.items)) (variants_in nodes.old children.items))) }
     ensures count { IfOk result (λ states.
         HasMore (length states.items) false nodes.old nodes.new) }
     ensures err { IfErr result (λ e. e ≡ LayError.OutOfMemory) }
@@ -140,7 +140,7 @@ fn add_states(
 {
     let children = picked_each(alloc, saved.locals, saved.states)?;
     let tag = add(nodes, LayoutData::scalar(&dl, tag), Shape::Scalar(tag))?;
-    let states = add_each_state(alloc, nodes, &layout, &children)?;
+    let states = add_each_state(alloc, nodes, &layout, children)?;
     add(
         nodes,
         layout,

@@ -192,27 +192,27 @@ pub(crate) fn add_variants(
     layout: &LayoutData<FieldIdx, VariantIdx>,
     mark: Mark,
     numbers: &[u128],
-    children: &[Vec<usize>],
+    children: Vec<Vec<usize>>,
 ) -> Result<Vec<(u128, usize)>, LayError>
-    requires variants { length (variants_of layout.now.variants) ≡ length children.now }
-    requires each { length numbers.now ≡ length children.now }
-    requires few { length children.now ≤ most_fields }
-    requires few_each { All (λ fields. length fields.items ≤ most_fields) children.now }
-    requires there { AreEachThere (length nodes.old) children.now }
+    requires variants { length (variants_of layout.now.variants) ≡ length children.items }
+    requires each { length numbers.now ≡ length children.items }
+    requires few { length children.items ≤ most_fields }
+    requires few_each { All (λ fields. length fields.items ≤ most_fields) children.items }
+    requires there { AreEachThere (length nodes.old) children.items }
     requires inside { VariantsInside layout.now.size (variants_of layout.now.variants)
-        (variants_in nodes.old children.now) }
+        (variants_in nodes.old children.items) }
     ensures ok { IfOk result (λ variants. AreArms nodes.old nodes.new
         (map (λ l. l.size) (variants_of layout.now.variants)) variants.items
         (arms_at layout.now mark 0 (variants_of layout.now.variants) numbers.now
-        (variants_in nodes.old children.now))) }
+        (variants_in nodes.old children.items))) }
     ensures count { IfOk result (λ variants.
         HasMore (length variants.items) false nodes.old nodes.new) }
     ensures err { IfErr result (λ e. e ≡ LayError.OutOfMemory) }
     ensures behind { AreStillThere nodes.old nodes.new }
 {
     let mut variants = Vec::with_capacity(alloc, children.len())?;
-    for at in 0..children.len() {
-        let fields = Vec::from_slice(alloc, &children[at])?;
+    for fields in children {
+        let at = variants.len();
         let own = own_node(alloc, layout, mark, VariantIdx::from_usize(at), fields)?;
         let node = add(nodes, own.layout, own.shape)?;
         variants.push((numbers[at], node))?;
@@ -221,10 +221,10 @@ pub(crate) fn add_variants(
 }
 
 /// Variants that a tag tells apart: the discriminant of each, and its fields as nodes.
-#[derive(Clone, Copy)]
+#[derive(Drop)]
 struct Told<'a> {
     numbers: &'a [u128],
-    children: &'a [Vec<usize>],
+    children: Vec<Vec<usize>>,
 }
 
 /// A node for an enum of several variants with this layout and this tag, behind one for the tag and one for each
@@ -239,19 +239,19 @@ fn add_tagged(
     told: Told<'_>,
 ) -> Result<usize, LayError>
     requires tag { IsReadable dl.now tag }
-    requires variants { length (variants_of layout.variants) ≡ length told.children.now }
-    requires each { length told.numbers.now ≡ length told.children.now }
-    requires few { length told.children.now ≤ most_fields }
-    requires few_each { All (λ fields. length fields.items ≤ most_fields) told.children.now }
-    requires there { AreEachThere (length nodes.old) told.children.now }
+    requires variants { length (variants_of layout.variants) ≡ length told.children.items }
+    requires each { length told.numbers.now ≡ length told.children.items }
+    requires few { length told.children.items ≤ most_fields }
+    requires few_each { All (λ fields. length fields.items ≤ most_fields) told.children.items }
+    requires there { AreEachThere (length nodes.old) told.children.items }
     requires places { have_places layout.size layout.fields
         (size_of (one_scalar dl.now tag) ∷ []) ≡ true }
     requires inside { VariantsInside layout.size (variants_of layout.variants)
-        (variants_in nodes.old told.children.now) }
+        (variants_in nodes.old told.children.items) }
     ensures ok { IfOk result (λ i. IsPut nodes.old nodes.new i (tagged layout mark
         (tag_offset layout) (one_scalar dl.now tag) (encoding_of layout.variants)
         (arms_at layout mark 0 (variants_of layout.variants) told.entry.numbers.now
-        (variants_in nodes.old told.entry.children.now)))) }
+        (variants_in nodes.old told.entry.children.items)))) }
     ensures own { IfOk result (IsOwnPut nodes.old nodes.new) }
     ensures err { IfErr result (λ e. e ≡ LayError.OutOfMemory) }
     ensures behind { AreStillThere nodes.old nodes.new }
@@ -277,18 +277,18 @@ fn add_placed(
     layout: LayoutData<FieldIdx, VariantIdx>,
     repr: &ReprOptions,
     numbers: &[u128],
-    children: &[Vec<usize>],
+    children: Vec<Vec<usize>>,
 ) -> Result<usize, LayError>
     requires tag { HasReadableTag dl.now layout.variants }
-    requires variants { HasVariants (length children.now) layout.variants }
-    requires each { length numbers.now ≡ length children.now }
-    requires few { length children.now ≤ most_fields }
-    requires few_each { All (λ fields. length fields.items ≤ most_fields) children.now }
-    requires there { AreEachThere (length nodes.old) children.now }
+    requires variants { HasVariants (length children.items) layout.variants }
+    requires each { length numbers.now ≡ length children.items }
+    requires few { length children.items ≤ most_fields }
+    requires few_each { All (λ fields. length fields.items ≤ most_fields) children.items }
+    requires there { AreEachThere (length nodes.old) children.items }
     requires places { HavePlaces dl.now layout
-        (variants_in nodes.old children.now) layout.variants }
+        (variants_in nodes.old children.items) layout.variants }
     ensures ok { IfOk result (λ i. IsPut nodes.old nodes.new i (placed_enum dl.now
-        repr.now numbers.now (variants_in nodes.old children.now) layout)) }
+        repr.now numbers.now (variants_in nodes.old children.items) layout)) }
     ensures own { IfOk result (IsOwnPut nodes.old nodes.new) }
     ensures err { IfErr result (λ e. e ≡ LayError.OutOfMemory) }
     ensures behind { AreStillThere nodes.old nodes.new }
@@ -297,7 +297,8 @@ fn add_placed(
     match layout.variants {
         Variants::Empty => add(nodes, layout, Shape::Never(mark)),
         Variants::Single { index } => {
-            let fields = Vec::from_slice(alloc, &children[index.as_usize()])?;
+            let mut children = children;
+            let fields = children.swap_remove(index.as_usize());
             add(nodes, layout, Shape::Single(mark, fields))
         }
         Variants::Multiple { tag, .. } => {
@@ -314,22 +315,22 @@ fn add_faultless_enum(
     nodes: &mut Nodes,
     repr: &ReprOptions,
     numbers: &[u128],
-    children: &[Vec<usize>],
+    children: Vec<Vec<usize>>,
 ) -> Result<usize, LayError>
     requires data_layout { IsLawfulDataLayout dl.now }
     requires faultless { enum_fault dl.now repr.now numbers.now
-        (variants_in nodes.old children.now) ≡ None }
-    requires each { length numbers.now ≡ length children.now }
-    requires there { AreEachThere (length nodes.old) children.now }
-    requires lawful { All (HaveLawfulLayouts dl.now) (variants_in nodes.old children.now) }
+        (variants_in nodes.old children.items) ≡ None }
+    requires each { length numbers.now ≡ length children.items }
+    requires there { AreEachThere (length nodes.old) children.items }
+    requires lawful { All (HaveLawfulLayouts dl.now) (variants_in nodes.old children.items) }
     ensures ok { IfOk result (IsEnumAdded dl.now nodes.old nodes.new
-        repr.now numbers.now (variants_in nodes.old children.now)) }
+        repr.now numbers.now (variants_in nodes.old children.items)) }
     ensures own { IfOk result (IsOwnPut nodes.old nodes.new) }
     ensures err { IfErr result (IsRefused
-        (IsEnumOf dl.now repr.now numbers.now (variants_in nodes.old children.now))) }
+        (IsEnumOf dl.now repr.now numbers.now (variants_in nodes.old children.items))) }
     ensures behind { AreStillThere nodes.old nodes.new }
 {
-    let layout = enum_layout(alloc, dl, nodes, repr, numbers, children)?;
+    let layout = enum_layout(alloc, dl, nodes, repr, numbers, &children)?;
     add_placed(alloc, dl, nodes, layout, repr, numbers, children)
 }
 
@@ -340,20 +341,20 @@ pub(crate) fn add_enum(
     nodes: &mut Nodes,
     repr: &ReprOptions,
     numbers: &[u128],
-    children: &[Vec<usize>],
+    children: Vec<Vec<usize>>,
 ) -> Result<usize, LayError>
     requires data_layout { IsLawfulDataLayout dl.now }
-    requires each { length numbers.now ≡ length children.now }
-    requires there { AreEachThere (length nodes.old) children.now }
-    requires lawful { All (HaveLawfulLayouts dl.now) (variants_in nodes.old children.now) }
+    requires each { length numbers.now ≡ length children.items }
+    requires there { AreEachThere (length nodes.old) children.items }
+    requires lawful { All (HaveLawfulLayouts dl.now) (variants_in nodes.old children.items) }
     ensures ok { IfOk result (IsEnumAdded dl.now nodes.old nodes.new
-        repr.now numbers.now (variants_in nodes.old children.now)) }
+        repr.now numbers.now (variants_in nodes.old children.items)) }
     ensures own { IfOk result (IsOwnPut nodes.old nodes.new) }
     ensures err { IfErr result (IsRefused
-        (IsEnumOf dl.now repr.now numbers.now (variants_in nodes.old children.now))) }
+        (IsEnumOf dl.now repr.now numbers.now (variants_in nodes.old children.items))) }
     ensures behind { AreStillThere nodes.old nodes.new }
 {
-    match enum_fault(alloc, dl, repr, numbers, children)? {
+    match enum_fault(alloc, dl, repr, numbers, &children)? {
         Some(fault) => Err(fault),
         None => add_faultless_enum(alloc, dl, nodes, repr, numbers, children),
     }

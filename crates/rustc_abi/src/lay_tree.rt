@@ -130,7 +130,7 @@ fn lay_enum(
 {
     let numbers = discriminants(alloc, variants)?;
     let children = lay_variants(alloc, dl, nodes, variants)?;
-    add_enum(alloc, dl, nodes, repr, &numbers, &children)
+    add_enum(alloc, dl, nodes, repr, &numbers, children)
 }
 
 /// Lays out a coroutine behind its prefix fields and its locals.

@@ -27,12 +27,12 @@ add-requires-clause-widths c = scalar_width c.args.dl.now c.args.tag c.scalar.re
 pub add_each_state-requires-clause-each : goal.add_each_state-requires-clause-each
 add_each_state-requires-clause-each c =
     let many = as_many_each c.args.saved.locals.now c.args.saved.states.now c.in_ok-children.children.items c.in_ok-children.ensures in
-    rw c.deref.ensures.value (c.requires.each ∙ sym many)
+    c.requires.each ∙ sym many
 
 pub add_each_state-requires-clause-few : goal.add_each_state-requires-clause-few
 add_each_state-requires-clause-few c =
     let many = as_many_each c.args.saved.locals.now c.args.saved.states.now c.in_ok-children.children.items c.in_ok-children.ensures in
-    rw (c.deref.ensures.value, many) c.requires.few
+    rw many c.requires.few
 
 pub add_each_state-requires-clause-there : goal.add_each_state-requires-clause-there
 add_each_state-requires-clause-there c =
@@ -42,11 +42,11 @@ add_each_state-requires-clause-there c =
     let longer = put.kept.longer in
     let there : All (λ child. child < length one) c.args.saved.locals.now =
     All-weaker (λ child. child < length old) (λ child. child < length one) (λ child lt. omega (arith, lt, longer, length-types_in old, length-types_in one)) c.args.saved.locals.now c.requires.there in
-    rw c.deref.ensures.value (each_there (length one) c.args.saved.locals.now c.args.saved.states.now c.in_ok-children.children.items there c.requires.known c.in_ok-children.ensures)
+    each_there (length one) c.args.saved.locals.now c.args.saved.states.now c.in_ok-children.children.items there c.requires.known c.in_ok-children.ensures
 
 pub add_each_state-requires-clause-few_each : goal.add_each_state-requires-clause-few_each
 add_each_state-requires-clause-few_each c =
-    rw c.deref.ensures.value (each_few most_fields c.args.saved.locals.now c.args.saved.states.now c.in_ok-children.children.items c.requires.few_each c.in_ok-children.ensures)
+    each_few most_fields c.args.saved.locals.now c.args.saved.states.now c.in_ok-children.children.items c.requires.few_each c.in_ok-children.ensures
 
 pub add_each_state-requires-clause-inside : goal.add_each_state-requires-clause-inside
 add_each_state-requires-clause-inside c =
@@ -55,7 +55,7 @@ add_each_state-requires-clause-inside c =
     let children : List (Vec ℕ Global) = c.in_ok-children.children.items in
     let there : All (λ child. child < length old) c.args.saved.locals.now = c.requires.there in
     let same =
-    ap (variants_in one) c.deref.ensures.value ∙ variants_in-kept old one c.in_ok-tag.ensures.ok.kept children (each_there (length old) c.args.saved.locals.now c.args.saved.states.now children there c.requires.known c.in_ok-children.ensures)
+    variants_in-kept old one c.in_ok-tag.ensures.ok.kept children (each_there (length old) c.args.saved.locals.now c.args.saved.states.now children there c.requires.known c.in_ok-children.ensures)
     ∙ each_means old c.args.saved.locals.now c.args.saved.states.now children c.requires.known c.in_ok-children.ensures in
     rw same c.requires.inside
 
@@ -90,18 +90,18 @@ returns-clause-ok c =
     let put = c.in_ok-tag.ensures.ok in
     let prefix : All (λ child. child < length old) c.args.prefix.items = c.requires.prefix in
     let there : All (λ child. child < length old) locals = c.requires.there in
-    let same : variants_in one c.deref.result.now ≡ map (λ ks. map (placed_in (all_at old locals)) ks.items) all =
-    ap (variants_in one) c.deref.ensures.value ∙ variants_in-kept old one put.kept children (each_there (length old) locals all children there c.requires.known c.in_ok-children.ensures)
+    let same : variants_in one children ≡ map (λ ks. map (placed_in (all_at old locals)) ks.items) all =
+    variants_in-kept old one put.kept children (each_there (length old) locals all children there c.requires.known c.in_ok-children.ensures)
     ∙ each_means old locals all children c.requires.known c.in_ok-children.ensures in
-    let count : length c.deref.result.now ≡ length all =
-    ap length c.deref.ensures.value ∙ as_many_each locals all children c.in_ok-children.ensures in
+    let count : length children ≡ length all =
+    as_many_each locals all children c.in_ok-children.ensures in
     let layout = c.args.layout in
     let sizes = map (λ l. l.size) (variants_of layout.variants) in
     let own : AreArms one two sizes c.in_ok-states.states.items
     (arms_at layout Plain 0 (variants_of layout.variants) (source_order (length all))
-    (variants_in one c.deref.result.now)) =
+    (variants_in one children)) =
     subst (λ n. AreArms one two sizes c.in_ok-states.states.items
-    (arms_at layout Plain 0 (variants_of layout.variants) (source_order n) (variants_in one c.deref.result.now))) count
+    (arms_at layout Plain 0 (variants_of layout.variants) (source_order n) (variants_in one children))) count
     c.in_ok-states.ensures.ok in
     let arms =
     subst (λ vs. AreArms one two sizes c.in_ok-states.states.items

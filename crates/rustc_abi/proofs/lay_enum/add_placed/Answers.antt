@@ -1,4 +1,4 @@
-use Rattle.std.proofs.Common.{ap, arith, length, sym, ◌∙◌}
+use Rattle.std.proofs.Common.{ap, arith, length, refl, sym, ◌∙◌}
 use Rattle.abi_scalar.specs.declared.variants.Variants.TheVariants.{Single as OneVariant}
 use Rattle.rustc_abi.proofs.Enums.EnumPlacesLemmas.{single_keeps}
 use Rattle.rustc_abi.proofs.Enums.ArmNodesLemmas.{one_before}
@@ -9,20 +9,20 @@ pub add-requires-in-Single-clause-laws : goal.add-requires-in-Single-clause-laws
 add-requires-in-Single-clause-laws c =
     let there = rw c.in-Single.is at c.requires.variants in
     let places = rw c.in-Single.is at c.requires.places in
-    single_keeps c.args.nodes.now c.args.layout c.of-mark.result c.args.children.now c.as_usize.result c.index-children-as_usize.result c.in_ok-fields-in-Single.fields
-    (c.in-Single.is ∙ ap OneVariant (sym c.as_usize.ensures)) (rw c.as_usize.ensures places) (omega arith) c.index-children-as_usize.is (c.in_ok-fields-in-Single.ensures.items ∙ c.deref.ensures.value)
+    single_keeps c.args.nodes.now c.args.layout c.of-mark.result c.args.children.items c.as_usize.result c.swap_remove-fields.result c.swap_remove-fields.result
+    (c.in-Single.is ∙ ap OneVariant (sym c.as_usize.ensures)) (rw c.as_usize.ensures places) (omega arith) c.swap_remove-fields.ensures.value refl
 
 pub add-requires-in-Single-clause-earlier : goal.add-requires-in-Single-clause-earlier
 add-requires-in-Single-clause-earlier c =
     let there = rw c.in-Single.is at c.requires.variants in
-    one_before (length c.args.nodes.now) _ c.args.children.now c.as_usize.result c.index-children-as_usize.result c.in_ok-fields-in-Single.fields.items
-    (omega arith) (omega arith) c.index-children-as_usize.is (c.in_ok-fields-in-Single.ensures.items ∙ c.deref.ensures.value) c.requires.there
+    one_before (length c.args.nodes.now) _ c.args.children.items c.as_usize.result c.swap_remove-fields.result c.swap_remove-fields.result.items
+    (omega arith) (omega arith) c.swap_remove-fields.ensures.value refl c.requires.there
 
 pub returns-in-Empty-clause-own : goal.returns-in-Empty-clause-own
 returns-in-Empty-clause-own c =
     both_ok c.add.result _ _ _ c.add.ensures.ok c.add.ensures.count (λ i put count. own_put c.args.nodes.now c.args.nodes.now c.add.new.nodes i _ put count)
 
-pub returns-in_ok-fields-in-Single-clause-own : goal.returns-in_ok-fields-in-Single-clause-own
-returns-in_ok-fields-in-Single-clause-own c =
+pub returns-in-Single-clause-own : goal.returns-in-Single-clause-own
+returns-in-Single-clause-own c =
     both_ok c.add-in-Single.result _ _ _ c.add-in-Single.ensures.ok c.add-in-Single.ensures.count
     (λ i put count. own_put c.args.nodes.now c.args.nodes.now c.add-in-Single.new.nodes i _ put count)

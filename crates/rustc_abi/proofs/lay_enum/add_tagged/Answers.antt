@@ -20,12 +20,12 @@ add-requires-clause-widths c = scalar_width c.args.dl.now c.args.tag c.scalar.re
 pub add_variants-requires-clause-there : goal.add_variants-requires-clause-there
 add_variants-requires-clause-there c =
     let put = c.in_ok-tag.ensures.ok in
-    there_within (length c.args.nodes.now) _ (omega (arith, put.kept.longer, length-types_in c.args.nodes.now, length-types_in c.add.new.nodes)) c.args.told.children.now c.requires.there
+    there_within (length c.args.nodes.now) _ (omega (arith, put.kept.longer, length-types_in c.args.nodes.now, length-types_in c.add.new.nodes)) c.args.told.children.items c.requires.there
 
 pub add_variants-requires-clause-inside : goal.add_variants-requires-clause-inside
 add_variants-requires-clause-inside c =
     let there = c.requires.there in
-    rw (variants_in-kept c.args.nodes.now c.add.new.nodes c.in_ok-tag.ensures.ok.kept c.args.told.children.now there) c.requires.inside
+    rw (variants_in-kept c.args.nodes.now c.add.new.nodes c.in_ok-tag.ensures.ok.kept c.args.told.children.items there) c.requires.inside
 
 pub add-requires-2-clause-laws : goal.add-requires-2-clause-laws
 add-requires-2-clause-laws c =
@@ -50,7 +50,7 @@ returns-clause-ok c =
     let two = c.add_variants.new.nodes in
     let put = c.in_ok-tag.ensures.ok in
     let there = c.requires.there in
-    let same = variants_in-kept old one put.kept c.args.told.children.now there in
+    let same = variants_in-kept old one put.kept c.args.told.children.items there in
     let layout = c.args.layout in
     let arms =
     subst (λ vs. AreArms one two (map (λ l. l.size) (variants_of layout.variants)) c.in_ok-variants.variants.items

@@ -290,22 +290,22 @@ lay_enum-returns-in_err-children-clause-err t c =
 
 pub lay_enum-add_enum-requires-clause-each : goal.lay_enum-add_enum-requires-clause-each
 lay_enum-add_enum-requires-clause-each t c =
-    ap length (c.deref.ensures.value ∙ c.in_ok-numbers.ensures) ∙ numbers_of_nodes c.args.dl.now c.requires _ _ _ _ c.in_ok-children.ensures.ok ∙ ap length (sym c.deref-2.ensures.value)
+    ap length (c.deref.ensures.value ∙ c.in_ok-numbers.ensures) ∙ numbers_of_nodes c.args.dl.now c.requires _ _ _ _ c.in_ok-children.ensures.ok
 
 pub lay_enum-add_enum-requires-clause-lawful : goal.lay_enum-add_enum-requires-clause-lawful
-lay_enum-add_enum-requires-clause-lawful t c = rw c.deref-2.ensures.value (VariantsFit-lawful c.args.dl.now _ _ c.in_ok-children.ensures.ok.fits)
+lay_enum-add_enum-requires-clause-lawful t c = VariantsFit-lawful c.args.dl.now _ _ c.in_ok-children.ensures.ok.fits
 
 pub lay_enum-returns-clause-ok : goal.lay_enum-returns-clause-ok
 lay_enum-returns-clause-ok t c =
     let before = c.in_ok-children.ensures.ok in
-    let told = rw c.deref-2.ensures.value at c.add_enum.ensures.ok in
+    let told = c.add_enum.ensures.ok in
     IfOk-weaker c.add_enum.result _ _
     (λ i h. AreVariantsAdded-after c.args.dl.now _ _ _ _ _ i _ before (h _ (c.deref.ensures.value ∙ c.in_ok-numbers.ensures) before.exact before.fits)) told
 
 pub lay_enum-returns-clause-counted : goal.lay_enum-returns-clause-counted
 lay_enum-returns-clause-counted t c =
     let before = c.in_ok-children.ensures.ok in
-    let told = rw c.deref-2.ensures.value at c.add_enum.ensures.ok in
+    let told = c.add_enum.ensures.ok in
     both_ok c.add_enum.result _ _ _ told c.add_enum.ensures.own
     (λ i h own. enum_counted c.args.dl.now _ _ _ i _ _ c.in_ok-children.ensures.counted
     (h _ (c.deref.ensures.value ∙ c.in_ok-numbers.ensures) before.exact before.fits) own)
@@ -313,7 +313,7 @@ lay_enum-returns-clause-counted t c =
 pub lay_enum-returns-clause-err : goal.lay_enum-returns-clause-err
 lay_enum-returns-clause-err t c =
     let before = c.in_ok-children.ensures.ok in
-    let told = rw (c.deref-2.ensures.value, c.deref.ensures.value ∙ c.in_ok-numbers.ensures) at c.add_enum.ensures.err in
+    let told = rw (c.deref.ensures.value ∙ c.in_ok-numbers.ensures) at c.add_enum.ensures.err in
     IfErr-weaker c.add_enum.result _ _ (λ e refused. enum_tree_refused c.args.dl.now c.args.repr.now _ _ e before.exact refused) told
 
 pub lay_enum-returns-clause-behind : goal.lay_enum-returns-clause-behind
