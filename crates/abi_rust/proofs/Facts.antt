@@ -1,8 +1,9 @@
 -- Worked facts: what a few expressions, types and discriminants mean wherever they stand.
-use Rattle.std.proofs.Common.{◌≡◌, [], ◌∷◌, Box, Global, Some, None, Ok, false, refl}
+use Rattle.std.proofs.Common.{◌≡◌, ℕ, [], ◌∷◌, Box, Global, Some, None, Ok, false, refl}
 use Rattle.std.specs.Prelude.{pos, negsuc}
 use Rattle.abi_laid.specs.Tree.{never as never_tree, struct, trees, unit}
 use Rattle.rust_source.specs.declared.item.Item.{Item}
+use Rattle.rust_source.specs.declared.item.Items.{Items}
 use Rattle.rust_source.specs.declared.item.Variant.{Variant}
 use Rattle.rust_source.specs.declared.place.Place.{Place}
 use Rattle.rust_source.specs.declared.syntax.Binary.TheVariants.{Add, Shl}
@@ -13,7 +14,8 @@ use Rattle.abi_rust.specs.declared.ty.Kind.TheVariants.{Integer as KindInteger}
 use Rattle.abi_rust.specs.declared.work.Context.{Context}
 use Rattle.abi_rust.specs.Evaluating.{binary_value, evaluator, value_with}
 use Rattle.abi_rust.specs.Meaning.{fault_at}
-use Rattle.abi_rust.specs.Globs.{led_to}
+use Rattle.abi_rust.specs.declared.ways.Glob.{Glob}
+use Rattle.abi_rust.specs.Globs.{led_to, most_ways}
 use Rattle.abi_rust.specs.Operators.{cast_of}
 use Rattle.abi_rust.specs.Measure.{Measure}
 use Rattle.abi_rust.specs.Reprs.{no_repr}
@@ -58,6 +60,12 @@ past_the_last : (cx : Context) (it : Item) (v : Variant) → it.repr.integer ≡
 unfolding variant_number
 past_the_last cx it v integer bare = rw (bare, integer) refl
 
--- three modules, of which each brings in all names of the next one, in a ring: the first reaches the others, and itself
-ring : led_to ((1 ∷ []) ∷ (2 ∷ []) ∷ (0 ∷ []) ∷ []) (1 ∷ []) ≡ 1 ∷ 2 ∷ 0 ∷ []
-ring = refl
+-- a glob of all names of another module, which whoever asks may use
+abbrev glob : (inside target : ℕ) → Glob
+glob inside target = record { inside = inside; target = target; visible_in = None }
+
+-- three modules, of which each brings in all names of the next one, in a ring: ways lead from the first to the others, and none back to it
+ring : (items : Items) → led_to items ((glob 0 1 ∷ []) ∷ (glob 1 2 ∷ []) ∷ (glob 2 0 ∷ []) ∷ []) (glob 0 1 ∷ [])
+    ≡ record { glob = glob 0 1; before = None } ∷ record { glob = glob 1 2; before = Some 0 } ∷ []
+unfolding most_ways
+ring items = refl

@@ -1,7 +1,9 @@
 pub mod Aligned
 pub mod Bits
 pub mod Copies
+pub mod Early
 pub mod Facts
+pub mod FormedLists
 pub mod GlobLemmas
 pub mod KnownSizes
 pub mod Labels
@@ -18,4 +20,5 @@ pub mod Same
 pub mod ScopeLemmas
 pub mod StandingLemmas
 pub mod Trees
+pub mod WayLemmas
 pub mod Written

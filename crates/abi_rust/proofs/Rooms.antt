@@ -18,7 +18,8 @@ use Rattle.rust_source.specs.declared.syntax.«Type».{«Type» as Written}
 use Rattle.abi_rust.specs.Resolving.{inner, item_with, resolver, type_with}
 use Rattle.abi_rust.specs.Tails.{Outer, tail_inner, tail_of_item_with, tail_with}
 use Rattle.abi_rust.specs.Types.{GivensRead, TyRead, Where}
-use Rattle.abi_rust.specs.Names.{named_behind, behind_all, first, parent, path_named, root_above, root_within, space_before, target, target_with}
+use Rattle.abi_rust.specs.Names.{asking, named_behind, behind_all, first, path_named, root_above, root_within, space_before, target, target_with}
+use Rattle.abi_rust.specs.Visible.{parent}
 
 pub turns : (n i : ℕ) → i < n → n - i ≡ suc (n - (i + 1))
 turns n i more = omega arith
@@ -43,40 +44,42 @@ module _ (items : Items) (scope : Scope) where
   target_none zero u space is = refl
   target_none (suc room) u space is = absurd (omega arith)
 
-  module _ (brought : ℕ → Space → Option Found) where
+  module _ (brought : ℕ → Space → Option Found) (m : ℕ) where
     pub names_step : (left fewer : ℕ) (space : Space) (before : Option Found) (name : Symbol) (names : List Symbol) → fewer + 1 ≡ left
-        → behind_all items scope brought left space before (name ∷ names) ≡ behind_all items scope brought fewer space (named_behind items scope brought before name (space_before fewer space)) names
+        → behind_all items scope brought left m space before (name ∷ names)
+        ≡ behind_all items scope brought fewer m space (named_behind items scope brought before (asking m name (space_before fewer space) None)) names
     names_step zero fewer space before name names is = absurd (omega arith)
     names_step (suc left) fewer space before name names is =
         let e : left ≡ fewer = omega arith in
-        ap (λ n. behind_all items scope brought n space (named_behind items scope brought before name (space_before n space)) names) e
+        ap (λ n. behind_all items scope brought n m space (named_behind items scope brought before (asking m name (space_before n space) None)) names) e
 
     -- the names of a list, of which one more is looked at
     pub names_on : {X : Type 0} (view : X → Symbol) (all : List X) (d : X) (i left fewer : ℕ) (space : Space) (before : Option Found) → i < length all → fewer + 1 ≡ left
-        → behind_all items scope brought left space before (map view (drop i all)) ≡ behind_all items scope brought fewer space (named_behind items scope brought before (view (get_or all i d)) (space_before fewer space)) (map view (drop (i + 1) all))
+        → behind_all items scope brought left m space before (map view (drop i all))
+        ≡ behind_all items scope brought fewer m space (named_behind items scope brought before (asking m (view (get_or all i d)) (space_before fewer space) None)) (map view (drop (i + 1) all))
     names_on view all d i left fewer space before more is = rw (drop-cons all i d, add-one i) (names_step left fewer space before (view (get_or all i d)) (map view (drop (suc i) all)) is)
 
-    pub names_past : (left : ℕ) (space : Space) (before : Option Found) (names : List Symbol) → left ≡ 0 → behind_all items scope brought left space before names ≡ before
+    pub names_past : (left : ℕ) (space : Space) (before : Option Found) (names : List Symbol) → left ≡ 0 → behind_all items scope brought left m space before names ≡ before
     names_past zero space before names is = refl
     names_past (suc left) space before names is = absurd (omega arith)
 
-    pub names_none : (left : ℕ) (space : Space) (before : Option Found) → behind_all items scope brought left space before [] ≡ before
+    pub names_none : (left : ℕ) (space : Space) (before : Option Found) → behind_all items scope brought left m space before [] ≡ before
     names_none zero space before = refl
     names_none (suc left) space before = refl
 
-    pub names_end : {X : Type 0} (view : X → Symbol) (all : List X) (i left : ℕ) (space : Space) (before : Option Found) → length all ≤ i → behind_all items scope brought left space before (map view (drop i all)) ≡ before
+    pub names_end : {X : Type 0} (view : X → Symbol) (all : List X) (i left : ℕ) (space : Space) (before : Option Found) → length all ≤ i → behind_all items scope brought left m space before (map view (drop i all)) ≡ before
     names_end view all i left space before done = rw (drop_all i all done) (names_none left space before)
 
     -- what was found when no name is left is what all names name
-    pub all_named : {X : Type 0} (view : X → Symbol) (all rest : List X) (begin : X) (count begun left m : ℕ) (is_global : Bool) (space : Space) (skipped : Option ℕ) (start found : Option Found) (names : List Symbol)
-        → all ≡ begin ∷ rest → begun + 1 ≡ count → start ≡ first items scope brought m (view begin) is_global (space_before begun space) skipped
-        → behind_all items scope brought left space found names ≡ behind_all items scope brought begun space start (map view rest)
-        → behind_all items scope brought left space found names ≡ found
+    pub all_named : {X : Type 0} (view : X → Symbol) (all rest : List X) (begin : X) (count begun left : ℕ) (is_global : Bool) (space : Space) (skipped : Option ℕ) (start found : Option Found) (names : List Symbol)
+        → all ≡ begin ∷ rest → begun + 1 ≡ count → start ≡ first items scope brought (asking m (view begin) (space_before begun space) skipped) is_global
+        → behind_all items scope brought left m space found names ≡ behind_all items scope brought begun m space start (map view rest)
+        → behind_all items scope brought left m space found names ≡ found
         → found ≡ path_named items scope brought count m is_global space skipped (map view all)
-    all_named view all rest begin zero begun left m is_global space skipped start found names is counted started same past = absurd (omega arith)
-    all_named view all rest begin (suc count) begun left m is_global space skipped start found names is counted started same past =
+    all_named view all rest begin zero begun left is_global space skipped start found names is counted started same past = absurd (omega arith)
+    all_named view all rest begin (suc count) begun left is_global space skipped start found names is counted started same past =
         let e : begun ≡ count = omega arith in
-        rw (is, ← e) (sym past ∙ (same ∙ ap (λ s. behind_all items scope brought begun space s (map view rest)) started))
+        rw (is, ← e) (sym past ∙ (same ∙ ap (λ s. behind_all items scope brought begun m space s (map view rest)) started))
 
 module _ (items : Items) (scope : Scope) (n i : ℕ) where
   pub type_more : (found : Option Found) → i < n → type_within items scope (n - i) found ≡ type_step items scope (type_within items scope (n - (i + 1))) found

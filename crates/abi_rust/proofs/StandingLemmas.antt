@@ -2,11 +2,12 @@
 use Rattle.std.proofs.Common.{◌≡◌, ℕ, ◌+◌, ◌<◌, Bool, true, false, List, [], ◌∷◌, ◌++◌, get_or, drop, length, take, Option, Some, None, refl, arith, ap, ◌∙◌, add-one, add-zero, zero-add}
 use Rattle.std.proofs.Math.Seq.{drop-cons, take-suc}
 use Rattle.std.proofs.lemmas.Grind.{common_steps}
-use Rattle.std.specs.Prelude.{if◌then◌else◌}
+use Rattle.std.specs.Prelude.{is_some, if◌then◌else◌}
 use Rattle.std.specs.Option.{option_or}
 use Rattle.rust_source.specs.declared.item.Item.{Item}
 use Rattle.abi_rust.specs.declared.fault.Stop.{Stop}
-use Rattle.abi_rust.specs.Standing.{ModuleName, constant_at, first_repeated, first_so, key_of, last_so, numbered, repeated_by, type_at}
+use Rattle.abi_rust.specs.Scope.{several}
+use Rattle.abi_rust.specs.Standing.{ModuleName, constant_at, first_repeated, first_so, key_of, last_so, numbered, one_so, repeated_by, type_at}
 
 -- the last of one more
 pub last_snoc : {A : Type 0} (is : A → Bool) (i : ℕ) (xs : List A) (x : A)
@@ -44,6 +45,29 @@ first_more is xs i d within =
     let long : length (take i xs) ≡ i = grind (arith, common_steps) in
     let all : take (i + 1) xs ≡ take i xs ++ get_or xs i d ∷ [] = rw add-one (take-suc xs i d within) in
     rw all (first_snoc is 0 (take i xs) (get_or xs i d) ∙ ap (λ n. option_or (first_so is 0 (take i xs)) (if is (get_or xs i d) then Some (numbered n) else None)) (rw long (zero-add i)))
+
+-- that of the one of one more
+one_snoc : {A : Type 0} (is : A → Bool) (i : ℕ) (xs : List A) (x : A)
+    → one_so is i (xs ++ x ∷ []) ≡ (if is x then Some (if is_some (one_so is i xs) then several else numbered (i + length xs)) else one_so is i xs)
+one_snoc is i [] x = rw add-zero refl
+one_snoc is i (y ∷ xs) x =
+    let same : i + 1 + length xs ≡ i + length (y ∷ xs) = omega arith in
+    let more = one_snoc is (i + 1) xs x in
+    rw (more, same) (elim (is x) as (λ v. (if is y then Some (if is_some (if v then Some (if is_some (one_so is (i + 1) xs) then several else numbered (i + length (y ∷ xs))) else one_so is (i + 1) xs) then several else numbered i) else (if v then Some (if is_some (one_so is (i + 1) xs) then several else numbered (i + length (y ∷ xs))) else one_so is (i + 1) xs))
+    ≡ (if v then Some (if is_some (if is y then Some (if is_some (one_so is (i + 1) xs) then several else numbered i) else one_so is (i + 1) xs) then several else numbered (i + length (y ∷ xs))) else (if is y then Some (if is_some (one_so is (i + 1) xs) then several else numbered i) else one_so is (i + 1) xs))) [
+      | true ↦ elim (is y) as (λ w. (if w then Some several else Some (if is_some (one_so is (i + 1) xs) then several else numbered (i + length (y ∷ xs))))
+          ≡ Some (if is_some (if w then Some (if is_some (one_so is (i + 1) xs) then several else numbered i) else one_so is (i + 1) xs) then several else numbered (i + length (y ∷ xs)))) [ true ↦ refl | false ↦ refl ]
+      | false ↦ refl
+    ])
+
+-- that of the one of those up to an index, and that one too
+pub ones_more : {A : Type 0} (is : A → Bool) (xs : List A) (i : ℕ) (d : A) → i < length xs
+    → one_so is 0 (take (i + 1) xs) ≡ (if is (get_or xs i d) then Some (if is_some (one_so is 0 (take i xs)) then several else numbered i) else one_so is 0 (take i xs))
+ones_more is xs i d within =
+    let long : length (take i xs) ≡ i = grind (arith, common_steps) in
+    let all : take (i + 1) xs ≡ take i xs ++ get_or xs i d ∷ [] = rw add-one (take-suc xs i d within) in
+    rw all (one_snoc is 0 (take i xs) (get_or xs i d)
+    ∙ ap (λ n. if is (get_or xs i d) then Some (if is_some (one_so is 0 (take i xs)) then several else numbered n) else one_so is 0 (take i xs)) (rw long (zero-add i)))
 
 -- an item is told by what its own name is
 pub repeated_same : (types others constants more modules : ModuleName → Option ℕ) (it : Item)

@@ -1,5 +1,5 @@
 -- The value of a constant expression.
-use Rattle.std.specs.Prelude.{ℕ, zero, suc, ◌-◌, ◌^◌, ◌&&◌, not, nat_eq, Bool, true, false, cond, List, [], ◌∷◌, length, ℤ, pos, neg_ℤ, ◌+ℤ◌, int_lt, Option, Some, None, Ok, Err, if◌then◌else◌}
+use Rattle.std.specs.Prelude.{ℕ, zero, suc, ◌-◌, ◌^◌, ◌&&◌, not, nat_eq, is_some, slice_get, Bool, true, false, cond, List, [], ◌∷◌, length, ℤ, pos, neg_ℤ, ◌+ℤ◌, int_lt, Option, Some, None, Ok, Err, if◌then◌else◌}
 use Rattle.std.specs.Option.{option_and_then, option_map, option_or}
 use Rattle.rust_source.specs.declared.item.Item.{Item}
 use Rattle.rust_source.specs.declared.item.ItemKind.{ItemKind}
@@ -20,10 +20,10 @@ use Rattle.rust_source.specs.declared.syntax.Unary.{Unary}
 use Rattle.rust_source.specs.declared.syntax.Unary.TheVariants.{Minus}
 use Rattle.rust_source.specs.declared.syntax.Unevaluated.TheVariants.{Associated, Expression}
 use Rattle.abi_rust.specs.declared.fault.FaultKind.{FaultKind}
-use Rattle.abi_rust.specs.declared.fault.FaultKind.TheVariants.{Unevaluated, UnknownConstant, WrongType}
+use Rattle.abi_rust.specs.declared.fault.FaultKind.TheVariants.{Ambiguous, EnumCast, Private, Unevaluated, UnknownConstant, WrongType}
 use Rattle.abi_rust.specs.declared.fault.Stop.TheVariants.{Fault, Size}
 use Rattle.abi_rust.specs.declared.paths.Found.{Found}
-use Rattle.abi_rust.specs.declared.paths.Found.TheVariants.{Module, Item as ItemFound}
+use Rattle.abi_rust.specs.declared.paths.Found.TheVariants.{Ambiguous as AmbiguousFound, Hidden, Module, Item as ItemFound}
 use Rattle.abi_rust.specs.declared.paths.Space.TheVariants.{Types, Values}
 use Rattle.abi_rust.specs.declared.ty.Kind.{Kind}
 use Rattle.abi_rust.specs.declared.ty.Kind.TheVariants.{Bool as BoolKind, Char as CharKind, Integer as KindInteger}
@@ -84,6 +84,34 @@ integer_or_isize None = Isize
 -- that of its `repr`, or else `isize`
 abbrev pub discriminant_kind : Item → IntegerKind
 discriminant_kind it = integer_or_isize it.repr.integer
+
+-- a variant has no fields, and parentheses only where no discriminant is written
+abbrev pub is_fieldless : Variant → Bool
+is_fieldless v = nat_eq (length v.fields.all.items) 0 && not (v.fields.is_tuple && is_some v.discriminant)
+
+-- each of these variants is so, as of an enum that can be cast (Rust Reference, "Enumerations")
+abbrev pub all_fieldless : List Variant → Bool
+all_fieldless [] = true
+all_fieldless (v ∷ vs) = is_fieldless v && all_fieldless vs
+
+-- the variant has no parentheses, so that its name alone is a value
+abbrev pub is_unit_at : Option Variant → Bool
+is_unit_at None = false
+is_unit_at (Some v) = not v.fields.is_tuple
+
+-- the variant of this number is a value by its name alone, of an enum that can be cast
+abbrev pub is_castable : (index : ℕ) → ItemKind → Bool
+is_castable index (EnumItem all) = is_unit_at (slice_get all.variants.items index) && all_fieldless all.variants.items
+is_castable index _ = false
+
+-- it is an integer's type
+abbrev pub is_integer : Kind → Bool
+is_integer (KindInteger kind) = true
+is_integer _ = false
+
+-- a variant is cast to an integer alone, where no variant of its enum has fields
+abbrev pub cast_checked : Place → Kind → Item → (index : ℕ) → Meaning Bool
+cast_checked at kind it index = if is_integer kind && is_castable index it.kind then Ok true else fault_at at EnumCast
 
 -- the discriminant that is written last up to a variant, and how far that one stands behind it, or behind the first
 abbrev pub written_on : (go_on : ℕ → Option Expr → ℕ × Option Expr) → (behind : ℕ) → (before : Option Expr) → Option Expr → ℕ × Option Expr
@@ -149,12 +177,26 @@ module _ (cx : Context) where
   limit_or at kind (Some v) = Ok v
   limit_or at kind None = fault_at at kind
 
+  -- what is wrong with a path to a constant that may not be used where it stands, or to one of several
+  abbrev pub barred_by : Option Found → Option FaultKind
+  barred_by (Some (Hidden name)) = Some (Private name)
+  barred_by (Some (AmbiguousFound name)) = Some (Ambiguous name)
+  barred_by _ = None
+
+  abbrev pub barred : (inside : ℕ) → Path → Option FaultKind
+  barred m p = barred_by (found cx.items.now cx.scope.now m p Values)
+
+  abbrev pub unless_barred : Place → Option FaultKind → Meaning ValueRead → Meaning ValueRead
+  unless_barred at (Some kind) value = fault_at at kind
+  unless_barred at None value = value
+
   abbrev pub limit_by : Where → Path → (count : ℕ) → Option Segment → Meaning ValueRead
   limit_by w p count None = Err (Fault None (Unevaluated Expression))
   limit_by w p count (Some s) =
       let name = (out-Segment s).name in
-      if nat_eq count 0 then fault_at (out-Segment s).at (UnknownConstant name)
-      else limit_or (out-Segment s).at (unknown_of w.inside p count name) (limit_of name (kind_of_names cx.items.now cx.scope.now w p count))
+      unless_barred (out-Segment s).at (barred w.inside p)
+      (if nat_eq count 0 then fault_at (out-Segment s).at (UnknownConstant name)
+      else limit_or (out-Segment s).at (unknown_of w.inside p count name) (limit_of name (kind_of_names cx.items.now cx.scope.now w p count)))
 
   -- `T::MAX`, `T::MIN` or `T::BITS` of an integer type
   unfoldable pub limit : Where → Path → Meaning ValueRead
@@ -272,9 +314,9 @@ module _ (cx : Context) where
     unfoldable pub discriminant : Item → (index : ℕ) → Meaning ValueRead
     discriminant it index = discriminant_of_kind it index it.kind
 
-    -- the value that is cast: a variant's discriminant, or that of the operand
+    -- the value that is cast: a variant's discriminant where its enum can be cast, or the operand's value
     abbrev pub operand_value : Where → Expr → Kind → Option (Item × ℕ) → Meaning ValueRead
-    operand_value w e kind (Some v) = discriminant v.0 v.1
+    operand_value w e kind (Some v) = then_meant (λ _. discriminant v.0 v.1) (cast_checked (place_of_expr e) kind v.0 v.1)
     operand_value w e kind None = E w e (option_or (kind_of_expr cx.items.now cx.scope.now w e) (inner_kind kind e))
 
     abbrev pub cast_by : Where → Expr → Place → Option Kind → Meaning ValueRead

@@ -4,7 +4,7 @@ use Rattle.rust_source.specs.Names.{text_of}
 use Rattle.rust_source.specs.declared.names.Names.{Names}
 use Rattle.rust_source.specs.declared.place.Symbol.{Symbol}
 use Rattle.abi_rust.specs.declared.fault.FaultKind.{FaultKind}
-use Rattle.abi_rust.specs.declared.fault.FaultKind.TheVariants.{NotAType, Recursive, RepeatedConstant, RepeatedType, UnknownConstant, UnknownOrigin, UnknownType, WrongArguments}
+use Rattle.abi_rust.specs.declared.fault.FaultKind.TheVariants.{Ambiguous, NotAType, Private, Recursive, RepeatedConstant, RepeatedType, UnknownConstant, UnknownOrigin, UnknownType, WrongArguments}
 
 -- the name that a fault is about
 abbrev pub name_of_fault : FaultKind → Option Symbol
@@ -13,6 +13,8 @@ name_of_fault (RepeatedConstant n) = Some n
 name_of_fault (UnknownType n) = Some n
 name_of_fault (UnknownConstant n) = Some n
 name_of_fault (UnknownOrigin n) = Some n
+name_of_fault (Private n) = Some n
+name_of_fault (Ambiguous n) = Some n
 name_of_fault (NotAType n) = Some n
 name_of_fault (WrongArguments n) = Some n
 name_of_fault (Recursive n) = Some n

@@ -1,31 +1,43 @@
 -- What globs lead to.
-use Rattle.std.specs.Prelude.{◌≡◌, ◌⊎◌, ℕ, zero, suc, ◌+◌, nat_eq, Bool, List, [], ◌∷◌, ◌++◌, length, map, slice_get, slice_index_or, slice_set, Option, Some, None, Vec, if◌then◌else◌}
+use Rattle.std.specs.Prelude.{◌≡◌, ◌⊎◌, ℕ, zero, suc, ◌+◌, ◌&&◌, nat_eq, nat_lt, Bool, true, false, List, [], ◌∷◌, ◌++◌, length, map, slice_get, slice_index_or, slice_set, Option, Some, None, Vec, if◌then◌else◌}
 use Rattle.std.specs.List.{list_any}
+use Rattle.std.specs.Option.{option_map}
 use Rattle.rust_source.specs.declared.item.Items.{Items}
 use Rattle.rust_source.specs.declared.item.Use.{Use}
 use Rattle.abi_rust.specs.declared.paths.Found.{Found}
 use Rattle.abi_rust.specs.declared.paths.Found.TheVariants.{Module, Item}
 use Rattle.abi_rust.specs.declared.paths.Space.TheVariants.{Types}
 use Rattle.abi_rust.specs.declared.scope.Scope.{Scope}
+use Rattle.abi_rust.specs.declared.ways.Glob.{Glob}
+use Rattle.abi_rust.specs.declared.ways.Way.{Way}
 use Rattle.abi_rust.specs.Names.{module_found, most_uses, target}
 use Rattle.abi_rust.specs.Scope.{nowhere, reached_from}
 use Rattle.abi_rust.specs.ScopeNames.{HasSameNames}
 use Rattle.abi_rust.specs.Standing.{numbered}
+use Rattle.abi_rust.specs.Ways.{leads_on}
 
--- the lists of modules that are kept, one a module
-abbrev pub lists_of : {S : Type 0} → List (Vec ℕ S) → List (List ℕ)
-lists_of all = map (λ ms. ms.items) all
+-- how many ways of globs are kept of a module
+unfoldable pub most_ways : ℕ
+most_ways = 4096
+
+-- the lists that are kept, one a module
+abbrev pub lists_of : {A S : Type 0} → List (Vec A S) → List (List A)
+lists_of all = map (λ xs. xs.items) all
+
+-- a use as a glob that leads there
+abbrev pub glob_to : Use → (target : ℕ) → Glob
+glob_to u target = record { inside = u.«module»; target = target; visible_in = u.visible_in }
 
 -- the module that is found, and none where it is this one
 abbrev pub other_than : (inside : ℕ) → Option ℕ → Option ℕ
 other_than m None = None
 other_than m (Some found) = if nat_eq found m then None else Some found
 
--- the module that the use of this number brings all names of: where it is a glob, the one that its path names, but not
--- the one that it stands in
-abbrev pub glob_target : Items → Scope → (use_number : ℕ) → Use → Option ℕ
+-- the use of this number as a glob, if it is one: it leads to the module that its path names, but not to the one that it
+-- stands in
+abbrev pub glob_target : Items → Scope → (use_number : ℕ) → Use → Option Glob
 glob_target items scope n u =
-    if u.is_glob then other_than u.«module» (module_found (target items scope most_uses n Types)) else None
+    if u.is_glob then option_map (glob_to u) (other_than u.«module» (module_found (target items scope most_uses n Types))) else None
 
 -- nowhere, but for a module, and for an item: the glob of an enum brings in its variants, which are no types
 abbrev pub nowhere_by : Option Found → Option ℕ
@@ -33,88 +45,113 @@ nowhere_by (Some (Module m)) = None
 nowhere_by (Some (Item n)) = None
 nowhere_by _ = Some nowhere
 
--- where the use of this number leads, if it is a glob that leads to nothing that is read
-abbrev pub lost_target : Items → Scope → (use_number : ℕ) → Use → Option ℕ
-lost_target items scope n u = if u.is_glob then nowhere_by (target items scope most_uses n Types) else None
+-- the use of this number as a glob, if it is one that leads to nothing that is read
+abbrev pub lost_target : Items → Scope → (use_number : ℕ) → Use → Option Glob
+lost_target items scope n u = if u.is_glob then option_map (glob_to u) (nowhere_by (target items scope most_uses n Types)) else None
 
--- the module is in the list
-abbrev pub is_in : List ℕ → ℕ → Bool
-is_in ms m = list_any (λ other. nat_eq other m) ms
+-- they are the same module, or no module both
+abbrev pub same_visibility : Option ℕ → Option ℕ → Bool
+same_visibility None None = true
+same_visibility (Some m) (Some n) = nat_eq m n
+same_visibility _ _ = false
 
--- the modules of a list, and this one behind them, unless it is there
-abbrev pub with_module : List ℕ → ℕ → List ℕ
-with_module ms m = if is_in ms m then ms else ms ++ m ∷ []
+-- two globs of a module lead to one, and what they bring in may be used in one
+abbrev pub is_same_glob : Glob → Glob → Bool
+is_same_glob a b = nat_eq a.target b.target && same_visibility a.visible_in b.visible_in
 
--- the modules of a list, and behind them those of another one that aren't there
-abbrev pub with_modules : List ℕ → (more : List ℕ) → List ℕ
-with_modules ms [] = ms
-with_modules ms (m ∷ more) = with_modules (with_module ms m) more
+-- the glob is in the list
+abbrev pub is_in : List Glob → Glob → Bool
+is_in gs g = list_any (λ other. is_same_glob other g) gs
+
+-- the globs of a list, and this one behind them, unless it is there
+abbrev pub with_glob : List Glob → Glob → List Glob
+with_glob gs g = if is_in gs g then gs else gs ++ g ∷ []
 
 -- the list of a module, which is empty where there is none
-abbrev pub list_at : (lists : List (List ℕ)) → (inside : ℕ) → List ℕ
+abbrev pub list_at : {A : Type 0} → (lists : List (List A)) → (inside : ℕ) → List A
 list_at lists m = slice_index_or lists m []
 
--- the lists, with one more in a module's list, if there is one; nothing is added where there is no such list
-abbrev pub with_target : (lists : List (List ℕ)) → (inside : ℕ) → Option ℕ → List (List ℕ)
-with_target lists m None = lists
-with_target lists m (Some found) = slice_set lists m (with_module (list_at lists m) found)
+-- the lists, with one more in the list of the module that it stands in; nothing is added where there is no such list
+abbrev pub with_target : (lists : List (List Glob)) → Option Glob → List (List Glob)
+with_target lists None = lists
+with_target lists (Some g) = slice_set lists g.inside (with_glob (list_at lists g.inside) g)
 
--- the lists with the modules that these uses bring all names of, each behind the others of the module that the use
--- stands in; the first of the uses has this number
-abbrev pub with_globs : (target_of : (use_number : ℕ) → Use → Option ℕ) → (use_number : ℕ) → List Use → (lists : List (List ℕ)) → List (List ℕ)
+-- the lists with the globs that these uses are, each behind the others of the module that the use stands in; the first of
+-- the uses has this number
+abbrev pub with_globs : (target_of : (use_number : ℕ) → Use → Option Glob) → (use_number : ℕ) → List Use → (lists : List (List Glob)) → List (List Glob)
 with_globs target_of n [] lists = lists
-with_globs target_of n (u ∷ us) lists = with_globs target_of (n + 1) us (with_target lists u.«module» (target_of (numbered n) u))
+with_globs target_of n (u ∷ us) lists = with_globs target_of (n + 1) us (with_target lists (target_of (numbered n) u))
 
--- what each module's own globs name, beside what was known, where names stand as this scope says
-abbrev pub globs_added : Items → Scope → (direct : List (List ℕ)) → List (List ℕ)
+-- each module's own globs, beside those that were known, where names stand as this scope says
+abbrev pub globs_added : Items → Scope → (direct : List (List Glob)) → List (List Glob)
 globs_added items scope direct = with_globs (glob_target items scope) 0 items.uses.items direct
 
--- what each module's own globs name, and behind that nowhere, if one of them leads there
-abbrev pub lost_added : Items → Scope → (direct : List (List ℕ)) → List (List ℕ)
+-- each module's own globs, and behind those the ones that lead nowhere
+abbrev pub lost_added : Items → Scope → (direct : List (List Glob)) → List (List Glob)
 lost_added items scope direct = with_globs (lost_target items scope) 0 items.uses.items direct
 
--- what the module's own globs name, if there is a module
-abbrev pub named_by : (direct : List (List ℕ)) → Option ℕ → List ℕ
-named_by direct None = []
-named_by direct (Some m) = list_at direct m
+-- a way that leads to nothing that is read
+abbrev pub lost_way : Way
+lost_way = record { glob = record { inside = nowhere; target = nowhere; visible_in = None }; before = None }
 
--- the modules of a list, with what the own globs of those name that stand at this index and behind it, so many of them:
--- one after another, those too that are added on the way
-abbrev pub led_from : (direct : List (List ℕ)) → (count : ℕ) → (index : ℕ) → List ℕ → List ℕ
-led_from direct zero i ms = ms
-led_from direct (suc count) i ms = led_from direct count (i + 1) (with_modules ms (named_by direct (slice_get ms i)))
+-- the ways, and one to nothing that is read where some may have been left out
+abbrev pub if_all : List Way → List Way
+if_all ways = if nat_lt (length ways) most_ways then ways else ways ++ lost_way ∷ []
 
--- where these modules lead: they themselves, what their own globs name, and what the globs of those do, each once; as
--- many are looked at as there are lists
-abbrev pub led_to : (direct : List (List ℕ)) → List ℕ → List ℕ
-led_to direct own = led_from direct (length direct) 0 (with_modules [] own)
+module _ (items : Items) where
+  -- the ways, and the one before with this glob, if it goes on by it and there is room
+  abbrev pub with_way : List Way → (before : Option ℕ) → Glob → List Way
+  with_way ways before g =
+      if nat_lt (length ways) most_ways && leads_on items ways before g
+      then ways ++ (record { glob = g; before = before }) ∷ []
+      else ways
 
--- what each module's own globs name before the first round, which is nothing
-abbrev pub none_direct : Items → List (List ℕ)
+  -- the ways, and the one before with each of these globs
+  abbrev pub with_ways : List Way → (before : Option ℕ) → (more : List Glob) → List Way
+  with_ways ways before [] = ways
+  with_ways ways before (g ∷ more) = with_ways (with_way ways before g) before more
+
+  -- the ways on from the one at this index, if there is one, by the own globs of the module at its end
+  abbrev pub with_next : (direct : List (List Glob)) → (index : ℕ) → List Way → Option Way → List Way
+  with_next direct i ways None = ways
+  with_next direct i ways (Some way) = with_ways ways (Some (numbered i)) (list_at direct way.glob.target)
+
+  -- the ways, and those on from the one at this index and from those behind it, so many of them, one after another, those
+  -- too that are added
+  abbrev pub led_from : (direct : List (List Glob)) → (count : ℕ) → (index : ℕ) → List Way → List Way
+  led_from direct zero i ways = ways
+  led_from direct (suc count) i ways = led_from direct count (i + 1) (with_next direct i ways (slice_get ways i))
+
+  -- the ways that begin with these globs
+  abbrev pub led_to : (direct : List (List Glob)) → List Glob → List Way
+  led_to direct own = if_all (led_from direct most_ways 0 (with_ways [] None own))
+
+-- each module's own globs before the first round: none
+abbrev pub none_direct : Items → List (List Glob)
 none_direct items = map (λ m. []) items.modules.items
 
--- each module reaches where those lead that its own globs name
-abbrev pub Reaches : (direct : List (List ℕ)) → Scope → Type 0
-Reaches direct scope = (m : ℕ) → reached_from scope m ≡ led_to direct (list_at direct m)
+-- each module has the ways that begin with its own globs
+abbrev pub Reaches : Items → (direct : List (List Glob)) → Scope → Type 0
+Reaches items direct scope = (m : ℕ) → reached_from scope m ≡ led_to items direct (list_at direct m)
 
--- the scope after so many rounds, and what each module's own globs name then: in each round names stand as the scope
+-- the scope after so many rounds, and each module's own globs then: in each round names stand as the scope
 -- says that the round before left
-pub data AreRounds (items : Items) : (rounds : ℕ) → (direct : List (List ℕ)) → Scope → Type 0 where
+pub data AreRounds (items : Items) : (rounds : ℕ) → (direct : List (List Glob)) → Scope → Type 0 where
   no_round : (scope : Scope) → ((m : ℕ) → reached_from scope m ≡ []) → AreRounds items 0 (none_direct items) scope
-  round : (rounds : ℕ) (direct : List (List ℕ)) (before after : Scope) → AreRounds items rounds direct before
-      → HasSameNames before after → Reaches (globs_added items before direct) after
+  round : (rounds : ℕ) (direct : List (List Glob)) (before after : Scope) → AreRounds items rounds direct before
+      → HasSameNames before after → Reaches items (globs_added items before direct) after
       → AreRounds items (rounds + 1) (globs_added items before direct) after
 
 -- rounds were made until no glob led further, or as many as there are uses and one more
-pub record AreFollowed (items : Items) (direct : List (List ℕ)) (scope : Scope) : Type 0 where
+pub record AreFollowed (items : Items) (direct : List (List Glob)) (scope : Scope) : Type 0 where
   pub rounds : ℕ
   pub made : AreRounds items rounds direct scope
   pub over : (globs_added items scope direct ≡ direct) ⊎ (rounds ≡ length items.uses.items + 1)
 
 -- each module reaches where its globs lead, when all of them were followed, and nowhere, if one of those leads there
 pub record KeepsGlobs (items : Items) (scope : Scope) : Type 0 where
-  pub direct : List (List ℕ)
+  pub direct : List (List Glob)
   pub before : Scope
   pub followed : AreFollowed items direct before
   pub same : HasSameNames before scope
-  pub leads : Reaches (lost_added items before direct) scope
+  pub leads : Reaches items (lost_added items before direct) scope

@@ -27,10 +27,11 @@ use Rattle.abi_rust.specs.declared.ty.Kind.TheVariants.{Bool as BoolKind, Char a
 use Rattle.abi_rust.specs.declared.ty.Primitive.{Primitive}
 use Rattle.abi_rust.specs.declared.ty.Primitive.TheVariants.{Bool as BoolType, Char as CharType, Integer as IntegerType}
 use Rattle.abi_rust.specs.declared.words.Word.TheVariants as word
-use Rattle.abi_rust.specs.Names.{found, found_of}
+use Rattle.abi_rust.specs.Names.{found, found_of, visibility_of_item}
 use Rattle.abi_rust.specs.Places.{last_name}
 use Rattle.abi_rust.specs.Scope.{own_constant, owner_of}
 use Rattle.abi_rust.specs.Types.{GivenRead, Where, of_type, primitive}
+use Rattle.abi_rust.specs.Visible.{is_visible}
 use Rattle.abi_rust.specs.Words.{is_word, is_same_name}
 
 -- how many aliases may lead from one to another
@@ -204,16 +205,20 @@ module _ (items : Items) (scope : Scope) where
   unfoldable pub owner_named : Where → Path → (count : ℕ) → Option ℕ
   owner_named w p count = owner_by w p count (name_alone count (out-Path p).segments.items)
 
-  -- the constant of this name that is such a type's own
-  abbrev pub own_constant_by : Option ℕ → Option Segment → Option ℕ
-  own_constant_by (Some t) (Some s) = own_constant scope t (out-Segment s).name
-  own_constant_by _ _ = None
+  -- the constant of this number, if it may be used in the module
+  abbrev pub if_visible : (inside : ℕ) → ℕ → Option ℕ
+  if_visible m n = if is_visible items (visibility_of_item items n) m then Some n else None
+
+  -- the constant of this name that is such a type's own, if it may be used in the module
+  abbrev pub own_constant_by : (inside : ℕ) → Option ℕ → Option Segment → Option ℕ
+  own_constant_by m (Some t) (Some s) = option_and_then (if_visible m) (own_constant scope t (out-Segment s).name)
+  own_constant_by m _ _ = None
 
   -- the constant of a type that a path names
   unfoldable pub own_named : Where → Path → Option ℕ
   own_named w p =
       let count = length (out-Path p).segments.items - 1 in
-      own_constant_by (owner_named w p count) (last_name p)
+      own_constant_by w.inside (owner_named w p count) (last_name p)
 
   abbrev pub constant_found : Where → Path → Option Found → Option ℕ
   constant_found w p (Some (ItemFound n)) = Some n

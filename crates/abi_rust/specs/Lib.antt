@@ -1,6 +1,7 @@
 pub mod Aligned
 pub mod Evaluating
 pub mod FaultTexts
+pub mod Formed
 pub mod Globs
 pub mod Int
 pub mod Kinds
@@ -26,4 +27,6 @@ pub mod Told
 pub mod Trees
 pub mod Types
 pub mod Values
+pub mod Visible
+pub mod Ways
 pub mod Words

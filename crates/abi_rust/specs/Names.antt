@@ -1,5 +1,5 @@
 -- What paths name.
-use Rattle.std.specs.Prelude.{ℕ, zero, suc, nat_eq, Bool, false, List, [], ◌∷◌, length, map, not, slice_get, is_some, ◌&&◌, Option, Some, None, if◌then◌else◌}
+use Rattle.std.specs.Prelude.{ℕ, zero, suc, nat_eq, Bool, true, false, List, [], ◌∷◌, length, map, not, slice_get, is_some, ◌&&◌, ◌||◌, Option, Some, None, if◌then◌else◌}
 use Rattle.std.specs.Option.{option_and_then, option_map, option_or}
 use Rattle.rust_source.specs.declared.item.Items.{Items}
 use Rattle.rust_source.specs.declared.item.Use.{Use}
@@ -7,25 +7,23 @@ use Rattle.rust_source.specs.declared.place.Symbol.{Symbol}
 use Rattle.rust_source.specs.declared.place.TheConstants.Symbol.{CRATE, SELF, SUPER}
 use Rattle.rust_source.specs.declared.syntax.Path.{Path, out-Path}
 use Rattle.rust_source.specs.declared.syntax.Segment.{out-Segment}
+use Rattle.abi_rust.specs.declared.paths.Asked.{Asked}
 use Rattle.abi_rust.specs.declared.paths.Found.{Found}
-use Rattle.abi_rust.specs.declared.paths.Found.TheVariants.{Module, Item as ItemFound, Primitive as PrimitiveFound, Unknown}
+use Rattle.abi_rust.specs.declared.paths.Found.TheVariants.{Ambiguous, Hidden, Module, Item as ItemFound, Primitive as PrimitiveFound, Unknown}
+use Rattle.abi_rust.specs.declared.paths.OwnName.{OwnName}
+use Rattle.abi_rust.specs.declared.paths.Seen.{Seen}
 use Rattle.abi_rust.specs.declared.paths.Space.{Space}
 use Rattle.abi_rust.specs.declared.paths.Space.TheVariants.{Types, Values}
 use Rattle.abi_rust.specs.declared.scope.Scope.{Scope}
-use Rattle.abi_rust.specs.Scope.{constant_standing, leads_nowhere, module_in, reached_from, type_standing, use_in}
+use Rattle.abi_rust.specs.declared.ways.Way.{Way}
+use Rattle.abi_rust.specs.Scope.{constant_standing, leads_nowhere, module_in, reached_from, several, type_standing, use_in}
+use Rattle.abi_rust.specs.Visible.{is_visible, most_modules, parent}
+use Rattle.abi_rust.specs.Ways.{all_along, is_way_visible}
 use Rattle.abi_rust.specs.Words.{is_std, primitive_named, is_same_name}
 
 -- how many uses may lead from one to another
 unfoldable pub most_uses : ℕ
 most_uses = 32
-
--- how many modules a module may be in
-unfoldable pub most_modules : ℕ
-most_modules = 256
-
--- the module that a module is in
-abbrev pub parent : Items → (inside : ℕ) → Option ℕ
-parent items m = option_and_then (λ found. found.parent) (slice_get items.modules.items m)
 
 -- the root of the module above, or this one where none is above
 abbrev pub root_above : (go_on : ℕ → ℕ) → (inside : ℕ) → Option ℕ → ℕ
@@ -60,15 +58,56 @@ abbrev pub space_before : (named_behind : ℕ) → Space → Space
 space_before zero space = space
 space_before (suc named_behind) space = Types
 
+-- the module in which an item may be used, if not everywhere
+abbrev pub visibility_of_item : Items → (item_number : ℕ) → Option ℕ
+visibility_of_item items n = option_and_then (λ it. it.visible_in) (slice_get items.items.items n)
+
+-- the module in which a module may be used, if not everywhere
+abbrev pub visibility_of_module : Items → (inside : ℕ) → Option ℕ
+visibility_of_module items m = option_and_then (λ found. found.visible_in) (slice_get items.modules.items m)
+
+-- the module in which what a use brings in may be used, if not everywhere
+abbrev pub visibility_of_use : Items → (use_number : ℕ) → Option ℕ
+visibility_of_use items u = option_and_then (λ used. used.visible_in) (slice_get items.uses.items u)
+
+-- an item of a module's own
+abbrev pub own_item : Items → (item_number : ℕ) → OwnName
+own_item items n = record { found = ItemFound n; visible_in = visibility_of_item items n }
+
+-- a module of a module's own
+abbrev pub own_module : Items → (inside : ℕ) → OwnName
+own_module items m = record { found = Module m; visible_in = visibility_of_module items m }
+
 -- what stands in a module under a name
-abbrev pub declared : Scope → (inside : ℕ) → Symbol → Space → Option Found
-declared s m name Values = option_map ItemFound (constant_standing s m name)
-declared s m name Types = option_or (option_map ItemFound (type_standing s m name)) (option_map Module (module_in s m name))
+abbrev pub declared : Items → Scope → (inside : ℕ) → Symbol → Space → Option OwnName
+declared items s m name Values = option_map (own_item items) (constant_standing s m name)
+declared items s m name Types =
+    option_or (option_map (own_item items) (type_standing s m name)) (option_map (own_module items) (module_in s m name))
+
+-- what is asked for by a name in a module
+abbrev pub asking : (from : ℕ) → Symbol → Space → (skipped : Option ℕ) → Asked
+asking from name space skipped = record { from = from; name = name; space = space; skipped = skipped }
 
 -- the use counts for nothing
 abbrev pub is_skipped : (skipped : Option ℕ) → (use_number : ℕ) → Bool
 is_skipped None u = false
 is_skipped (Some skipped) u = nat_eq skipped u
+
+-- one of several that have the name: whoever asks is told so
+abbrev pub ambiguous : Symbol → OwnName
+ambiguous name = record { found = Ambiguous name; visible_in = None }
+
+-- it is not known what it is
+abbrev pub is_unknown : Found → Bool
+is_unknown Unknown = true
+is_unknown _ = false
+
+-- what has a name that stands in a module, and is brought in there by a use: not both, unless it isn't known what the
+-- use brings in, which then is a name of another kind
+abbrev pub beside : Symbol → (standing import : Option OwnName) → Option OwnName
+beside name None import = import
+beside name (Some standing) None = Some standing
+beside name (Some standing) (Some import) = if is_unknown import.found then Some standing else Some (ambiguous name)
 
 -- the module that is found, and nothing where something else is
 abbrev pub module_found : Option Found → Option ℕ
@@ -80,12 +119,44 @@ abbrev pub other_space : Space → Space
 other_space Types = Values
 other_space Values = Types
 
--- what a use brings in that leads to no item of these names, by what it leads to of the others: an import brings in a
--- name of whichever kind has an item, and where neither has one, what it brings in isn't known, and yet stands before
--- the names of the prelude and of the language
-abbrev pub unless_other : Option Found → Option Found
-unless_other (Some found) = None
-unless_other None = Some Unknown
+-- something is found that may be used
+abbrev pub is_usable : Option Found → Bool
+is_usable None = false
+is_usable (Some (Hidden name)) = false
+is_usable (Some found) = true
+
+-- what a use brings in, by what it leads to of these names, and of the others: an import brings in a name of whichever
+-- kind has an item, and where neither has one, what it brings in isn't known, and yet stands before the names of the
+-- prelude and of the language
+abbrev pub import_of : (found other : Option Found) → Option Found
+import_of found other = if is_usable found then found else (if is_usable other then None else option_or found (Some Unknown))
+
+-- what a module has of its own, as another one sees it
+abbrev pub seen_own : Items → (from : ℕ) → OwnName → Seen
+seen_own items from own = record { found = own.found; is_visible = is_visible items own.visible_in from }
+
+-- what is found under a name, where it may be used
+abbrev pub shown : Symbol → Seen → Found
+shown name seen = if seen.is_visible then seen.found else Hidden name
+
+-- one of two, if they are the same
+abbrev pub if_same : Symbol → (are_same : Bool) → Found → Found
+if_same name are_same found = if are_same then found else Ambiguous name
+
+-- what has a name, if it is this and that: they have to be the same, unless one isn't known
+abbrev pub one_of : Symbol → (one other : Found) → Found
+one_of name Unknown other = Unknown
+one_of name one Unknown = Unknown
+one_of name (Module a) (Module b) = if_same name (nat_eq a b) (Module a)
+one_of name (ItemFound a) (ItemFound b) = if_same name (nat_eq a b) (ItemFound a)
+one_of name one other = Ambiguous name
+
+-- what two ways of globs bring under a name
+abbrev pub agreed : Symbol → (one other : Option Seen) → Option Seen
+agreed name None other = other
+agreed name (Some one) None = Some one
+agreed name (Some one) (Some other) =
+    Some (record { found = one_of name one.found other.found; is_visible = one.is_visible || other.is_visible })
 
 -- the names of a path
 abbrev pub names_in_path : Path → List Symbol
@@ -94,85 +165,112 @@ names_in_path p = map (λ s. (out-Segment s).name) (out-Path p).segments.items
 -- a name that a glob may bring into a module, if one leads to nothing that is read: it stands before the names of the
 -- prelude and of the language. At the head of a use it is none of the standard library's own names, since it would be
 -- ambiguous there
-abbrev pub perhaps : Scope → (inside : ℕ) → Symbol → (skipped : Option ℕ) → Option Found
-perhaps scope m name skipped =
-    if leads_nowhere scope m && not (is_some skipped && is_std scope.words name) then Some Unknown else None
+abbrev pub perhaps : Items → Scope → (inside : ℕ) → Asked → Option Found
+perhaps items scope m a =
+    if leads_nowhere items scope m a.from && not (is_some a.skipped && is_std scope.words a.name) then Some Unknown else None
 
 module _ (items : Items) (scope : Scope) where
   module _ (brought : (use_number : ℕ) → Space → Option Found) where
     -- the item that a use leads to, or else one that isn't known, unless it leads to one of the other names
     abbrev pub imported : (use_number : ℕ) → Space → Option Found
-    imported u space = option_or (brought u space) (unless_other (brought u (other_space space)))
+    imported u space = import_of (brought u space) (brought u (other_space space))
 
-    -- what a use brings in, but for the one that counts for nothing
-    abbrev pub used_by : (skipped : Option ℕ) → Space → Option ℕ → Option Found
-    used_by skipped space None = None
-    used_by skipped space (Some u) = if is_skipped skipped u then None else imported u space
+    -- what a use brings in, with where it may be used
+    abbrev pub own_import : Asked → (use_number : ℕ) → Option OwnName
+    own_import a u = option_map (λ found. record { found = found; visible_in = visibility_of_use items u }) (imported u a.space)
+
+    -- what the use of a name brings in, but for the one that counts for nothing; of several uses it is ambiguous
+    abbrev pub used_by : Asked → Option ℕ → Option OwnName
+    used_by a None = None
+    used_by a (Some u) =
+        if nat_eq u several then Some (ambiguous a.name) else (if is_skipped a.skipped u then None else own_import a u)
 
     -- what a name names in a module without its globs: what stands there, or else what a use brings in
-    unfoldable pub own : (inside : ℕ) → Symbol → Space → (skipped : Option ℕ) → Option Found
-    own m name space skipped = option_or (declared scope m name space) (used_by skipped space (use_in scope m name))
+    unfoldable pub own : (inside : ℕ) → Asked → Option OwnName
+    own m a = beside a.name (declared items scope m a.name a.space) (used_by a (use_in scope m a.name))
 
-    -- what a name names in the first of these modules in which it names something
-    abbrev pub among : List ℕ → Symbol → Space → (skipped : Option ℕ) → Option Found
-    among [] name space skipped = None
-    among (m ∷ ms) name space skipped = option_or (own m name space skipped) (among ms name space skipped)
+    -- each module that a way's globs stand in sees what is visible in that module, and has no such name of its own, which
+    -- would stand before
+    abbrev pub is_open : List Way → Asked → Way → (visible_in : Option ℕ) → Bool
+    is_open ways a way visible_in =
+        all_along (λ w. is_visible items visible_in w.glob.inside && not (is_some (own w.glob.inside a))) ways (Some way)
 
-    -- what a name names in a module: what it does without its globs, or else in the modules that these lead to
-    unfoldable pub within : (inside : ℕ) → Symbol → Space → (skipped : Option ℕ) → Option Found
-    within m name space skipped = option_or (own m name space skipped) (among (reached_from scope m) name space skipped)
+    -- what the way brings that the module at its end has of its own: it may be used where each of its globs may
+    abbrev pub along_open : List Way → Asked → Way → OwnName → Option Seen
+    along_open ways a way end =
+        if is_open ways a way end.visible_in
+        then Some (record { found = end.found; is_visible = is_visible items end.visible_in a.from && is_way_visible items ways a.from way })
+        else None
+
+    -- what a way of globs brings under a name
+    abbrev pub along : List Way → Asked → Way → Option Seen
+    along ways a way = option_and_then (along_open ways a way) (own way.glob.target a)
+
+    -- what these of the ways bring under a name, beside what others did: all the same
+    abbrev pub among : List Way → Asked → (before : Option Seen) → (these : List Way) → Option Seen
+    among ways a before [] = before
+    among ways a before (way ∷ these) = among ways a (agreed a.name before (along ways a way)) these
+
+    -- what a name names in a module: what it has of its own, or else what its globs bring in
+    unfoldable pub within : (inside : ℕ) → Asked → Option Found
+    within m a =
+        option_map (shown a.name)
+        (option_or (option_map (seen_own items a.from) (own m a)) (among (reached_from scope m) a None (reached_from scope m)))
 
     -- the same, where there is such a module
-    abbrev pub within_some : Option ℕ → Symbol → Space → (skipped : Option ℕ) → Option Found
-    within_some None name space skipped = None
-    within_some (Some m) name space skipped = within m name space skipped
+    abbrev pub within_some : Option ℕ → Asked → Option Found
+    within_some None a = None
+    within_some (Some m) a = within m a
 
-    -- what a name names in a module, or what a glob may bring into it, or else what the prelude has
-    abbrev pub named_near : (inside : ℕ) → Symbol → Space → (skipped : Option ℕ) → Option Found
-    named_near m name space skipped =
-        option_or (within m name space skipped) (option_or (perhaps scope m name skipped) (within_some scope.prelude name space skipped))
+    -- what a name names in the module that asks, or what a glob may bring into it, or else what the prelude has
+    abbrev pub named_near : Asked → Option Found
+    named_near a =
+        option_or (within a.from a) (option_or (perhaps items scope a.from a) (within_some scope.prelude a))
 
     -- what a name names that no other stands before: in the module, or else in the prelude, or else everywhere
-    abbrev pub first_named : (inside : ℕ) → Symbol → (is_global : Bool) → Space → (skipped : Option ℕ) → Option Found
-    first_named m name is_global space skipped =
-        option_or (if is_global then None else named_near m name space skipped)
-        (if is_std scope.words name then Some (Module scope.std_root) else option_map PrimitiveFound (primitive_named scope.words name))
+    abbrev pub first_named : Asked → (is_global : Bool) → Option Found
+    first_named a is_global =
+        option_or (if is_global then None else named_near a)
+        (if is_std scope.words a.name then Some (Module scope.std_root) else option_map PrimitiveFound (primitive_named scope.words a.name))
 
-    -- what the first name of a path names in a module
-    unfoldable pub first : (inside : ℕ) → Symbol → (is_global : Bool) → Space → (skipped : Option ℕ) → Option Found
-    first m name is_global space skipped =
-        if is_same_name name CRATE then Some (crate_above items m)
-        else (if is_same_name name SELF then Some (Module m)
-        else (if is_same_name name SUPER then option_map Module (parent items m)
-        else first_named m name is_global space skipped))
+    -- what the first name of a path names in the module that asks
+    unfoldable pub first : Asked → (is_global : Bool) → Option Found
+    first a is_global =
+        if is_same_name a.name CRATE then Some (crate_above items a.from)
+        else (if is_same_name a.name SELF then Some (Module a.from)
+        else (if is_same_name a.name SUPER then option_map Module (parent items a.from)
+        else first_named a is_global))
 
-    abbrev pub behind_module : Symbol → Space → (inside : ℕ) → Option Found
-    behind_module name space m =
-        if is_same_name name SUPER then option_map Module (parent items m)
-        else (if is_same_name name SELF then Some (Module m)
-        else option_or (within m name space None) (perhaps scope m name None))
+    abbrev pub behind_module : Asked → (inside : ℕ) → Option Found
+    behind_module a m =
+        if is_same_name a.name SUPER then option_map Module (parent items m)
+        else (if is_same_name a.name SELF then Some (Module m)
+        else option_or (within m a) (perhaps items scope m a))
 
-    abbrev pub behind_found : Symbol → Space → Option Found → Option Found
-    behind_found name space (Some (Module m)) = behind_module name space m
-    behind_found name space (Some Unknown) = Some Unknown
-    behind_found name space _ = None
+    abbrev pub behind_found : Asked → Option Found → Option Found
+    behind_found a (Some (Module m)) = behind_module a m
+    behind_found a (Some Unknown) = Some Unknown
+    behind_found a (Some (Hidden name)) = Some (Hidden name)
+    behind_found a (Some (Ambiguous name)) = Some (Ambiguous name)
+    behind_found a _ = None
 
     -- what a name names behind others, which have to name a module; what isn't known has only what isn't
-    unfoldable pub named_behind : Option Found → Symbol → Space → Option Found
-    named_behind before name space = behind_found name space before
+    unfoldable pub named_behind : Option Found → Asked → Option Found
+    named_behind before a = behind_found a before
 
     -- what names name behind others, so many of them
-    abbrev pub behind_all : (count : ℕ) → Space → Option Found → List Symbol → Option Found
-    behind_all zero space before names = before
-    behind_all (suc count) space before [] = before
-    behind_all (suc count) space before (name ∷ names) = behind_all count space (named_behind before name (space_before count space)) names
+    abbrev pub behind_all : (count : ℕ) → (from : ℕ) → Space → Option Found → List Symbol → Option Found
+    behind_all zero m space before names = before
+    behind_all (suc count) m space before [] = before
+    behind_all (suc count) m space before (name ∷ names) =
+        behind_all count m space (named_behind before (asking m name (space_before count space) None)) names
 
     -- what the first names of a path name, so many of them
-    abbrev pub path_named : (count : ℕ) → (inside : ℕ) → (is_global : Bool) → Space → (skipped : Option ℕ) → List Symbol → Option Found
+    abbrev pub path_named : (count : ℕ) → (from : ℕ) → (is_global : Bool) → Space → (skipped : Option ℕ) → List Symbol → Option Found
     path_named zero m is_global space skipped names = None
     path_named (suc count) m is_global space skipped [] = None
     path_named (suc count) m is_global space skipped (name ∷ names) =
-        behind_all count space (first m name is_global (space_before count space) skipped) names
+        behind_all count m space (first (asking m name (space_before count space) skipped) is_global) names
 
     abbrev pub target_by : (use_number : ℕ) → Space → Option Use → Option Found
     target_by u space None = None

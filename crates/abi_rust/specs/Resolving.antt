@@ -1,5 +1,5 @@
 -- The type that a written type means.
-use Rattle.std.specs.Prelude.{ℕ, zero, suc, ◌^◌, ◌&&◌, ◌||◌, nat_eq, nat_lt, is_some, unsigned_abs, Bool, false, List, [], ◌∷◌, ◌++◌, length, slice_get, Option, Some, None, Ok, if◌then◌else◌}
+use Rattle.std.specs.Prelude.{ℕ, zero, suc, ◌^◌, ◌&&◌, ◌||◌, not, nat_eq, nat_lt, is_some, unsigned_abs, Bool, true, false, List, [], ◌∷◌, ◌++◌, length, slice_get, Option, Some, None, Ok, if◌then◌else◌}
 use Rattle.std.specs.Option.{option_and_then}
 use Rattle.rust_source.specs.declared.item.Item.{Item}
 use Rattle.rust_source.specs.declared.item.ItemKind.{ItemKind}
@@ -20,12 +20,13 @@ use Rattle.rust_source.specs.declared.syntax.Segment.{Segment, out-Segment}
 use Rattle.rust_source.specs.declared.syntax.«Type».{«Type» as Written, out-Type, Path as PathType}
 use Rattle.rust_source.specs.declared.syntax.Unevaluated.TheVariants.{Associated, Inferred}
 use Rattle.abi_rust.specs.declared.fault.FaultKind.{FaultKind}
-use Rattle.abi_rust.specs.declared.fault.FaultKind.TheVariants.{Binding, NotAType, Overflow, Unevaluated, UnknownOrigin, UnknownType, WrongArguments, WrongKindOfArgument, WrongType}
+use Rattle.abi_rust.specs.declared.fault.FaultKind.TheVariants.{Ambiguous, Binding, NotAType, Overflow, Private, Unevaluated, UnknownOrigin, UnknownType, WrongArguments, WrongKindOfArgument, WrongType}
 use Rattle.abi_rust.specs.declared.paths.Found.{Found}
-use Rattle.abi_rust.specs.declared.paths.Found.TheVariants.{Module, Item as ItemFound, Primitive as PrimitiveFound, Unknown}
+use Rattle.abi_rust.specs.declared.paths.Found.TheVariants.{Ambiguous as AmbiguousFound, Hidden, Module, Item as ItemFound, Primitive as PrimitiveFound, Unknown}
 use Rattle.abi_rust.specs.declared.paths.Space.TheVariants.{Types, Values}
 use Rattle.abi_rust.specs.declared.ty.Kind.{Kind}
 use Rattle.abi_rust.specs.declared.ty.Kind.TheVariants.{Integer as KindInteger}
+use Rattle.abi_rust.specs.declared.ty.Primitive.{Primitive}
 use Rattle.abi_rust.specs.declared.ty.Primitive.TheVariants.{Str}
 use Rattle.abi_rust.specs.declared.work.Context.{Context}
 use Rattle.abi_rust.specs.declared.words.Word.{Word}
@@ -73,6 +74,27 @@ first_name (s ∷ ss) = Some (out-Segment s).name
 abbrev pub is_self_name : Option Symbol → Bool
 is_self_name None = false
 is_self_name (Some name) = is_same_name name SELF_TYPE
+
+-- something stands in angle brackets behind a name
+abbrev pub is_given : Segment → Bool
+is_given s = not (nat_eq (length (out-Segment s).arguments.items) 0)
+
+-- the first of these names before the last that is given arguments: it is a module's, which takes none
+abbrev pub given_early : List Segment → Option Segment
+given_early [] = None
+given_early (s ∷ []) = None
+given_early (s ∷ t ∷ ss) = if is_given s then Some s else given_early (t ∷ ss)
+
+-- a primitive type takes no arguments
+abbrev pub primitive_given : Segment → Primitive → Meaning TyRead
+primitive_given s p = if is_given s then fault_at (out-Segment s).at (WrongArguments (out-Segment s).name) else Ok (primitive p)
+
+-- what is found among types and modules is one of them for certain
+abbrev pub is_other : Option Found → Bool
+is_other (Some (Module m)) = true
+is_other (Some (ItemFound n)) = true
+is_other (Some (PrimitiveFound p)) = true
+is_other _ = false
 
 -- a path is `Self` alone
 abbrev pub is_self : Path → Bool
@@ -140,16 +162,29 @@ module _ (cx : Context) where
   abbrev pub type_given : Where → Path → Option TyRead
   type_given w p = type_in_given (option_and_then (given_named cx.items.now cx.scope.now w) (single_name p))
 
+  -- a path that is read as a type may be a constant's name: it is one name, without braces, which no type and no module has
+  abbrev pub may_be_constant : Where → Path → Bool
+  may_be_constant w p =
+      is_some (single_name p) && (not (is_some (type_given w p)) && not (is_other (found cx.items.now cx.scope.now w.inside p Types)))
+
   abbrev pub self_by : Where → Path → Option ℕ → Meaning TyRead
   self_by w p (Some item) = Ok (adt item (givens w.given))
   self_by w p None = fault_at (place_of_path p) (UnknownType SELF_TYPE)
 
+  -- the name is a parameter's, or `Self`
+  abbrev pub is_type_inside : Where → Symbol → Bool
+  is_type_inside w name = is_some (parameter_named cx.items.now cx.scope.now w.item name) || is_same_name name SELF_TYPE
+
   -- the first of several names is a parameter's, or `Self`
   abbrev pub is_behind_type : Where → Path → Option Symbol → Bool
   is_behind_type w p None = false
-  is_behind_type w p (Some name) =
-      nat_lt 1 (length (out-Path p).segments.items)
-      && (is_some (parameter_named cx.items.now cx.scope.now w.item name) || is_same_name name SELF_TYPE)
+  is_behind_type w p (Some name) = nat_lt 1 (length (out-Path p).segments.items) && is_type_inside w name
+
+  -- the first of a path's names that is given arguments and takes none: one before the last, or alone a parameter or `Self`
+  abbrev pub given_wrongly : Where → List Segment → Option Segment
+  given_wrongly w [] = None
+  given_wrongly w (s ∷ []) = if is_given s && is_type_inside w (out-Segment s).name then Some s else None
+  given_wrongly w (s ∷ t ∷ ss) = given_early (s ∷ t ∷ ss)
 
   abbrev pub unknown_type : Symbol → Option Found → FaultKind
   unknown_type name (Some found) = NotAType name
@@ -168,15 +203,21 @@ module _ (cx : Context) where
     tuple_from w made (t ∷ ts) = then_meant (λ r. tuple_from w (made ++ r ∷ []) ts) (R.type_of w t)
 
     abbrev pub type_named_by : Where → Path → Segment → Option Found → Meaning TyRead
-    type_named_by w p s (Some (PrimitiveFound found)) = Ok (primitive found)
+    type_named_by w p s (Some (PrimitiveFound found)) = primitive_given s found
     type_named_by w p s (Some (ItemFound n)) = R.item_of w n s
     type_named_by w p s (Some (Module m)) = fault_at (place_of_path p) (NotAType (out-Segment s).name)
     type_named_by w p s (Some Unknown) = fault_at (place_of_path p) (UnknownOrigin (out-Segment s).name)
+    type_named_by w p s (Some (Hidden name)) = fault_at (place_of_path p) (Private name)
+    type_named_by w p s (Some (AmbiguousFound name)) = fault_at (place_of_path p) (Ambiguous name)
     type_named_by w p s None = fault_at (place_of_path p) (unknown w p (out-Segment s).name)
+
+    abbrev pub unless_given : Where → Path → Segment → (wrong : Option Segment) → Meaning TyRead
+    unless_given w p s (Some wrong) = fault_at (out-Segment wrong).at (WrongArguments (out-Segment wrong).name)
+    unless_given w p s None = type_named_by w p s (found cx.items.now cx.scope.now w.inside p Types)
 
     abbrev pub named_in : Where → Path → Option Segment → Meaning TyRead
     named_in w p None = fault_at (place_of_path p) (Unevaluated Inferred)
-    named_in w p (Some s) = type_named_by w p s (found cx.items.now cx.scope.now w.inside p Types)
+    named_in w p (Some s) = unless_given w p s (given_wrongly w (out-Path p).segments.items)
 
     -- the type that names name
     unfoldable pub named_type : Where → Path → Meaning TyRead
@@ -215,7 +256,9 @@ module _ (cx : Context) where
     constant_given at wanted v = if is_wanted wanted v then Ok (of_value v) else fault_at at WrongType
 
     abbrev pub type_as_constant : Where → Place → (wanted : Option Kind) → Written → Meaning GivenRead
-    type_as_constant w at wanted (PathType p) = then_meant (constant_given at wanted) (path_value cx (evaluator cx most_deep) w p)
+    type_as_constant w at wanted (PathType p) =
+        if may_be_constant w p then then_meant (constant_given at wanted) (path_value cx (evaluator cx most_deep) w p)
+        else fault_at at WrongKindOfArgument
     type_as_constant w at wanted _ = fault_at at WrongKindOfArgument
 
     -- what an argument gives a constant's parameter, evaluated where the argument stands

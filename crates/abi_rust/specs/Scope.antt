@@ -2,8 +2,11 @@
 use Rattle.std.specs.Prelude.{ℕ, ◌-◌, ◌^◌, ◌&&◌, nat_eq, Bool, List, [], slice_get, Option, Some, None, Vec}
 use Rattle.std.specs.List.{list_any}
 use Rattle.indexmap.specs.IndexMap.{get}
+use Rattle.rust_source.specs.declared.item.Items.{Items}
 use Rattle.rust_source.specs.declared.place.Symbol.{Symbol}
 use Rattle.abi_rust.specs.declared.scope.Scope.{Scope}
+use Rattle.abi_rust.specs.declared.ways.Way.{Way}
+use Rattle.abi_rust.specs.Ways.{is_way_visible}
 
 -- two names of modules are one
 abbrev pub same_key : (ℕ × ℕ) → (ℕ × ℕ) → Bool
@@ -33,19 +36,23 @@ owner_of s c = get nat_eq s.owners c
 unfoldable pub use_in : Scope → (inside : ℕ) → Symbol → Option ℕ
 use_in s m name = get same_key s.uses (m, name.0)
 
--- the modules of the list, none where there is no list
-abbrev pub modules_listed : {S : Type 0} → Option (Vec ℕ S) → List ℕ
-modules_listed None = []
-modules_listed (Some ms) = ms.items
+-- no use has this number, since there are fewer: it stands for several that bring in one name
+abbrev pub several : ℕ
+several = 2 ^ 32 - 1
 
--- the modules that a module's globs lead to
-unfoldable pub reached_from : Scope → (inside : ℕ) → List ℕ
-reached_from s m = modules_listed (slice_get s.reached.items m)
+-- what is listed, nothing where there is no list
+abbrev pub all_listed : {A S : Type 0} → Option (Vec A S) → List A
+all_listed None = []
+all_listed (Some xs) = xs.items
+
+-- the ways of a module's globs
+unfoldable pub reached_from : Scope → (inside : ℕ) → List Way
+reached_from s m = all_listed (slice_get s.reached.items m)
 
 -- where globs lead that lead to nothing that is read: no module has this number, since there are fewer
 abbrev pub nowhere : ℕ
 nowhere = 2 ^ 32 - 1
 
--- a glob of the module, or of one that its globs lead to, leads to nothing that is read
-unfoldable pub leads_nowhere : Scope → (inside : ℕ) → Bool
-leads_nowhere s m = list_any (λ other. nat_eq other nowhere) (reached_from s m)
+-- a way of the module's globs leads to nothing that is read, and what it brings in may be used in the one that asks
+unfoldable pub leads_nowhere : Items → Scope → (inside from : ℕ) → Bool
+leads_nowhere items s m from = list_any (λ way. nat_eq way.glob.target nowhere && is_way_visible items (reached_from s m) from way) (reached_from s m)

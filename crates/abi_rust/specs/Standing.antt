@@ -10,7 +10,7 @@ use Rattle.rust_source.specs.declared.place.Symbol.{Symbol}
 use Rattle.abi_rust.specs.declared.fault.FaultKind.TheVariants.{OutOfMemory, RepeatedConstant, RepeatedType}
 use Rattle.abi_rust.specs.declared.fault.Stop.{Stop}
 use Rattle.abi_rust.specs.declared.fault.Stop.TheVariants.{Fault}
-use Rattle.abi_rust.specs.Scope.{same_key}
+use Rattle.abi_rust.specs.Scope.{same_key, several}
 use Rattle.abi_rust.specs.Sources.{is_type}
 
 -- a name in a module: the module's number, and the name's
@@ -30,6 +30,12 @@ last_so is i (x ∷ xs) = option_or (last_so is (i + 1) xs) (if is x then Some (
 abbrev pub first_so : {A : Type 0} → (A → Bool) → (index : ℕ) → List A → Option ℕ
 first_so is i [] = None
 first_so is i (x ∷ xs) = if is x then Some (numbered i) else first_so is (i + 1) xs
+
+-- the number of the one of these that is so, the first of which stands at this index; that of several where there are
+abbrev pub one_so : {A : Type 0} → (A → Bool) → (index : ℕ) → List A → Option ℕ
+one_so is i [] = None
+one_so is i (x ∷ xs) =
+    if is x then Some (if is_some (one_so is (i + 1) xs) then several else numbered i) else one_so is (i + 1) xs
 
 -- it is this number
 abbrev pub is_module_number : ℕ → Option ℕ → Bool
@@ -78,9 +84,9 @@ type_at items k = last_so (is_type_at k) 0 items
 abbrev pub constant_at : List Item → ModuleName → Option ℕ
 constant_at items k = last_so (is_constant_at k) 0 items
 
--- the use that brings the name in there: of several the first
+-- the use that brings the name in there
 abbrev pub use_at : List Use → ModuleName → Option ℕ
-use_at uses k = first_so (is_use_at k) 0 uses
+use_at uses k = one_so (is_use_at k) 0 uses
 
 -- the fault of an item whose name another one has, as these tell: of a type a type or a module, of a constant a constant
 abbrev pub repeated_by : (types constants modules : ModuleName → Option ℕ) → Item → Option Stop

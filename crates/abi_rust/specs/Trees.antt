@@ -14,6 +14,7 @@ use Rattle.rust_source.specs.declared.place.Place.{Place}
 use Rattle.rust_source.specs.declared.syntax.Expr.{Expr}
 use Rattle.abi_rust.specs.Aligned.{discriminants_checked, packed_checked}
 use Rattle.abi_rust.specs.Evaluating.{discriminant_kind, made_at}
+use Rattle.abi_rust.specs.Formed.{formed_checked}
 use Rattle.abi_rust.specs.Kinds.{item_at, outside}
 use Rattle.abi_rust.specs.Meaning.{Meaning, then_meant, fault_at, too_deep}
 use Rattle.abi_rust.specs.Measure.{Measure, each_meant, transparent_checked}
@@ -96,9 +97,13 @@ module _ (cx : Context) where
 
   module _ (m : Measure) where
     module _ (T : TreeInner) where
+      -- the tree of a type that is written, whose parts have sizes where they need them
+      abbrev pub formed_tree : Outer → TyRead → Meaning Tree
+      formed_tree outer t = then_meant (λ _. T.of_type outer t) (formed_checked cx t)
+
       -- the tree of a field
       abbrev pub field_tree : Outer → Where → Field → Meaning Tree
-      field_tree outer w f = then_meant (λ t. told_at f.start (T.of_type outer t)) (resolved cx w f.ty)
+      field_tree outer w f = then_meant (λ t. told_at f.start (formed_tree outer t)) (resolved cx w f.ty)
 
       -- the trees of fields
       abbrev pub field_trees : Outer → Where → List Field → Meaning (List Tree)
@@ -194,4 +199,5 @@ module _ (cx : Context) where
     -- the same, and none of a type whose size isn't known
     unfoldable pub sized_tree : TyRead → Meaning (Option Tree)
     sized_tree t =
-        then_meant (λ tail. if has_known_size tail then then_meant (λ whole. Ok (Some whole)) (whole_tree t) else Ok None) (pointee_tail cx t)
+        then_meant (λ _. then_meant (λ tail. if has_known_size tail then then_meant (λ whole. Ok (Some whole)) (whole_tree t) else Ok None)
+        (pointee_tail cx t)) (formed_checked cx t)

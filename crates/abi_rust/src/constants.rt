@@ -1,11 +1,12 @@
 //! Constants by their paths: those of modules, and those of types, as `Header::LEN`.
 
 ghost use Rattle.std.specs.Prelude.{◌≡◌};
-ghost use Rattle.abi_rust.specs.Kinds.{constant_named, constant_place, own_named, owner_named};
+ghost use Rattle.abi_rust.specs.Kinds.{constant_named, constant_place, if_visible, own_named, owner_named};
 ghost use Rattle.abi_rust.specs.Types.{where_of};
 
 use crate::kind::{name_alone, parameter_named};
-use crate::paths::{Found, Space, find, type_named};
+use crate::paths::{Found, Space, find, type_named, visibility_of_item};
+use crate::visible::is_visible;
 use crate::work::{Context, Setting};
 use rust_source::{Item, Path, Symbol};
 
@@ -20,14 +21,25 @@ pub(crate) fn constant_named(cx: &Context<'_, '_>, setting: Setting<'_>, path: &
     }
 }
 
-/// The constant of a type that a path names.
+/// The constant of a type that a path names, if it may be used where the path stands.
 #[tactic(auto, unfolding(crate::specs::Kinds::own_named))]
 fn own_named(cx: &Context<'_, '_>, setting: Setting<'_>, path: &Path) -> Option<u32>
     ensures { result ≡ own_named cx.now.items.now cx.now.scope.now (where_of setting.entry) path.now }
 {
     let owner = owner_named(cx, setting, path, path.segments.len().saturating_sub(1))?;
     let last = path.segments.last()?;
-    cx.scope.own_constant(owner, last.name)
+    if_visible(cx, setting.module, cx.scope.own_constant(owner, last.name)?)
+}
+
+/// The constant of this number, if it may be used in a module.
+fn if_visible(cx: &Context<'_, '_>, module: u32, number: u32) -> Option<u32>
+    ensures { result ≡ if_visible cx.now.items.now cx.now.scope.now «module» number }
+{
+    if is_visible(cx.items, visibility_of_item(cx.items, number), module) {
+        Some(number)
+    } else {
+        None
+    }
 }
 
 /// The type that the first names of a path name, so many of them, where it may have constants of its own.

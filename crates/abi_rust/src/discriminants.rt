@@ -1,12 +1,15 @@
 //! The variants that paths name, and which discriminants are written.
 
-ghost use Rattle.std.specs.Prelude.{◌≡◌, slice_get};
+ghost use Rattle.std.specs.Prelude.{◌≡◌, slice_get, true};
 ghost use Rattle.std.specs.Option.{option_copied, option_map};
-ghost use Rattle.abi_rust.specs.Evaluating.{discriminant_kind, variant_of_item, variant_from, variant_named, written_before, written_from};
+ghost use Rattle.abi_rust.specs.Evaluating.{all_fieldless, cast_checked, discriminant_kind, is_castable, is_fieldless, is_integer, is_unit_at, variant_of_item, variant_from, variant_named, written_before, written_from};
+ghost use Rattle.abi_rust.specs.Meaning.{Means};
 
+use crate::fault::{FaultKind, Stop, stop_at};
 use crate::paths::{Found, Space, find_of, item_at};
+use crate::ty::Kind;
 use crate::work::Context;
-use rust_source::{Expr, IntegerKind, Item, ItemKind, Path, Symbol, Variant};
+use rust_source::{Expr, IntegerKind, Item, ItemKind, Path, Place, Symbol, Variant};
 
 /// The enum and the number of the variant that a path names.
 #[tactic(auto, unfolding(crate::specs::Evaluating::variant_named))]
@@ -47,6 +50,67 @@ fn variant_at(variants: &[Variant], name: Symbol) -> Option<usize>
         }
     }
     None
+}
+
+/// A fault where a variant can't be cast to a type: to an integer's alone, where no variant of its enum has fields.
+pub(crate) fn check_cast(item: &Item, index: usize, kind: Kind, at: Place) -> Result<(), Stop>
+    ensures { Means (λ _. true) (cast_checked at kind item.now index) result }
+{
+    if is_integer(kind) && is_castable(&item.kind, index) {
+        return Ok(());
+    }
+    Err(stop_at(at, FaultKind::EnumCast))
+}
+
+/// Whether it is an integer's type.
+fn is_integer(kind: Kind) -> bool
+    ensures { result ≡ is_integer kind }
+{
+    match kind {
+        Kind::Integer(_) => true,
+        _ => false,
+    }
+}
+
+/// Whether the variant of this number is a value by its name alone, of an enum that can be cast.
+fn is_castable(kind: &ItemKind, index: usize) -> bool
+    ensures { result ≡ is_castable index kind.now }
+{
+    match kind {
+        ItemKind::Enum(all) => {
+            is_unit_at(all.variants.as_slice(), index) && all_fieldless(all.variants.as_slice())
+        }
+        _ => false,
+    }
+}
+
+/// Whether the variant of this number has no parentheses.
+fn is_unit_at(variants: &[Variant], index: usize) -> bool
+    ensures { result ≡ is_unit_at (slice_get variants.now index) }
+{
+    match variants.get(index) {
+        Some(variant) => !variant.fields.is_tuple,
+        None => false,
+    }
+}
+
+/// Whether a variant has no fields, and parentheses only where no discriminant is written.
+fn is_fieldless(variant: &Variant) -> bool
+    ensures { result ≡ is_fieldless variant.now }
+{
+    variant.fields.all.is_empty() && !(variant.fields.is_tuple && variant.discriminant.is_some())
+}
+
+/// Whether each of these variants is so.
+fn all_fieldless(variants: &[Variant]) -> bool
+    ensures { result ≡ all_fieldless variants.now }
+{
+    for variant in variants {
+        if !is_fieldless(variant) {
+            return false;
+        }
+    }
+    true
 }
 
 /// The integer type of an enum's discriminants.

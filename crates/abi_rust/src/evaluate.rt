@@ -9,7 +9,7 @@ ghost use Rattle.abi_rust.specs.Types.{where_of};
 ghost use Rattle.abi_rust.specs.Values.{IsOfKind, value_as_read};
 
 use crate::constants::{constant_named, inside_constant};
-use crate::discriminants::{discriminant_kind, variant_named, written_before};
+use crate::discriminants::{check_cast, discriminant_kind, variant_named, written_before};
 use crate::fault::{FaultKind, Stop, stop_at};
 use crate::int::{Int, Width};
 use crate::kind::{
@@ -271,6 +271,7 @@ fn evaluate_operand<'a>(
         (cast_variant cx.now setting.entry.«module» operand.now)) result }
 {
     if let Some((item, index)) = cast_variant(cx, setting.module, operand) {
+        check_cast(item, index, kind, place_of(operand))?;
         return discriminant(cx, work, item, index, room);
     }
     let known = kind_of(cx, setting, operand);

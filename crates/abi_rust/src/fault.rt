@@ -1,6 +1,7 @@
 //! Why a source, or a type of it, has no tree.
 
 ghost use Rattle.std.specs.Prelude.{◌≡◌, Some};
+ghost use Rattle.abi_rust.specs.Meaning.{is_beside, is_want};
 ghost use Rattle.abi_rust.specs.Reprs.{is_want_of_memory};
 
 use rust_source::{IntegerKind, Place, SourceFaultKind, Symbol, Unevaluated};
@@ -35,6 +36,10 @@ pub enum FaultKind {
     UnknownConstant(Symbol),
     /// What this name is comes, or may come, from what isn't read here.
     UnknownOrigin(Symbol),
+    /// What has this name may not be used where it is.
+    Private(Symbol),
+    /// Several have this name.
+    Ambiguous(Symbol),
     /// This name is no type's, but a constant's or a module's.
     NotAType(Symbol),
     /// This type is given another number of arguments than it has parameters, or fewer than have no default.
@@ -55,6 +60,8 @@ pub enum FaultKind {
     Unsized,
     /// A value isn't of the type that is wanted.
     WrongType,
+    /// A variant is cast to what is no integer, or where a variant of its enum has fields.
+    EnumCast,
     /// A value doesn't fit its type.
     Overflow(IntegerKind),
     /// A division by zero.
@@ -119,6 +126,30 @@ pub(crate) enum Stop {
     Fault(Option<Place>, FaultKind),
     /// The size of a type has to be known first.
     Size,
+}
+
+impl Stop {
+    /// Whether memory or parts that may be looked at are wanting, which says nothing of the source.
+    pub(crate) fn is_beside(self) -> bool
+        ensures { result ≡ is_beside self }
+    {
+        match self {
+            Stop::Fault(_, kind) => is_want(kind),
+            Stop::Size => false,
+        }
+    }
+}
+
+/// Whether it is such a want.
+fn is_want(kind: FaultKind) -> bool
+    ensures { result ≡ is_want kind }
+{
+    match kind {
+        FaultKind::OutOfMemory => true,
+        FaultKind::TooLarge => true,
+        FaultKind::Layout(LayError::OutOfMemory) => true,
+        _ => false,
+    }
 }
 
 /// A fault at a place.

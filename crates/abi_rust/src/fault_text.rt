@@ -43,6 +43,8 @@ fn said_of_name(kind: FaultKind) -> Option<(&'static str, Symbol)>
             "it comes, or may come, from what isn't read here: ",
             name,
         )),
+        FaultKind::Private(name) => Some(("it is private: ", name)),
+        FaultKind::Ambiguous(name) => Some(("it is ambiguous: ", name)),
         FaultKind::NotAType(name) => Some(("no type, but something else is called ", name)),
         FaultKind::WrongArguments(name) => Some((
             "another number of arguments than the parameters of ",
@@ -98,6 +100,8 @@ fn plain_text(kind: FaultKind) -> &'static str {
         FaultKind::TooLarge => "more types and constants have to be looked at than the bound",
         FaultKind::Unsized => "the size isn't known where it has to be",
         FaultKind::WrongType => "a value isn't of the type that is wanted",
+        FaultKind::EnumCast =>
+            "a variant is cast to an integer alone, and where no variant has fields",
         FaultKind::DivisionByZero => "a division by zero",
         FaultKind::BadAlignment => "an alignment has to be a power of two, and at most 2^29",
         FaultKind::TransparentBeside => "`transparent` stands alone",

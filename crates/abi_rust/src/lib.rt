@@ -18,9 +18,12 @@ mod own_constants;
 mod paths;
 mod scope;
 mod standing;
+mod visible;
+mod ways;
 mod words;
 
 // Types whose names are resolved.
+mod formed;
 mod kind;
 mod owned;
 mod resolve;

@@ -3,7 +3,7 @@
 ghost use Rattle.std.specs.Prelude.{◌≡◌};
 ghost use Rattle.std.specs.Option.{option_map};
 ghost use Rattle.rust_source.specs.declared.syntax.Segment.{out-Segment};
-ghost use Rattle.abi_rust.specs.Evaluating.{limit, limit_named, limit_of, unknown_of};
+ghost use Rattle.abi_rust.specs.Evaluating.{barred, limit, limit_named, limit_of, unknown_of};
 ghost use Rattle.abi_rust.specs.Kinds.{kind_of_names};
 ghost use Rattle.abi_rust.specs.Meaning.{Means};
 ghost use Rattle.abi_rust.specs.Types.{where_of};
@@ -12,7 +12,7 @@ ghost use Rattle.abi_rust.specs.Values.{value_as_read};
 use crate::fault::{FaultKind, Stop, stop_at};
 use crate::int::{Int, Width};
 use crate::kind::kind_at;
-use crate::paths::{Found, Space, find_of};
+use crate::paths::{Found, Space, find, find_of};
 use crate::ty::{Kind, Value};
 use crate::words::Word;
 use crate::work::{Context, Setting};
@@ -27,6 +27,9 @@ pub(crate) fn limit(cx: &Context<'_, '_>, setting: Setting<'_>, path: &Path) -> 
     let Some(last) = path.segments.last() else {
         return Err(Stop::Fault(None, FaultKind::Unevaluated(Unevaluated::Expression)));
     };
+    if let Some(kind) = barred(cx, setting.module, path) {
+        return Err(stop_at(last.at, kind));
+    }
     if count == 0 {
         return Err(stop_at(last.at, FaultKind::UnknownConstant(last.name)));
     }
@@ -36,6 +39,17 @@ pub(crate) fn limit(cx: &Context<'_, '_>, setting: Setting<'_>, path: &Path) -> 
             last.at,
             unknown_of(cx, setting.module, path, count, last.name),
         )),
+    }
+}
+
+/// What is wrong with a path to a constant that may not be used where it stands, or to one of several.
+fn barred(cx: &Context<'_, '_>, module: u32, path: &Path) -> Option<FaultKind>
+    ensures { result ≡ barred cx.now «module» path.now }
+{
+    match find(cx.items, cx.scope, module, path, Space::Values) {
+        Some(Found::Hidden(name)) => Some(FaultKind::Private(name)),
+        Some(Found::Ambiguous(name)) => Some(FaultKind::Ambiguous(name)),
+        _ => None,
     }
 }
 

@@ -1,20 +1,20 @@
 //! What a path names.
 
-ghost use Rattle.std.specs.Prelude.{◌≡◌, ◌+◌, IfNone, IfSome, length, map, slice_get};
+ghost use Rattle.std.specs.Prelude.{◌≡◌, ◌+◌, IfNone, IfSome, None, length, map, slice_get};
 ghost use Rattle.std.specs.Option.{option_copied};
 ghost use Rattle.rust_source.specs.declared.syntax.Path.{out-Path};
 ghost use Rattle.abi_rust.specs.Kinds.{found_by, most_aliases, type_named};
-ghost use Rattle.abi_rust.specs.Names.{named_behind, beside_module, crate_above, declared, first, found, found_of, imported, most_modules, most_uses, names_in_path, other_space, own, parent, path_named, perhaps, root, space_before, target, target_with, within};
+ghost use Rattle.abi_rust.specs.Names.{agreed, along, ambiguous, among, asking, behind_module, beside, beside_module, crate_above, declared, first, found, found_of, imported, is_open, is_usable, most_uses, named_behind, names_in_path, one_of, other_space, own, own_item, own_module, path_named, perhaps, root, seen_own, shown, space_before, target, target_with, used_by, visibility_of_item, visibility_of_module, visibility_of_use, within};
 
 use crate::scope::Scope;
+use crate::standing::SEVERAL;
 use crate::ty::Primitive;
+use crate::visible::{is_visible, most_modules, parent_of};
+use crate::ways::{Way, is_way_visible, way_at};
 use rust_source::{Item, ItemKind, Items, Path, Symbol, Type, Use};
 
 /// How many uses may lead from one to another.
 const MOST_USES: u32 = 32;
-
-/// How many modules a module may be in.
-const MOST_MODULES: u32 = 256;
 
 /// How many aliases may lead from one to another.
 const MOST_ALIASES: u32 = 64;
@@ -27,6 +27,10 @@ pub(crate) enum Found {
     Primitive(Primitive),
     /// What a `use` brings in that leads to nothing that is read here, or what stands in a file that isn't read.
     Unknown,
+    /// What has this name, which may not be used in the module that asks.
+    Hidden(Symbol),
+    /// One of several that have this name.
+    Ambiguous(Symbol),
 }
 
 /// Which names are looked for.
@@ -38,19 +42,30 @@ pub(crate) enum Space {
     Values,
 }
 
-/// The module that a module is in.
-fn parent_of(items: &Items, module: u32) -> Option<u32>
-    ensures { result ≡ parent items.now «module» }
-{
-    items.modules.get(module as usize)?.parent
+/// What is asked for.
+#[derive(Clone, Copy)]
+pub(crate) struct Asked {
+    /// The module that asks, by its number: the one that the path stands in.
+    from: u32,
+    name: Symbol,
+    space: Space,
+    /// The use that counts for nothing, by its number.
+    skipped: Option<u32>,
 }
 
-/// How many modules a module may be in.
-#[tactic(auto, unfolding(crate::specs::Names::most_modules))]
-fn most_modules() -> u32
-    ensures { result ≡ most_modules }
-{
-    MOST_MODULES
+/// What a module has of its own under a name, and the module in which, with all that stand inside it, it may be used;
+/// none where it may be used everywhere.
+#[derive(Clone, Copy)]
+pub(crate) struct OwnName {
+    found: Found,
+    visible_in: Option<u32>,
+}
+
+/// What a module has under a name, and whether it may be used in the module that asks.
+#[derive(Clone, Copy)]
+pub(crate) struct Seen {
+    found: Found,
+    is_visible: bool,
 }
 
 /// The root of the source that a module is in. Modules stand in at most 200 others.
@@ -132,29 +147,15 @@ fn names_named(
     let mut left = count.checked_sub(1)?;
     let (begin, rest) = path.segments.as_slice().split_first()?;
     let first_space = space_before(left, space);
-    let mut found = first(
-        items,
-        scope,
-        module,
-        begin.name,
-        path.is_global,
-        first_space,
-        None,
-        room,
-    );
+    let begins = asking(module, begin.name, first_space, None);
+    let mut found = first(items, scope, begins, path.is_global, room);
     for segment in rest {
         let Some(fewer) = left.checked_sub(1) else {
             break;
         };
         left = fewer;
-        found = behind(
-            items,
-            scope,
-            found,
-            segment.name,
-            space_before(left, space),
-            room,
-        );
+        let asked = asking(module, segment.name, space_before(left, space), None);
+        found = behind(items, scope, found, asked, room);
     }
     found
 }
@@ -311,75 +312,63 @@ fn follow_names(
     let mut left = used.path.len().checked_sub(1)?;
     let (begin, rest) = used.path.as_slice().split_first()?;
     let first_space = space_before(left, space);
-    let mut found = first(
-        items,
-        scope,
-        used.module,
-        begin.name,
-        used.is_global,
-        first_space,
-        Some(number),
-        room,
-    );
+    let begins = asking(used.module, begin.name, first_space, Some(number));
+    let mut found = first(items, scope, begins, used.is_global, room);
     for name in rest {
         let Some(fewer) = left.checked_sub(1) else {
             break;
         };
         left = fewer;
-        found = behind(
-            items,
-            scope,
-            found,
-            name.name,
-            space_before(left, space),
-            room,
-        );
+        let asked = asking(used.module, name.name, space_before(left, space), None);
+        found = behind(items, scope, found, asked, room);
     }
     found
 }
 
-/// What a path's first name names in a module. The use of the number `skipped` counts for nothing.
+/// What is asked for by a name in a module.
+fn asking(from: u32, name: Symbol, space: Space, skipped: Option<u32>) -> Asked
+    ensures { result ≡ asking from name space skipped }
+{
+    Asked {
+        from,
+        name,
+        space,
+        skipped,
+    }
+}
+
+/// What a path's first name names in the module that asks.
 #[cycle(names)]
 #[tactic(auto, unfolding(crate::specs::Names::first))]
-fn first(
-    items: &Items,
-    scope: &Scope,
-    module: u32,
-    name: Symbol,
-    is_global: bool,
-    space: Space,
-    skipped: Option<u32>,
-    room: u32,
-) -> Option<Found>
-    ensures { result
-        ≡ first items.now scope.now (target items.now scope.now room) «module» name is_global space skipped }
+fn first(items: &Items, scope: &Scope, asked: Asked, is_global: bool, room: u32) -> Option<Found>
+    ensures { result ≡ first items.now scope.now (target items.now scope.now room) asked is_global }
 {
-    if name == Symbol::CRATE {
-        return Some(crate_above(items, module));
+    if asked.name == Symbol::CRATE {
+        return Some(crate_above(items, asked.from));
     }
-    if name == Symbol::SELF {
-        return Some(Found::Module(module));
+    if asked.name == Symbol::SELF {
+        return Some(Found::Module(asked.from));
     }
-    if name == Symbol::SUPER {
-        return Some(Found::Module(parent_of(items, module)?));
+    if asked.name == Symbol::SUPER {
+        return Some(Found::Module(parent_of(items, asked.from)?));
     }
     if !is_global {
-        if let Some(found) = within(items, scope, module, name, space, skipped, room) {
+        if let Some(found) = within(items, scope, asked.from, asked, room) {
             return Some(found);
         }
-        if let Some(found) = perhaps(scope, module, name, skipped) {
+        if let Some(found) = perhaps(items, scope, asked.from, asked) {
             return Some(found);
         }
         if let Some(prelude) = scope.prelude() {
-            if let Some(found) = within(items, scope, prelude, name, space, skipped, room) {
+            if let Some(found) = within(items, scope, prelude, asked, room) {
                 return Some(found);
             }
         }
     }
-    if scope.words.is_std(name) {
+    if scope.words.is_std(asked.name) {
         return Some(Found::Module(scope.std_root));
     }
-    Some(Found::Primitive(scope.words.primitive(name)?))
+    Some(Found::Primitive(scope.words.primitive(asked.name)?))
 }
 
 /// What a name behind another names.
@@ -389,89 +378,249 @@ fn behind(
     items: &Items,
     scope: &Scope,
     before: Option<Found>,
-    name: Symbol,
-    space: Space,
+    asked: Asked,
     room: u32,
 ) -> Option<Found>
-    ensures { result ≡ named_behind items.now scope.now (target items.now scope.now room) before name space }
+    ensures { result ≡ named_behind items.now scope.now (target items.now scope.now room) before asked }
 {
-    let module = match before {
-        Some(Found::Module(module)) => module,
-        Some(Found::Unknown) => return Some(Found::Unknown),
-        _ => return None,
-    };
-    if name == Symbol::SUPER {
+    match before {
+        Some(Found::Module(module)) => behind_module(items, scope, module, asked, room),
+        Some(Found::Unknown) => before,
+        Some(Found::Hidden(_)) => before,
+        Some(Found::Ambiguous(_)) => before,
+        _ => None,
+    }
+}
+
+/// What a name behind a module's names.
+#[cycle(names)]
+fn behind_module(
+    items: &Items,
+    scope: &Scope,
+    module: u32,
+    asked: Asked,
+    room: u32,
+) -> Option<Found>
+    ensures { result ≡ behind_module items.now scope.now (target items.now scope.now room) asked «module» }
+{
+    if asked.name == Symbol::SUPER {
         return Some(Found::Module(parent_of(items, module)?));
     }
-    if name == Symbol::SELF {
+    if asked.name == Symbol::SELF {
         return Some(Found::Module(module));
     }
-    match within(items, scope, module, name, space, None, room) {
+    match within(items, scope, module, asked, room) {
         Some(found) => Some(found),
-        None => perhaps(scope, module, name, None),
+        None => perhaps(items, scope, module, asked),
     }
 }
 
 /// What a glob may bring into a module under a name that leads to nothing that is read.
-fn perhaps(scope: &Scope, module: u32, name: Symbol, skipped: Option<u32>) -> Option<Found>
-    ensures { result ≡ perhaps scope.now «module» name skipped }
+fn perhaps(items: &Items, scope: &Scope, module: u32, asked: Asked) -> Option<Found>
+    ensures { result ≡ perhaps items.now scope.now «module» asked }
 {
-    let is_at_head = skipped.is_some() && scope.words.is_std(name);
-    if scope.leads_nowhere(module) && !is_at_head {
+    let is_at_head = asked.skipped.is_some() && scope.words.is_std(asked.name);
+    if scope.leads_nowhere(items, module, asked.from) && !is_at_head {
         Some(Found::Unknown)
     } else {
         None
     }
 }
 
-/// What a name names in a module: what stands there, what its uses bring in, and then what its globs do.
+/// What a name names in a module: what it has of its own, or else what its globs bring in.
 #[cycle(names)]
 #[tactic(auto, unfolding(crate::specs::Names::within))]
-fn within(
+fn within(items: &Items, scope: &Scope, module: u32, asked: Asked, room: u32) -> Option<Found>
+    ensures { result ≡ within items.now scope.now (target items.now scope.now room) «module» asked }
+{
+    let seen = match own(items, scope, module, asked, room) {
+        Some(own) => seen_own(items, own, asked.from),
+        None => among(items, scope, scope.reached(module), asked, room)?,
+    };
+    Some(shown(asked.name, seen))
+}
+
+/// What a module has of its own, as another one sees it.
+fn seen_own(items: &Items, own: OwnName, from: u32) -> Seen
+    ensures { result ≡ seen_own items.now from own }
+{
+    Seen {
+        found: own.found,
+        is_visible: is_visible(items, own.visible_in, from),
+    }
+}
+
+/// What is found under a name, where it may be used.
+fn shown(name: Symbol, seen: Seen) -> Found
+    ensures { result ≡ shown name seen }
+{
+    if seen.is_visible {
+        seen.found
+    } else {
+        Found::Hidden(name)
+    }
+}
+
+/// What a name names by the ways of a module's globs, together.
+#[cycle(names)]
+fn among(items: &Items, scope: &Scope, ways: &[Way], asked: Asked, room: u32) -> Option<Seen>
+    ensures { result
+        ≡ among items.now scope.now (target items.now scope.now room) ways.now asked None ways.now }
+{
+    let mut all = None;
+    for way in ways {
+        let seen = along(items, scope, ways, *way, asked, room);
+        all = agreed(asked.name, all, seen);
+    }
+    all
+}
+
+/// What two ways bring under a name.
+fn agreed(name: Symbol, one: Option<Seen>, other: Option<Seen>) -> Option<Seen>
+    ensures { result ≡ agreed name one other }
+{
+    match (one, other) {
+        (Some(one), Some(other)) => Some(Seen {
+            found: one_of(name, one.found, other.found),
+            is_visible: one.is_visible || other.is_visible,
+        }),
+        (Some(one), None) => Some(one),
+        (None, other) => other,
+    }
+}
+
+/// What has a name, if it is this and that.
+fn one_of(name: Symbol, one: Found, other: Found) -> Found
+    ensures { result ≡ one_of name one other }
+{
+    match (one, other) {
+        (Found::Unknown, _) => Found::Unknown,
+        (_, Found::Unknown) => Found::Unknown,
+        (Found::Module(a), Found::Module(b)) => {
+            if a == b { one } else { Found::Ambiguous(name) }
+        }
+        (Found::Item(a), Found::Item(b)) => { if a == b { one } else { Found::Ambiguous(name) } }
+        _ => Found::Ambiguous(name),
+    }
+}
+
+/// What a way of globs brings under a name: what the module at its end has of its own, unless a glob of the way doesn't
+/// see it, or a module before has the name of its own.
+#[cycle(names)]
+fn along(
     items: &Items,
     scope: &Scope,
-    module: u32,
-    name: Symbol,
-    space: Space,
-    skipped: Option<u32>,
+    ways: &[Way],
+    way: Way,
+    asked: Asked,
     room: u32,
-) -> Option<Found>
-    ensures { result
-        ≡ within items.now scope.now (target items.now scope.now room) «module» name space skipped }
+) -> Option<Seen>
+    ensures { result ≡ along items.now scope.now (target items.now scope.now room) ways.now asked way }
 {
-    if let Some(found) = own(items, scope, module, name, space, skipped, room) {
-        return Some(found);
+    let own = own(items, scope, way.glob.target, asked, room)?;
+    if !is_open(items, scope, ways, way, own.visible_in, asked, room) {
+        return None;
     }
-    for reached in scope.reached(module) {
-        if let Some(found) = own(items, scope, *reached, name, space, skipped, room) {
-            return Some(found);
+    Some(Seen {
+        found: own.found,
+        is_visible: is_visible(items, own.visible_in, asked.from)
+            && is_way_visible(items, ways, way, asked.from),
+    })
+}
+
+/// Whether each module that a way's globs stand in sees what is visible in that module, and has no such name of its own.
+#[cycle(names)]
+#[tactic(auto, using(crate::proofs::WayLemmas::on_next, crate::proofs::WayLemmas::on_not, crate::proofs::WayLemmas::on_end, crate::proofs::WayLemmas::on_done))]
+fn is_open(
+    items: &Items,
+    scope: &Scope,
+    ways: &[Way],
+    way: Way,
+    visible_in: Option<u32>,
+    asked: Asked,
+    room: u32,
+) -> bool
+    ensures { result
+        ≡ is_open items.now scope.now (target items.now scope.now room) ways.now asked way visible_in }
+{
+    let mut last = Some(way);
+    for turn in 0..ways.len() {
+        let Some(way) = last else {
+            break;
+        };
+        if !is_visible(items, visible_in, way.glob.inside) {
+            return false;
         }
+        if own(items, scope, way.glob.inside, asked, room).is_some() {
+            return false;
+        }
+        last = way_at(ways, way.before);
     }
-    None
+    true
 }
 
 /// What a name names in a module without its globs.
 #[cycle(names)]
 #[tactic(auto, unfolding(crate::specs::Names::own))]
-fn own(
+fn own(items: &Items, scope: &Scope, module: u32, asked: Asked, room: u32) -> Option<OwnName>
+    ensures { result ≡ own items.now scope.now (target items.now scope.now room) «module» asked }
+{
+    let standing = declared(items, scope, module, asked.name, asked.space);
+    let number = scope.used(module, asked.name);
+    beside(
+        asked.name,
+        standing,
+        brought_in(items, scope, number, asked, room),
+    )
+}
+
+/// What has a name that stands in a module, and is brought in there by a use.
+fn beside(name: Symbol, standing: Option<OwnName>, import: Option<OwnName>) -> Option<OwnName>
+    ensures { result ≡ beside name standing import }
+{
+    match (standing, import) {
+        (Some(standing), Some(import)) => match import.found {
+            Found::Unknown => Some(standing),
+            _ => Some(ambiguous(name)),
+        },
+        (Some(standing), None) => Some(standing),
+        (None, import) => import,
+    }
+}
+
+/// One of several that have this name.
+fn ambiguous(name: Symbol) -> OwnName
+    ensures { result ≡ ambiguous name }
+{
+    OwnName {
+        found: Found::Ambiguous(name),
+        visible_in: None,
+    }
+}
+
+/// What the use of this number brings in, but for the one that counts for nothing.
+#[cycle(names)]
+fn brought_in(
     items: &Items,
     scope: &Scope,
-    module: u32,
-    name: Symbol,
-    space: Space,
-    skipped: Option<u32>,
+    number: Option<u32>,
+    asked: Asked,
     room: u32,
-) -> Option<Found>
-    ensures { result ≡ own items.now scope.now (target items.now scope.now room) «module» name space skipped }
+) -> Option<OwnName>
+    ensures { result ≡ used_by items.now scope.now (target items.now scope.now room) asked number }
 {
-    if let Some(found) = declared(scope, module, name, space) {
-        return Some(found);
+    let number = number?;
+    if number == SEVERAL {
+        return Some(ambiguous(asked.name));
     }
-    let number = scope.used(module, name)?;
-    if skipped == Some(number) {
+    if asked.skipped == Some(number) {
         return None;
     }
-    imported(items, scope, number, space, room)
+    let found = imported(items, scope, number, asked.space, room)?;
+    Some(OwnName {
+        found,
+        visible_in: visibility_of_use(items, number),
+    })
 }
 
 /// What the use of this number brings in: the item that it leads to, or else one that isn't known, unless it leads to
@@ -480,12 +629,27 @@ fn own(
 fn imported(items: &Items, scope: &Scope, number: u32, space: Space, room: u32) -> Option<Found>
     ensures { result ≡ imported items.now scope.now (target items.now scope.now room) number space }
 {
-    if let Some(found) = follow(items, scope, number, space, room) {
-        return Some(found);
+    let found = follow(items, scope, number, space, room);
+    if is_usable(found) {
+        return found;
     }
-    match follow(items, scope, number, other_space(space), room) {
-        Some(_) => None,
+    if is_usable(follow(items, scope, number, other_space(space), room)) {
+        return None;
+    }
+    match found {
+        Some(found) => Some(found),
         None => Some(Found::Unknown),
+    }
+}
+
+/// Whether something is found that may be used.
+fn is_usable(found: Option<Found>) -> bool
+    ensures { result ≡ is_usable found }
+{
+    match found {
+        None => false,
+        Some(Found::Hidden(_)) => false,
+        _ => true,
     }
 }
 
@@ -500,14 +664,61 @@ fn other_space(space: Space) -> Space
 }
 
 /// What stands in a module under a name.
-fn declared(scope: &Scope, module: u32, name: Symbol, space: Space) -> Option<Found>
-    ensures { result ≡ declared scope.now «module» name space }
+fn declared(
+    items: &Items,
+    scope: &Scope,
+    module: u32,
+    name: Symbol,
+    space: Space,
+) -> Option<OwnName>
+    ensures { result ≡ declared items.now scope.now «module» name space }
 {
     if space == Space::Values {
-        return Some(Found::Item(scope.value(module, name)?));
+        return Some(own_item(items, scope.value(module, name)?));
     }
     if let Some(item) = scope.ty(module, name) {
-        return Some(Found::Item(item));
+        return Some(own_item(items, item));
     }
-    Some(Found::Module(scope.module(module, name)?))
+    Some(own_module(items, scope.module(module, name)?))
+}
+
+/// The item of this number, and where it may be used.
+fn own_item(items: &Items, number: u32) -> OwnName
+    ensures { result ≡ own_item items.now number }
+{
+    OwnName {
+        found: Found::Item(number),
+        visible_in: visibility_of_item(items, number),
+    }
+}
+
+/// The module of this number, and where it may be used.
+fn own_module(items: &Items, number: u32) -> OwnName
+    ensures { result ≡ own_module items.now number }
+{
+    OwnName {
+        found: Found::Module(number),
+        visible_in: visibility_of_module(items, number),
+    }
+}
+
+/// The module in which the item of this number may be used, if not everywhere.
+pub(crate) fn visibility_of_item(items: &Items, number: u32) -> Option<u32>
+    ensures { result ≡ visibility_of_item items.now number }
+{
+    items.items.get(number as usize)?.visible_in
+}
+
+/// The module in which the module of this number may be used, if not everywhere.
+fn visibility_of_module(items: &Items, number: u32) -> Option<u32>
+    ensures { result ≡ visibility_of_module items.now number }
+{
+    items.modules.get(number as usize)?.visible_in
+}
+
+/// The module in which what the use of this number brings in may be used, if not everywhere.
+fn visibility_of_use(items: &Items, number: u32) -> Option<u32>
+    ensures { result ≡ visibility_of_use items.now number }
+{
+    items.uses.get(number as usize)?.visible_in
 }

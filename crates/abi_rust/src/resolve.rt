@@ -7,7 +7,7 @@ ghost use Rattle.rust_source.specs.declared.syntax.Path.{out-Path};
 ghost use Rattle.rust_source.specs.declared.syntax.Segment.{out-Segment};
 ghost use Rattle.rust_source.specs.declared.syntax.«Type».{out-Type};
 ghost use Rattle.abi_rust.specs.Meaning.{Means};
-ghost use Rattle.abi_rust.specs.Resolving.{argument_given, default_given, first_name, give, given_constant, given_type, inner, is_behind_type, is_self, is_wanted, item_under, item_with, length_by, length_of, type_named_by, named_type, one_given, path_type, resolver, self_by, tuple_from, type_as_constant, type_given, type_of_layer, type_with, unknown};
+ghost use Rattle.abi_rust.specs.Resolving.{argument_given, default_given, first_name, give, given_constant, given_early, given_type, given_wrongly, inner, is_behind_type, is_given, is_other, is_self, is_type_inside, is_wanted, item_under, item_with, length_by, length_of, may_be_constant, type_named_by, named_type, one_given, path_type, primitive_given, resolver, self_by, tuple_from, type_as_constant, type_given, type_of_layer, type_with, unknown};
 ghost use Rattle.abi_rust.specs.Resolving.{most_deep};
 ghost use Rattle.abi_rust.specs.Types.{all_given, given_of, ty_of, where_of};
 ghost use Rattle.abi_rust.specs.Values.{value_as_read};
@@ -19,7 +19,7 @@ use crate::operators::same_kind;
 use crate::owned::owned_of;
 use crate::paths::{Found, Space, find, item_at};
 use crate::places::{place_of, place_of_path};
-use crate::ty::{Given, Kind, Ty, Value};
+use crate::ty::{Given, Kind, Primitive, Ty, Value};
 use crate::work::{
     Context, Setting, Work, copies_of, copy_of, less, most_deep, push_given, push_ty,
 };
@@ -190,13 +190,74 @@ fn resolve_named<'a>(
     let Some(last) = path.segments.last() else {
         return Err(stop_at(at, FaultKind::Unevaluated(Unevaluated::Inferred)));
     };
+    if let Some(wrong) = given_wrongly(cx, setting, path) {
+        return Err(stop_at(wrong.at, FaultKind::WrongArguments(wrong.name)));
+    }
     match find(cx.items, cx.scope, setting.module, path, Space::Types) {
-        Some(Found::Primitive(primitive)) => Ok(Ty::Primitive(primitive)),
+        Some(Found::Primitive(primitive)) => primitive_given(primitive, last),
         Some(Found::Item(number)) => resolve_item(cx, work, setting, number, last, room),
         Some(Found::Module(_)) => Err(stop_at(at, FaultKind::NotAType(last.name))),
         Some(Found::Unknown) => Err(stop_at(at, FaultKind::UnknownOrigin(last.name))),
+        Some(Found::Hidden(name)) => Err(stop_at(at, FaultKind::Private(name))),
+        Some(Found::Ambiguous(name)) => Err(stop_at(at, FaultKind::Ambiguous(name))),
         None => Err(stop_at(at, unknown(cx, setting, path, last.name))),
     }
+}
+
+/// Whether something stands in angle brackets behind a name.
+fn is_given(segment: &Segment) -> bool
+    ensures { result ≡ is_given segment.now }
+{
+    !segment.arguments.is_empty()
+}
+
+/// A primitive type, which takes no arguments.
+fn primitive_given(primitive: Primitive, last: &Segment) -> Result<Ty, Stop>
+    ensures { Means ty_of (primitive_given last.now primitive) result }
+{
+    if is_given(last) {
+        return Err(stop_at(last.at, FaultKind::WrongArguments(last.name)));
+    }
+    Ok(Ty::Primitive(primitive))
+}
+
+/// The first name before the last that is given arguments: such a name is a module's, which takes none.
+#[tactic(auto, using(crate::proofs::Early::early_on, crate::proofs::Early::early_end))]
+fn given_early(segments: &[Segment]) -> Option<&Segment>
+    ensures { option_copied result ≡ given_early segments.now }
+{
+    for (index, segment) in segments.iter().enumerate() {
+        if index + 1 < segments.len() && is_given(segment) {
+            return Some(segment);
+        }
+    }
+    None
+}
+
+/// The first name of a path that is given arguments and takes none: one before the last, or alone a parameter or `Self`.
+fn given_wrongly<'p>(
+    cx: &Context<'_, '_>,
+    setting: Setting<'_>,
+    path: &'p Path,
+) -> Option<&'p Segment>
+    ensures { option_copied result
+        ≡ given_wrongly cx.now (where_of setting.entry) (out-Path path.now).segments.items }
+{
+    let first = path.segments.first()?;
+    if path.segments.len() > 1 {
+        return given_early(path.segments.as_slice());
+    }
+    if is_given(first) && is_type_inside(cx, setting, first.name) {
+        return Some(first);
+    }
+    None
+}
+
+/// Whether a name is a parameter's, or `Self`.
+fn is_type_inside(cx: &Context<'_, '_>, setting: Setting<'_>, name: Symbol) -> bool
+    ensures { result ≡ is_type_inside cx.now (where_of setting.entry) name }
+{
+    parameter_named(cx, setting.item, name).is_some() || name == Symbol::SELF_TYPE
 }
 
 /// The type that the item is, of whose definition `Self` is a part.
@@ -225,9 +286,7 @@ fn is_behind_type(cx: &Context<'_, '_>, setting: Setting<'_>, path: &Path) -> bo
     let Some(first) = path.segments.first() else {
         return false;
     };
-    path.segments.len() > 1
-        && (parameter_named(cx, setting.item, first.name).is_some()
-            || first.name == Symbol::SELF_TYPE)
+    path.segments.len() > 1 && is_type_inside(cx, setting, first.name)
 }
 
 /// What is wrong with a path that names no type.
@@ -449,6 +508,27 @@ fn constant_given_by<'a>(
     }
 }
 
+/// Whether a path that is read as a type may be a constant's name: it is one name, which no type and no module has.
+fn may_be_constant(cx: &Context<'_, '_>, setting: Setting<'_>, path: &Path) -> bool
+    ensures { result ≡ may_be_constant cx.now (where_of setting.entry) path.now }
+{
+    single_name(path).is_some()
+        && type_given(cx, setting, path).is_none()
+        && !is_other(find(cx.items, cx.scope, setting.module, path, Space::Types))
+}
+
+/// Whether what is found among types and modules is one of them for certain.
+fn is_other(found: Option<Found>) -> bool
+    ensures { result ≡ is_other found }
+{
+    match found {
+        Some(Found::Module(_)) => true,
+        Some(Found::Item(_)) => true,
+        Some(Found::Primitive(_)) => true,
+        _ => false,
+    }
+}
+
 /// The constant that a name is that is read as a type.
 fn type_as_constant<'a>(
     cx: &Context<'a, '_>,
@@ -464,6 +544,9 @@ fn type_as_constant<'a>(
 {
     match ty {
         Type::Path(path) => {
+            if !may_be_constant(cx, setting, path) {
+                return Err(stop_at(at, FaultKind::WrongKindOfArgument));
+            }
             let value = evaluate_path(cx, work, setting, path, most_deep())?;
             if !is_wanted(wanted, value) {
                 return Err(stop_at(at, FaultKind::WrongType));

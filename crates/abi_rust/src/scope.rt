@@ -1,7 +1,7 @@
 //! The names that each module has.
 
 ghost use Rattle.std.specs.Prelude.{◌≡◌, ◌⊎◌, [], IfErr, IfOk, None, Some, false, map, not, replicate, slice_get};
-ghost use Rattle.abi_rust.specs.Globs.{AreFollowed, KeepsGlobs, glob_target, globs_added, is_in, led_to, list_at, lists_of, lost_added, lost_target, with_module, with_modules, with_target};
+ghost use Rattle.abi_rust.specs.Globs.{AreFollowed, KeepsGlobs, glob_target, glob_to, globs_added, if_all, is_in, led_from, led_to, list_at, lists_of, lost_added, lost_target, lost_way, most_ways, with_glob, with_target, with_way, with_ways};
 ghost use Rattle.abi_rust.specs.Scope.{constant_standing, leads_nowhere, module_in, own_constant, owner_of, reached_from, type_standing, use_in};
 ghost use Rattle.abi_rust.specs.ScopeNames.{HasSameNames, HasSameRoots, IsEmpty, KeepsNames, KeepsOwn, repeated_of};
 ghost use Rattle.abi_rust.specs.Standing.{IsMemory};
@@ -10,6 +10,7 @@ use crate::fault::{FaultKind, Stop, stop_at};
 use crate::own_constants::add_own_constants;
 use crate::paths::{Found, Space, target_of};
 use crate::standing::{Key, add_items, add_modules, add_uses, key, numbered};
+use crate::ways::{Glob, Way, is_way_visible, leads_on};
 use crate::words::{Word, Words};
 use indexmap::IndexMap;
 use rust_source::{Items, Symbol, Use};
@@ -17,6 +18,9 @@ use std::alloc::Global;
 
 /// Where globs lead that lead to nothing that is read: no module has this number, since there are fewer.
 const NOWHERE: u32 = u32::MAX;
+
+/// How many ways of globs are kept of a module.
+const MOST_WAYS: usize = 4096;
 
 /// The names that each module has.
 #[derive(Drop)]
@@ -38,8 +42,9 @@ pub(crate) struct Scope {
     owners: IndexMap<u32, u32>,
     /// Uses that bring in a name.
     uses: IndexMap<Key, u32>,
-    /// For each module those that its globs lead to, and `NOWHERE` where one of them leads to nothing that is read.
-    reached: Vec<Vec<u32>>,
+    /// For each module the ways of its globs, and of the globs of the modules that these lead to, to `NOWHERE` where one
+    /// of them leads to nothing that is read.
+    reached: Vec<Vec<Way>>,
 }
 
 impl Scope {
@@ -122,45 +127,45 @@ impl Scope {
     {
         let mut direct = self.follow_rounds(alloc, items)?;
         self.add_lost(items, &mut direct)?;
-        self.reached = reached_through(alloc, &direct)?;
+        self.reached = reached_through(alloc, items, &direct)?;
         Ok(())
     }
 
     /// Finds the modules that globs lead to, until none leads further: each round but the last finds one that was not
-    /// found before. The answer has those that each module's own globs name.
-    fn follow_rounds(&mut self, alloc: Global, items: &Items) -> Result<Vec<Vec<u32>>, Stop>
+    /// found before. The answer has each module's own globs.
+    fn follow_rounds(&mut self, alloc: Global, items: &Items) -> Result<Vec<Vec<Glob>>, Stop>
         ensures globs { IfOk result (λ direct. AreFollowed items.now (lists_of direct.items) self.new) }
         ensures same { IfOk result (λ _. HasSameNames self.old self.new) }
         ensures err { IfErr result IsMemory }
     {
-        let mut direct = no_modules(alloc, items.modules.len())?;
-        self.reached = no_modules(alloc, items.modules.len())?;
+        let mut direct = empty_lists(alloc, items.modules.len())?;
+        self.reached = empty_lists(alloc, items.modules.len())?;
         let rounds = items.uses.len().saturating_add(1);
         for _round in 0..rounds {
             if !self.add_globs(items, &mut direct)? {
                 return Ok(direct);
             }
-            self.reached = reached_through(alloc, &direct)?;
+            self.reached = reached_through(alloc, items, &direct)?;
         }
         Ok(direct)
     }
 
-    /// Adds to those that each module's own globs name where a glob of it leads to nothing that is read.
-    fn add_lost(&self, items: &Items, direct: &mut Vec<Vec<u32>>) -> Result<(), Stop>
+    /// Adds to each module's own globs those that lead to nothing that is read.
+    fn add_lost(&self, items: &Items, direct: &mut Vec<Vec<Glob>>) -> Result<(), Stop>
         ensures added { IfOk result (λ _.
             lists_of direct.new.items ≡ lost_added items.now self.now (lists_of direct.old.items)) }
         ensures err { IfErr result IsMemory }
     {
         for (number, used) in items.uses.iter().enumerate() {
             let target = self.lost_target(items, numbered(number), used);
-            let _is_new = add_target(direct, used.module, target)?;
+            let _is_new = add_target(direct, target)?;
         }
         Ok(())
     }
 
-    /// Where the use of this number leads, if it is a glob that leads to nothing that is read. The glob of an enum brings
-    /// in its variants, which are no types.
-    fn lost_target(&self, items: &Items, number: u32, used: &Use) -> Option<u32>
+    /// The use of this number as a glob, if it is one that leads to nothing that is read. The glob of an enum brings in
+    /// its variants, which are no types.
+    fn lost_target(&self, items: &Items, number: u32, used: &Use) -> Option<Glob>
         ensures { result ≡ lost_target items.now self.now number used.now }
     {
         if !used.is_glob {
@@ -169,12 +174,12 @@ impl Scope {
         match target_of(items, self, number, Space::Types) {
             Some(Found::Module(_)) => None,
             Some(Found::Item(_)) => None,
-            _ => Some(NOWHERE),
+            _ => Some(glob_to(used, NOWHERE)),
         }
     }
 
-    /// Adds to each module those that its own globs name, and tells whether one is new.
-    fn add_globs(&self, items: &Items, direct: &mut Vec<Vec<u32>>) -> Result<bool, Stop>
+    /// Adds to each module's own globs those that lead to modules, and tells whether one is new.
+    fn add_globs(&self, items: &Items, direct: &mut Vec<Vec<Glob>>) -> Result<bool, Stop>
         ensures added { IfOk result (λ _.
             lists_of direct.new.items ≡ globs_added items.now self.now (lists_of direct.old.items)) }
         ensures none { IfOk result (λ is_new. is_new ≡ false →
@@ -184,15 +189,15 @@ impl Scope {
         let mut is_new = false;
         for (number, used) in items.uses.iter().enumerate() {
             let target = self.glob_target(items, numbered(number), used);
-            if add_target(direct, used.module, target)? {
+            if add_target(direct, target)? {
                 is_new = true;
             }
         }
         Ok(is_new)
     }
 
-    /// The module that the use of this number brings all names of, if it is a glob, and of another module than its own.
-    fn glob_target(&self, items: &Items, number: u32, used: &Use) -> Option<u32>
+    /// The use of this number as a glob, if it is one, and leads to another module than its own.
+    fn glob_target(&self, items: &Items, number: u32, used: &Use) -> Option<Glob>
         ensures { result ≡ glob_target items.now self.now number used.now }
     {
         if !used.is_glob {
@@ -204,7 +209,7 @@ impl Scope {
         if target == used.module {
             None
         } else {
-            Some(target)
+            Some(glob_to(used, target))
         }
     }
 
@@ -256,9 +261,9 @@ impl Scope {
         self.uses.get(&key(module, name)).copied()
     }
 
-    /// The modules that a module's globs lead to.
+    /// The ways of a module's globs.
     #[tactic(auto, unfolding(crate::specs::Scope::reached_from))]
-    pub(crate) fn reached(&self, module: u32) -> &[u32]
+    pub(crate) fn reached(&self, module: u32) -> &[Way]
         ensures { result.now ≡ reached_from self.now «module» }
     {
         match self.reached.get(module as usize) {
@@ -267,12 +272,19 @@ impl Scope {
         }
     }
 
-    /// Whether a glob of the module, or of one that its globs lead to, leads to nothing that is read.
+    /// Whether a way of the module's globs leads to nothing that is read, and what it brings in may be used in the one
+    /// that asks.
     #[tactic(auto, unfolding(crate::specs::Scope::leads_nowhere))]
-    pub(crate) fn leads_nowhere(&self, module: u32) -> bool
-        ensures { result ≡ leads_nowhere self.now «module» }
+    pub(crate) fn leads_nowhere(&self, items: &Items, module: u32, from: u32) -> bool
+        ensures { result ≡ leads_nowhere items.now self.now «module» from }
     {
-        self.reached(module).contains(&NOWHERE)
+        let ways = self.reached(module);
+        for way in ways {
+            if way.glob.target == NOWHERE && is_way_visible(items, ways, *way, from) {
+                return true;
+            }
+        }
+        false
     }
 
     /// The module whose names are everywhere.
@@ -283,8 +295,8 @@ impl Scope {
     }
 }
 
-/// For each of so many modules none.
-fn no_modules(alloc: Global, count: usize) -> Result<Vec<Vec<u32>>, Stop>
+/// So many empty lists.
+fn empty_lists<T: Drop>(alloc: Global, count: usize) -> Result<Vec<Vec<T>>, Stop>
     ensures none { IfOk result (λ all. lists_of all.items ≡ replicate count []) }
     ensures err { IfErr result IsMemory }
 {
@@ -295,10 +307,21 @@ fn no_modules(alloc: Global, count: usize) -> Result<Vec<Vec<u32>>, Stop>
     Ok(all)
 }
 
-/// Adds a module, if there is one, to those that another one's own globs name, and tells whether it is new.
-fn add_target(direct: &mut Vec<Vec<u32>>, module: u32, target: Option<u32>) -> Result<bool, Stop>
+/// A use as a glob that leads there.
+fn glob_to(used: &Use, target: u32) -> Glob
+    ensures { result ≡ glob_to used.now target }
+{
+    Glob {
+        inside: used.module,
+        target,
+        visible_in: used.visible_in,
+    }
+}
+
+/// Adds a glob, if there is one, to those of the module that it stands in, and tells whether it is new.
+fn add_target(direct: &mut Vec<Vec<Glob>>, target: Option<Glob>) -> Result<bool, Stop>
     ensures added { IfOk result (λ _.
-        lists_of direct.new.items ≡ with_target (lists_of direct.old.items) «module» target) }
+        lists_of direct.new.items ≡ with_target (lists_of direct.old.items) target) }
     ensures none { IfOk result (λ is_new. is_new ≡ false →
         lists_of direct.new.items ≡ lists_of direct.old.items) }
     ensures err { IfErr result IsMemory }
@@ -306,64 +329,129 @@ fn add_target(direct: &mut Vec<Vec<u32>>, module: u32, target: Option<u32>) -> R
     let Some(found) = target else {
         return Ok(false);
     };
-    match direct.get_mut(module as usize) {
-        Some(known) => add_module(known, found),
+    match direct.get_mut(found.inside as usize) {
+        Some(known) => add_glob(known, found),
         None => Ok(false),
     }
 }
 
-/// Adds a module to others, unless it is there, and tells whether it is new.
-fn add_module(known: &mut Vec<u32>, module: u32) -> Result<bool, Stop>
-    ensures added { IfOk result (λ _. known.new.items ≡ with_module known.old.items «module») }
-    ensures is_new { IfOk result (λ is_new. is_new ≡ not (is_in known.old.items «module»)) }
+/// Adds a glob to others, unless it is there, and tells whether it is new.
+fn add_glob(known: &mut Vec<Glob>, glob: Glob) -> Result<bool, Stop>
+    ensures added { IfOk result (λ _. known.new.items ≡ with_glob known.old.items glob) }
+    ensures is_new { IfOk result (λ is_new. is_new ≡ not (is_in known.old.items glob)) }
     ensures err { IfErr result IsMemory }
 {
-    if known.as_slice().contains(&module) {
+    if is_in(known.as_slice(), glob) {
         return Ok(false);
     }
-    known.push(module)?;
+    known.push(glob)?;
     Ok(true)
 }
 
-/// For each module those that its globs lead to, by the globs of those too.
-fn reached_through(alloc: Global, direct: &Vec<Vec<u32>>) -> Result<Vec<Vec<u32>>, Stop>
+/// Whether a glob is among those of a module.
+fn is_in(known: &[Glob], glob: Glob) -> bool
+    ensures { result ≡ is_in known.now glob }
+{
+    for other in known {
+        if other.target == glob.target && other.visible_in == glob.visible_in {
+            return true;
+        }
+    }
+    false
+}
+
+/// For each module its ways, of these globs of its own and of the others.
+fn reached_through(
+    alloc: Global,
+    items: &Items,
+    direct: &Vec<Vec<Glob>>,
+) -> Result<Vec<Vec<Way>>, Stop>
     ensures all { IfOk result (λ all. let lists = lists_of direct.now.items in
-        lists_of all.items ≡ map (led_to lists) lists) }
+        lists_of all.items ≡ map (led_to items.now lists) lists) }
     ensures err { IfErr result IsMemory }
 {
     let mut all = Vec::new(alloc);
     for own in direct {
-        all.push(reached_by(alloc, direct, own)?)?;
+        all.push(reached_by(alloc, items, direct, own)?)?;
     }
     Ok(all)
 }
 
-/// Those that a module's globs lead to, of which its own name these.
-fn reached_by(alloc: Global, direct: &Vec<Vec<u32>>, own: &[u32]) -> Result<Vec<u32>, Stop>
+/// The ways that begin with these globs.
+fn reached_by(
+    alloc: Global,
+    items: &Items,
+    direct: &Vec<Vec<Glob>>,
+    own: &[Glob],
+) -> Result<Vec<Way>, Stop>
     ensures all { IfOk result (λ reached.
-        reached.items ≡ led_to (lists_of direct.now.items) own.now) }
+        reached.items ≡ led_to items.now (lists_of direct.now.items) own.now) }
     ensures err { IfErr result IsMemory }
 {
     let mut reached = Vec::new(alloc);
-    add_new(&mut reached, own)?;
-    for index in 0..direct.len() {
-        let Some(next) = module_at(&reached, index) else {
-            break;
-        };
-        add_new(&mut reached, own_modules(direct, next))?;
-    }
+    add_ways(items, &mut reached, None, own)?;
+    lead_on(items, direct, &mut reached)?;
+    add_if_full(&mut reached)?;
     Ok(reached)
 }
 
-/// The module at an index.
-fn module_at(modules: &Vec<u32>, index: usize) -> Option<u32>
-    ensures { result ≡ slice_get modules.now.items index }
+/// Adds the ways on from these, and from those that are added.
+fn lead_on(items: &Items, direct: &Vec<Vec<Glob>>, ways: &mut Vec<Way>) -> Result<(), Stop>
+    ensures all { IfOk result (λ _.
+        ways.new.items ≡ led_from items.now (lists_of direct.now.items) most_ways 0 ways.old.items) }
+    ensures err { IfErr result IsMemory }
 {
-    modules.get(index).copied()
+    let turns = most_ways();
+    for index in 0..turns {
+        let Some(way) = way_numbered(ways, index) else {
+            return Ok(());
+        };
+        let globs = own_globs(direct, way.glob.target);
+        add_ways(items, ways, Some(numbered(index)), globs)?;
+    }
+    Ok(())
 }
 
-/// The modules that a module's own globs name.
-fn own_modules(direct: &Vec<Vec<u32>>, module: u32) -> &[u32]
+/// Adds a way to nothing that is read, where some may have been left out.
+fn add_if_full(ways: &mut Vec<Way>) -> Result<(), Stop>
+    ensures all { IfOk result (λ _. ways.new.items ≡ if_all ways.old.items) }
+    ensures err { IfErr result IsMemory }
+{
+    if ways.len() >= most_ways() {
+        ways.push(lost_way())?;
+    }
+    Ok(())
+}
+
+/// How many ways of globs are kept of a module.
+#[tactic(auto, unfolding(crate::specs::Globs::most_ways))]
+fn most_ways() -> usize
+    ensures { result ≡ most_ways }
+{
+    MOST_WAYS
+}
+
+/// The way at an index.
+fn way_numbered(ways: &Vec<Way>, index: usize) -> Option<Way>
+    ensures { result ≡ slice_get ways.now.items index }
+{
+    ways.get(index).copied()
+}
+
+/// A way that leads to nothing that is read.
+fn lost_way() -> Way
+    ensures { result ≡ lost_way }
+{
+    let glob = Glob {
+        inside: NOWHERE,
+        target: NOWHERE,
+        visible_in: None,
+    };
+    Way { glob, before: None }
+}
+
+/// A module's own globs.
+fn own_globs(direct: &Vec<Vec<Glob>>, module: u32) -> &[Glob]
     ensures { result.now ≡ list_at (lists_of direct.now.items) «module» }
 {
     match direct.get(module as usize) {
@@ -372,13 +460,31 @@ fn own_modules(direct: &Vec<Vec<u32>>, module: u32) -> &[u32]
     }
 }
 
-/// Adds the modules that aren't there.
-fn add_new(reached: &mut Vec<u32>, more: &[u32]) -> Result<(), Stop>
-    ensures all { IfOk result (λ _. reached.new.items ≡ with_modules reached.old.items more.now) }
+/// Adds the ways on from one by each of these globs.
+fn add_ways(
+    items: &Items,
+    ways: &mut Vec<Way>,
+    before: Option<u32>,
+    more: &[Glob],
+) -> Result<(), Stop>
+    ensures all { IfOk result (λ _.
+        ways.new.items ≡ with_ways items.now ways.old.items before more.now) }
     ensures err { IfErr result IsMemory }
 {
-    for module in more {
-        let _is_new = add_module(reached, *module)?;
+    for glob in more {
+        add_way(items, ways, before, *glob)?;
+    }
+    Ok(())
+}
+
+/// Adds the way on from one by a glob, if it goes on and there is room.
+fn add_way(items: &Items, ways: &mut Vec<Way>, before: Option<u32>, glob: Glob) -> Result<(), Stop>
+    ensures all { IfOk result (λ _.
+        ways.new.items ≡ with_way items.now ways.old.items before glob) }
+    ensures err { IfErr result IsMemory }
+{
+    if ways.len() < most_ways() && leads_on(items, ways.as_slice(), before, glob) {
+        ways.push(Way { glob, before })?;
     }
     Ok(())
 }

@@ -1,14 +1,16 @@
 //! What stands in each module under each name.
 
-ghost use Rattle.std.specs.Prelude.{◌≡◌, ◌⊎◌, ℕ, [], IfErr, IfOk, None, Option, Some, if◌then◌else◌};
-ghost use Rattle.std.specs.Option.{option_or};
+ghost use Rattle.std.specs.Prelude.{◌≡◌, ◌⊎◌, ℕ, [], IfErr, IfOk, None, Option, Some, is_some, if◌then◌else◌};
 ghost use Rattle.indexmap.specs.IndexMap.{get};
-ghost use Rattle.abi_rust.specs.Scope.{same_key};
+ghost use Rattle.abi_rust.specs.Scope.{same_key, several};
 ghost use Rattle.abi_rust.specs.Standing.{IsMemory, constant_at, first_repeated, is_constant_at, is_module_at, is_type_at, is_use_at, module_at, numbered, repeated_by, type_at, use_at};
 
 use crate::fault::{FaultKind, Stop, stop_at};
 use indexmap::IndexMap;
 use rust_source::{Const, Item, ItemKind, Module, Symbol, Use};
+
+/// Stands for several uses of one name: no use has this number, since there are fewer.
+pub(crate) const SEVERAL: u32 = u32::MAX;
 
 /// A name in a module: the module's number, and the name's.
 pub(crate) type Key = (u32, u32);
@@ -132,22 +134,24 @@ pub(crate) fn add_items(
     Ok(())
 }
 
-/// Adds the name that a use brings in, unless one before it does so.
+/// Adds the name that a use brings in; where one before it does so, there are several.
 fn add_use(uses: &mut IndexMap<Key, u32>, number: u32, used: &Use) -> Result<(), Stop>
     ensures ok { IfOk result (λ _. (k : ℕ × ℕ) → get same_key uses.new k
-        ≡ option_or (get same_key uses.old k) (if is_use_at k used.now then Some number else None)) }
+        ≡ (if is_use_at k used.now
+        then Some (if is_some (get same_key uses.old k) then several else number)
+        else get same_key uses.old k)) }
     ensures err { IfErr result IsMemory }
 {
     if let Some(name) = used.name {
         let key = key(used.module, name);
-        if uses.get(&key).is_none() {
-            let _ = uses.insert(key, number)?;
-        }
+        let is_first = uses.get(&key).is_none();
+        let number = if is_first { number } else { SEVERAL };
+        let _ = uses.insert(key, number)?;
     }
     Ok(())
 }
 
-/// Adds the names that uses bring in, of two of one name the first.
+/// Adds the names that uses bring in.
 pub(crate) fn add_uses(uses: &mut IndexMap<Key, u32>, all: &[Use]) -> Result<(), Stop>
     requires { (k : ℕ × ℕ) → get same_key uses.old k ≡ None }
     ensures ok { IfOk result (λ _. (k : ℕ × ℕ) → get same_key uses.new k ≡ use_at all.now k) }

@@ -97,15 +97,15 @@ pub mod num {
     pub struct Saturating<T>(pub T);
     #[cfg(target_pointer_width = "64")]
     #[rustc_layout_scalar_valid_range(0, 0x7fff_ffff_ffff_ffff)]
-    pub struct UsizeNoHighBit(usize);
+    pub(crate) struct UsizeNoHighBit(usize);
     #[cfg(target_pointer_width = "32")]
     #[rustc_layout_scalar_valid_range(0, 0x7fff_ffff)]
-    pub struct UsizeNoHighBit(usize);
+    pub(crate) struct UsizeNoHighBit(usize);
     #[cfg(target_pointer_width = "16")]
     #[rustc_layout_scalar_valid_range(0, 0x7fff)]
-    pub struct UsizeNoHighBit(usize);
+    pub(crate) struct UsizeNoHighBit(usize);
     #[rustc_layout_scalar_valid_range(0, 999_999_999)]
-    pub struct Nanoseconds(u32);
+    pub(crate) struct Nanoseconds(u32);
     pub enum IntErrorKind { Empty, InvalidDigit, PosOverflow, NegOverflow, Zero }
     pub struct ParseIntError { kind: IntErrorKind }
     enum FloatErrorKind { Empty, Invalid }
@@ -126,7 +126,7 @@ pub mod rc {
 pub mod vec {
     use crate::{marker::PhantomData, num::UsizeNoHighBit, ptr::{NonNull, Unique}};
     struct RawVecInner<A> { ptr: Unique<u8>, cap: UsizeNoHighBit, alloc: A }
-    pub struct RawVec<T, A> { inner: RawVecInner<A>, _marker: PhantomData<T> }
+    pub(crate) struct RawVec<T, A> { inner: RawVecInner<A>, _marker: PhantomData<T> }
     pub struct Vec<T, A = crate::alloc::Global> { buf: RawVec<T, A>, len: usize }
     pub struct IntoIter<T, A = crate::alloc::Global> { buf: NonNull<T>, phantom: PhantomData<T>, cap: usize,
         alloc: crate::mem::ManuallyDrop<A>, ptr: NonNull<T>, end: *const T }
@@ -152,7 +152,7 @@ pub mod str {
     pub struct Bytes<'a>(crate::slice::Iter<'a, u8>);
 }
 pub mod borrow {
-    pub struct Owned<B: ?Sized>(B);
+    pub(crate) struct Owned<B: ?Sized>(B);
     pub enum Cow<'a, B: ?Sized> { Borrowed(&'a B), Owned(Owned<B>) }
 }
 pub mod ops {
@@ -235,7 +235,7 @@ pub mod sync {
         #[cfg(any(target_os = "linux", windows))]
         pub struct Condvar { futex: AtomicU32 }
         #[cfg(any(target_os = "linux", windows))]
-        pub struct Once { state_and_queued: AtomicU32 }
+        pub(crate) struct Once { state_and_queued: AtomicU32 }
         #[cfg(all(unix, not(target_os = "linux")))]
         type Lock = AtomicPtr<()>;
         #[cfg(all(unix, not(target_os = "linux")))]
@@ -243,7 +243,7 @@ pub mod sync {
         #[cfg(all(unix, not(target_os = "linux")))]
         pub struct Condvar { cvar: AtomicPtr<()>, mutex: AtomicUsize }
         #[cfg(all(unix, not(target_os = "linux")))]
-        pub struct Once { state_and_queue: AtomicPtr<()> }
+        pub(crate) struct Once { state_and_queue: AtomicPtr<()> }
         #[cfg(target_family = "wasm")]
         type Lock = Cell<bool>;
         #[cfg(target_family = "wasm")]
@@ -251,7 +251,7 @@ pub mod sync {
         #[cfg(target_family = "wasm")]
         pub struct Condvar {}
         #[cfg(target_family = "wasm")]
-        pub struct Once { state: Cell<u8> }
+        pub(crate) struct Once { state: Cell<u8> }
         #[cfg(panic = "unwind")]
         struct Flag { failed: AtomicBool }
         #[cfg(panic = "unwind")]

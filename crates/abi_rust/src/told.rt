@@ -12,6 +12,7 @@ ghost use Rattle.abi_rust.specs.Types.{ty_of};
 
 use crate::above::Above;
 use crate::fault::{FaultKind, Stop};
+use crate::formed::check_formed;
 use crate::kind::outside;
 use crate::paths::item_at;
 use crate::resolve::resolve;
@@ -102,7 +103,7 @@ fn type_of_item<'a>(cx: &Context<'a, '_>, work: &mut Work<'a>, number: u32) -> R
     }
 }
 
-/// A type's tree. None where its size isn't known.
+/// A type's tree, whose parts have sizes where they need them. None where its own size isn't known.
 #[tactic(auto, unfolding(crate::specs::Trees::sized_tree))]
 fn sized_tree<'a>(
     cx: &Context<'a, '_>,
@@ -112,6 +113,7 @@ fn sized_tree<'a>(
     ensures { (m : Measure) → IsMeasure cx.now.dl.now m →
         Means (option_map tree_of) (sized_tree cx.now m (ty_of ty.now)) result }
 {
+    check_formed(cx, work, ty)?;
     if !pointee_tail(cx, work, ty)?.is_sized() {
         return Ok(None);
     }

@@ -8,7 +8,7 @@ ghost use Rattle.abi_rust.specs.Int.{number_of_int};
 ghost use Rattle.abi_rust.specs.Meaning.{Means, is_beside};
 ghost use Rattle.abi_rust.specs.Measure.{IsMeasure, Measure, each_meant};
 ghost use Rattle.abi_rust.specs.Tails.{outer_of};
-ghost use Rattle.abi_rust.specs.Trees.{checked_trees, discriminant_value, enum_tree, field_tree, field_trees, first_limited, tree_by_item, item_tree, kind_tree, number_meant, stop_in, struct_fields, struct_tree, tree_inner, tuple_of, tuple_tree, type_tree, union_tree, variant_number, variant_as_tree, variant_tree, variant_trees};
+ghost use Rattle.abi_rust.specs.Trees.{checked_trees, discriminant_value, enum_tree, field_tree, formed_tree, field_trees, first_limited, tree_by_item, item_tree, kind_tree, number_meant, stop_in, struct_fields, struct_tree, tree_inner, tuple_of, tuple_tree, type_tree, union_tree, variant_number, variant_as_tree, variant_tree, variant_trees};
 ghost use Rattle.abi_rust.specs.Types.{all_given, givens, list_of_types, ty_of, types, where_of};
 ghost use Rattle.abi_rust.specs.Values.{value_as_read};
 
@@ -16,6 +16,7 @@ use crate::above::{Above, stands_in, within};
 use crate::discriminants::discriminant_kind;
 use crate::evaluate::evaluate;
 use crate::fault::{FaultKind, Stop, stop_at};
+use crate::formed::check_formed;
 use crate::int::{Int, Width};
 use crate::kind::outside;
 use crate::operators::fitting;
@@ -351,10 +352,26 @@ fn tree_of_field<'a>(
         (tree_inner cx.now m room) (outer_of above.now) (where_of inside.entry) field.now) result }
 {
     let ty = resolve(cx, work, inside, &field.ty, most_deep())?;
-    match tree(cx, work, above, &ty, room) {
+    match formed_tree(cx, work, above, &ty, room) {
         Ok(one) => Ok(one),
         Err(stop) => Err(stop_in(field.start, stop)),
     }
+}
+
+/// The tree of a type that is written, whose parts have sizes where they need them.
+#[cycle(trees)]
+fn formed_tree<'a>(
+    cx: &Context<'a, '_>,
+    work: &mut Work<'a>,
+    above: &Above<'_>,
+    ty: &Ty,
+    room: u32,
+) -> Result<TypeTree, Stop>
+    ensures { (m : Measure) → IsMeasure cx.now.dl.now m → Means tree_of
+        (formed_tree cx.now m (tree_inner cx.now m room) (outer_of above.now) (ty_of ty.now)) result }
+{
+    check_formed(cx, work, ty)?;
+    tree(cx, work, above, ty, room)
 }
 
 /// A fault that has no place, told at this one.

@@ -9,7 +9,7 @@ use Rattle.rust_source.specs.declared.tokens.token.Token.{Token}
 use Rattle.rust_source.specs.declared.tokens.token.TokenKind.{TokenKind}
 use Rattle.rust_source.specs.declared.tokens.token.TokenKind.TheVariants as kind
 use Rattle.rust_source.specs.declared.reader.uses.UsePlace.{UsePlace}
-use Rattle.rust_source.specs.Attributes.{attribute_read, attribute_with, attributes_read, cfg_said, none_said, one_attribute}
+use Rattle.rust_source.specs.Attributes.{attribute_read, attribute_with, attributes_read, attributes_said, cfg_said, none_said, one_attribute, part_attributes}
 use Rattle.rust_source.specs.Cfg.{has_flag, option_answer, option_read, predicate_read, predicate_with}
 use Rattle.rust_source.specs.Cursor.{behind_group, inside, is_group, is_nth, is_nth_pair, is_keyword_next, nth, passed, place, place_behind, place_behind_start, text_between, tree_passed}
 use Rattle.rust_source.specs.Fields.{field_more, field_read, field_typed, fields_all, fields_in, fields_read, value_read, variant_more, variant_read, variants_all, variants_in_braces, visibility_passed}
@@ -64,7 +64,7 @@ module _ (rules : Rules) where
           end = record { 0 = 9 };
         } ∷ [];
       }))
-  unfolding first_names struct_read head_where head_read where_asked tail_read name bare_text place place_behind_start nth passed is_nth is_nth_pair is_keyword_next is_group inside behind_group text_between place_behind parameters_read where_read fields_read fields_in fields_all field_more field_read field_typed attributes_read none_said visibility_passed readers type_next pointee_read pointings pointing most_nested begins_path is_path_name path_read segment_read path_name arguments_read after_path
+  unfolding first_names struct_read head_where head_read where_asked tail_read name bare_text place place_behind_start nth passed is_nth is_nth_pair is_keyword_next is_group inside behind_group text_between place_behind parameters_read where_read fields_read fields_in fields_all field_more field_read field_typed part_attributes attributes_read attributes_said none_said visibility_passed readers type_next pointee_read pointings pointing most_nested begins_path is_path_name path_read segment_read path_name arguments_read after_path
   field_of_struct = refl
 
   -- E { A = 3, #[cfg(false)] B }
@@ -92,7 +92,7 @@ module _ (rules : Rules) where
         fields = record { is_tuple = false; all = [] };
         discriminant = Some (integer 3 None (record { 0 = 8 }));
       } ∷ []))
-  unfolding first_names enum_read head_where head_read where_asked name bare_text place place_behind_start nth passed is_nth is_nth_pair is_keyword_next is_group inside behind_group text_between parameters_read where_read fields_read variants_in_braces variants_all variant_more variant_read value_read attributes_read none_said one_attribute attribute_read attribute_with cfg_said predicate_read predicate_with option_read option_answer has_flag word_text visibility_passed until up_to tree_passed whole readers expr_with operand primary is_literal literal_read signs number_written digits_length number_of_digits digits_value integer_kind integer_kinds next_operator pairs all_joined most_nested
+  unfolding first_names enum_read head_where head_read where_asked name bare_text place place_behind_start nth passed is_nth is_nth_pair is_keyword_next is_group inside behind_group text_between parameters_read where_read fields_read variants_in_braces variants_all variant_more variant_read value_read part_attributes attributes_read attributes_said none_said one_attribute attribute_read attribute_with cfg_said predicate_read predicate_with option_read option_answer has_flag word_text visibility_passed until up_to tree_passed whole readers expr_with operand primary is_literal literal_read signs number_written digits_length number_of_digits digits_value integer_kind integer_kinds next_operator pairs all_joined most_nested
   variant_taken_out = refl
 
 -- a::{b, c as d}
@@ -111,12 +111,14 @@ names_brought_in :
     [])) (first_names, [])).1.1
     ≡ record {
       inside = p.«module»;
+      visible_in = p.visible_in;
       is_global = p.is_global;
       path = record { name = record { 0 = 5 }; at = record { 0 = 0 } } ∷ record { name = record { 0 = 6 }; at = record { 0 = 4 } } ∷ [];
       name = Some (record { 0 = 6 });
       is_glob = false;
     } ∷ record {
       inside = p.«module»;
+      visible_in = p.visible_in;
       is_global = p.is_global;
       path = record { name = record { 0 = 5 }; at = record { 0 = 0 } } ∷ record { name = record { 0 = 7 }; at = record { 0 = 7 } } ∷ [];
       name = Some (record { 0 = 8 });

@@ -1,8 +1,9 @@
 -- What the attributes of items, fields and variants say.
-use Rattle.std.specs.Prelude.{ℕ, zero, suc, ◌-◌, ◌&&◌, Bool, true, false, codes, List, Option, None, Some, Result, Ok, Err, if◌then◌else◌}
+use Rattle.std.specs.Prelude.{ℕ, zero, suc, ◌-◌, ◌==◌, ◌&&◌, ◌||◌, Bool, true, false, not, codes, length, List, Option, None, Some, Result, Ok, Err, if◌then◌else◌}
 use Rattle.std.specs.Str.{bytes_eq}
 use Rattle.rust_source.specs.declared.fault.SourceFault.{SourceFault}
-use Rattle.rust_source.specs.declared.fault.SourceFaultKind.TheVariants.{BadAttribute, TooDeep}
+use Rattle.rust_source.specs.declared.fault.SourceFaultKind.TheVariants.{BadAttribute, BadCfg, BadRepr, ExpectedComma, TooDeep}
+use Rattle.rust_source.specs.declared.item.Repr.{Repr}
 use Rattle.rust_source.specs.declared.reader.attributes.Attributes.{Attributes}
 use Rattle.rust_source.specs.declared.reader.attributes.Rules.{Rules}
 use Rattle.rust_source.specs.declared.reader.cursor.Cursor.{Cursor}
@@ -10,9 +11,9 @@ use Rattle.rust_source.specs.declared.reader.literals.Number.{Number}
 use Rattle.rust_source.specs.declared.reader.literals.Number.TheVariants as number
 use Rattle.rust_source.specs.declared.tokens.token.Bracket.TheVariants as bracket
 use Rattle.rust_source.specs.Cfg.{Noted, predicate_read}
-use Rattle.rust_source.specs.Cursor.{behind_group, comma_passed, fault, inside, is_done, is_next, passed}
+use Rattle.rust_source.specs.Cursor.{behind_group, comma_passed, expected, fault, inside, is_done, is_next, passed}
 use Rattle.rust_source.specs.Reading.{read_on, read_as, then_read, word_text}
-use Rattle.rust_source.specs.Repr.{next_number, with_repr}
+use Rattle.rust_source.specs.Repr.{asks, misplaced, next_number, with_repr}
 use Rattle.rust_source.specs.Simple.{most_nested}
 use Rattle.rust_source.specs.Terms.{done, fault_next}
 use Rattle.rust_source.specs.Until.{until, up_to}
@@ -48,19 +49,48 @@ none_said = record {
     align = None;
   };
   valid_range = None;
+  fault = None;
 }
 
--- with another `cfg`, whose predicate stands in these parentheses
+-- what is said where a `cfg` is all that its parentheses have
+abbrev pub cfg_alone : Attributes → Cursor → Result Attributes SourceFault
+cfg_alone said c = if is_done c then Ok said else Err (fault c BadCfg)
+
+-- with the `cfg` whose one predicate stands in these parentheses
 unfoldable pub cfg_said : Rules → Attributes → Cursor → Noted → Result Attributes SourceFault × Noted
 cfg_said rules said i known =
-    read_on (λ (b : Bool × Cursor) ns. done (record said { holds = said.holds && b.0 }) ns) (predicate_read rules.target most_nested i known)
+    read_on (λ (b : Bool × Cursor) ns. (then_read (λ d. cfg_alone (record said { holds = b.0 }) d) (comma_passed b.1), ns))
+    (predicate_read rules.target most_nested i known)
+
+-- with a fault that is told where the item is there, of several the first
+abbrev pub faulty_by : Attributes → SourceFault → (before : Option SourceFault) → Attributes
+faulty_by said e None = record said { fault = Some e }
+faulty_by said e (Some before) = said
+
+abbrev pub faulty : Attributes → SourceFault → Attributes
+faulty said e = faulty_by said e said.fault
+
+-- with what a `repr` asks for, or its fault
+abbrev pub repr_said : Attributes → Result Repr SourceFault → Attributes
+repr_said said (Ok r) = record said { repr = r }
+repr_said said (Err e) = faulty said e
+
+-- what an attribute says that has no list in parentheses: `cfg`, `cfg_attr` and `repr` need one
+unfoldable pub listless_said : Attributes → Cursor → Result Attributes SourceFault
+listless_said said c =
+    if bytes_eq (word_text c) (codes "cfg") || bytes_eq (word_text c) (codes "cfg_attr") then Err (fault c BadCfg)
+    else (if bytes_eq (word_text c) (codes "repr") then Ok (faulty said (fault c BadRepr)) else Ok said)
 
 -- what an attribute says that has nothing within it that is read by attributes, of this name
 unfoldable pub simple_said : Rules → Attributes → (name : List ℕ) → Cursor → Result Attributes SourceFault
 simple_said rules said name i =
-    if bytes_eq name (codes "repr") then read_as (λ r. record said { repr = r }) (with_repr said.repr i)
+    if bytes_eq name (codes "repr") then Ok (repr_said said (with_repr said.repr i))
     else (if bytes_eq name (codes "rustc_layout_scalar_valid_range") && rules.is_trusted
     then read_as (λ r. record said { valid_range = Some r }) (range_read i) else Ok said)
+
+-- a path is next, or a keyword that an attribute begins with
+abbrev pub begins_attribute : Cursor → Bool
+begins_attribute c = not (length (word_text c) == 0) || is_next c 58
 
 module _ (rules : Rules) (A : Attributes → Cursor → Noted → Result Attributes SourceFault × Noted) where
   -- attributes separated by `,`, at most so many
@@ -73,10 +103,10 @@ module _ (rules : Rules) (A : Attributes → Cursor → Noted → Result Attribu
   unfoldable pub expanded_all : Attributes → Cursor → Noted → Result Attributes SourceFault × Noted
   expanded_all said c known = expanded_from (c.end - c.at) said c known
 
-  -- the attributes behind the predicate of a `cfg_attr`, where it holds
+  -- the attributes behind the predicate of a `cfg_attr` and its `,`, where it holds
   unfoldable pub expanded : Attributes → Cursor → Noted → Result Attributes SourceFault × Noted
   expanded said c known =
-      read_on (λ (b : Bool × Cursor) ns. read_on (λ d ms. if b.0 then expanded_all said d ms else done said ms) (comma_passed b.1, ns))
+      read_on (λ (b : Bool × Cursor) ns. read_on (λ d ms. if b.0 then expanded_all said d ms else done said ms) (expected b.1 44 ExpectedComma, ns))
       (predicate_read rules.target most_nested c known)
 
   -- the attribute of this name, whose parentheses hold these tokens
@@ -85,12 +115,18 @@ module _ (rules : Rules) (A : Attributes → Cursor → Noted → Result Attribu
       if bytes_eq name (codes "cfg_attr") then expanded said i known
       else (if bytes_eq name (codes "cfg") then cfg_said rules said i known else (simple_said rules said name i, known))
 
+  -- the attribute that is next, whose list stands in these parentheses, if it has one; nothing follows it
   abbrev pub attribute_by : Attributes → Cursor → Option Cursor → Noted → Result Attributes SourceFault × Noted
-  attribute_by said c None known = done said known
-  attribute_by said c (Some i) known = attribute_in said (word_text c) i known
+  attribute_by said c None known = (listless_said said c, known)
+  attribute_by said c (Some i) known =
+      if is_done (behind_group (passed c 1)) then attribute_in said (word_text c) i known
+      else fault_next BadAttribute (behind_group (passed c 1)) known
 
+  -- the attribute that is next; behind a `cfg` that doesn't hold it isn't read
   unfoldable pub attribute_with : Attributes → Cursor → Noted → Result Attributes SourceFault × Noted
-  attribute_with said c known = attribute_by said c (inside (passed c 1) bracket.Round) known
+  attribute_with said c known =
+      if not said.holds then done said known
+      else (if begins_attribute c then attribute_by said c (inside (passed c 1) bracket.Round) known else fault_next BadAttribute c known)
 
 -- what the attribute says that is next and may stand in so many others, added to what those before it say
 unfoldable pub attribute_read : Rules → (room : ℕ) → Attributes → Cursor → Noted → Result Attributes SourceFault × Noted
@@ -119,6 +155,24 @@ attributes_from rules (suc limit) said c known =
     then read_on (λ (s : Attributes × Cursor) ns. attributes_from rules limit s.0 s.1 ns) (one_attribute rules said (passed c 1) known)
     else done (said, c) known
 
--- what the attributes that are next say
+-- what the attributes that are next say, whatever it is that they stand at
+unfoldable pub attributes_said : Rules → Cursor → Noted → Result (Attributes × Cursor) SourceFault × Noted
+attributes_said rules c known = attributes_from rules (c.end - c.at) none_said c known
+
+-- the fault of what is there
+abbrev pub judged_by : Attributes → Option SourceFault → Result Attributes SourceFault
+judged_by said None = Ok said
+judged_by said (Some e) = if said.holds then Err e else Ok said
+
+-- what the attributes that are next say: what a `cfg` takes out has no fault in its `repr`
 unfoldable pub attributes_read : Rules → Cursor → Noted → Result (Attributes × Cursor) SourceFault × Noted
-attributes_read rules c known = attributes_from rules (c.end - c.at) none_said c known
+attributes_read rules c known =
+    read_on (λ (s : Attributes × Cursor) ns. (read_as (λ said. (said, s.1)) (judged_by s.0 s.0.fault), ns)) (attributes_said rules c known)
+
+-- a `repr` of a field, a variant or a constant of a type asks for nothing
+abbrev pub part_judged : Attributes → Result (Unit {0}) SourceFault
+part_judged said = if said.holds && asks said.repr then misplaced said.repr.at else Ok tt
+
+-- what the attributes of a field, a variant or a constant of a type say
+unfoldable pub part_attributes : Rules → Cursor → Noted → Result (Attributes × Cursor) SourceFault × Noted
+part_attributes rules c known = read_on (λ (s : Attributes × Cursor) ns. (read_as (λ _. s) (part_judged s.0), ns)) (attributes_read rules c known)

@@ -6,11 +6,12 @@ use Rattle.rust_source.specs.declared.fault.SourceFaultKind.TheVariants.{OutOfMe
 use Rattle.rust_source.specs.declared.reader.attributes.Attributes.{Attributes}
 use Rattle.rust_source.specs.declared.reader.attributes.Rules.{Rules}
 use Rattle.rust_source.specs.declared.reader.cursor.Cursor.{Cursor}
+use Rattle.rust_source.specs.declared.reader.visibility.Standing.{Standing}
 use Rattle.rust_source.specs.declared.tokens.keyword.Keyword.TheVariants as keyword
 use Rattle.rust_source.specs.declared.tokens.token.Bracket.TheVariants as bracket
 use Rattle.rust_source.specs.declared.tokens.token.TokenKind.{TokenKind}
 use Rattle.rust_source.specs.declared.tokens.token.TokenKind.TheVariants as kind
-use Rattle.rust_source.specs.Attributes.{attributes_read}
+use Rattle.rust_source.specs.Attributes.{part_attributes}
 use Rattle.rust_source.specs.Cursor.{inside, is_constant, is_done, is_next, is_keyword_next, next_kind, passed}
 use Rattle.rust_source.specs.Fields.{by_names, visibility_passed}
 use Rattle.rust_source.specs.Having.{Having, item_of_module, next_owner, noted, with_item, with_owner, noted_within}
@@ -20,6 +21,7 @@ use Rattle.rust_source.specs.Reading.{Reading, read_on}
 use Rattle.rust_source.specs.Simple.{begins_path, most_nested}
 use Rattle.rust_source.specs.Syntax.{PathRead}
 use Rattle.rust_source.specs.Terms.{Known, done, readers, path_read}
+use Rattle.rust_source.specs.Visibility.{visibility_read}
 use Rattle.rust_source.specs.Written.{WrittenRead, const_read}
 
 -- memory was wanting
@@ -62,29 +64,36 @@ owner_read c names =
     if l.0 && begins_path l.1 then constant_owner (path_read (readers most_nested) true l.1 names) else done None names
 
 -- a constant of a type goes behind the items, where it could be read; what can't be read here isn't told
-abbrev pub constant_of_type_by : (number : ℕ) → Attributes → ItemsRead → Result (WrittenRead × Cursor) SourceFault → Known → Result (Unit {0}) SourceFault × Having
-constant_of_type_by number said items (Ok w) names = done tt (names, with_item (item_of_module number said w.0) items)
-constant_of_type_by number said items (Err e) names = done tt (names, items)
+abbrev pub constant_of_type_by : Standing → Attributes → ItemsRead → Result (WrittenRead × Cursor) SourceFault → Known → Result (Unit {0}) SourceFault × Having
+constant_of_type_by standing said items (Ok w) names = done tt (names, with_item (item_of_module standing said w.0) items)
+constant_of_type_by standing said items (Err e) names = done tt (names, items)
 
 -- the same of what was read, with what is known behind it
-abbrev pub constant_of_type : (number : ℕ) → Attributes → ItemsRead → Reading (WrittenRead × Cursor) → Result (Unit {0}) SourceFault × Having
-constant_of_type number said items read = constant_of_type_by number said items read.0 read.1
+abbrev pub constant_of_type : Standing → Attributes → ItemsRead → Reading (WrittenRead × Cursor) → Result (Unit {0}) SourceFault × Having
+constant_of_type standing said items read = constant_of_type_by standing said items read.0 read.1
 
 -- the constant, behind its `const`, of the type with this number
-unfoldable pub own_const : (number : ℕ) → Attributes → (owner : ℕ) → Cursor → Having → Result (Unit {0}) SourceFault × Having
-own_const number said owner c known = constant_of_type number said known.1 (const_read (Some owner) c known.0)
+unfoldable pub own_const : Standing → Attributes → (owner : ℕ) → Cursor → Having → Result (Unit {0}) SourceFault × Having
+own_const standing said owner c known = constant_of_type standing said known.1 (const_read (Some owner) c known.0)
 
--- the item here, where it is a constant that no `cfg` takes out
-abbrev pub own_on : (number : ℕ) → Attributes → (owner : ℕ) → Cursor → Having → Result Cursor SourceFault × Having
-own_on number said owner c known =
-    if said.holds && is_constant c then read_on (λ _ ns. done (item_passed c) ns) (own_const number said owner (passed c 1) known)
+-- the item here, behind its `pub`, where it is a constant
+abbrev pub own_on : Standing → Attributes → (owner : ℕ) → Cursor → Having → Result Cursor SourceFault × Having
+own_on standing said owner c known =
+    if is_constant c then read_on (λ _ ns. done (item_passed c) ns) (own_const standing said owner (passed c 1) known)
     else done (item_passed c) known
+
+-- the item here, behind its attributes, which no `cfg` takes out
+unfoldable pub own_said : (number : ℕ) → Attributes → (owner : ℕ) → Cursor → Having → Result Cursor SourceFault × Having
+own_said number said owner c known =
+    read_on (λ (v : Option ℕ × Cursor) ns. own_on (record { «module» = number; visible_in = v.0 }) said owner v.1 ns)
+    (by_names known.1 (visibility_read known.1.modules number c known.0))
 
 module _ (rules : Rules) where
   -- the item of an `impl` block that is next
   unfoldable pub own_item : (number owner : ℕ) → Cursor → Having → Result Cursor SourceFault × Having
   own_item number owner c known =
-      read_on (λ (a : Attributes × Cursor) ns. own_on number a.0 owner (visibility_passed a.1) ns) (noted_within known.1 (attributes_read rules c (noted known)))
+      read_on (λ (a : Attributes × Cursor) ns. if a.0.holds then own_said number a.0 owner a.1 ns else done (item_passed (visibility_passed a.1)) ns)
+      (noted_within known.1 (part_attributes rules c (noted known)))
 
   -- the items of an `impl` block, at most so many
   abbrev pub own_from : (limit number owner : ℕ) → Cursor → Having → Result (Unit {0}) SourceFault × Having

@@ -15,7 +15,7 @@ use Rattle.rust_source.specs.declared.tokens.token.Bracket.TheVariants as bracke
 use Rattle.rust_source.specs.declared.tokens.token.Token.{Token}
 use Rattle.rust_source.specs.declared.tokens.token.TokenKind.{TokenKind}
 use Rattle.rust_source.specs.declared.tokens.token.TokenKind.TheVariants as kind
-use Rattle.rust_source.specs.Attributes.{attributes_read}
+use Rattle.rust_source.specs.Attributes.{part_attributes}
 use Rattle.rust_source.specs.Cfg.{Noted, Noting}
 use Rattle.rust_source.specs.Cursor.{behind_group, comma_passed, expected, inside, is_done, is_next, is_none, is_keyword_next, next_kind, nth, passed, place, place_behind}
 use Rattle.rust_source.specs.Items.{FieldRead, FieldsRead, VariantRead}
@@ -86,7 +86,7 @@ module _ (rules : Rules) where
       read_on (λ (a : Attributes × Cursor) ns.
       read_on (λ (f : FieldRead × Cursor) ms. read_on (λ d ls. done (with_one all a.0.holds f.0, d) ls) (comma_passed f.1, ms))
       (by_names ns.1 (field_read (next_field_number is_tuple all) a.1 ns.0)))
-      (attributes_read rules c known)
+      (part_attributes rules c known)
 
   -- the fields behind these, at most so many
   abbrev pub fields_from : (is_tuple : Bool) → (limit : ℕ) → List FieldRead → Cursor → Noted → Result (List FieldRead) SourceFault × Noted
@@ -137,7 +137,7 @@ module _ (rules : Rules) where
       read_on (λ (a : Attributes × Cursor) ns.
       read_on (λ (v : VariantRead × Cursor) ms. read_on (λ d ls. done (with_one all a.0.holds v.0, d) ls) (comma_passed v.1, ms))
       (variant_read a.1 ns))
-      (attributes_read rules c known)
+      (part_attributes rules c known)
 
   -- the variants behind these, at most so many
   abbrev pub variants_behind : (limit : ℕ) → List VariantRead → Cursor → Noted → Result (List VariantRead) SourceFault × Noted

@@ -5,6 +5,7 @@ use Rattle.rust_source.specs.declared.place.Place.{Place}
 use Rattle.rust_source.specs.declared.place.Symbol.{Symbol}
 use Rattle.rust_source.specs.declared.reader.attributes.Attributes.{Attributes}
 use Rattle.rust_source.specs.declared.reader.cursor.Cursor.{Cursor}
+use Rattle.rust_source.specs.declared.reader.visibility.Standing.{Standing}
 use Rattle.rust_source.specs.declared.tokens.keyword.Keyword.{Keyword}
 use Rattle.rust_source.specs.declared.tokens.keyword.Keyword.TheVariants as keyword
 use Rattle.rust_source.specs.declared.tokens.token.TokenKind.{TokenKind}
@@ -48,13 +49,13 @@ abbrev pub function_named : Symbol × Place → WrittenRead
 function_named n = record { head = record { name = n.0; at = n.1; parameters = [] }; kind = const_of function None None }
 
 -- the function whose name is next goes behind the items
-abbrev pub function_on : (number : ℕ) → Attributes → Cursor → Having → Result (Unit {0}) SourceFault × Having
-function_on number said c known =
-    read_on (λ (n : (Symbol × Place) × Cursor) ns. done tt (ns.0, with_item (item_of_module number said (function_named n.0)) ns.1))
+abbrev pub function_on : Standing → Attributes → Cursor → Having → Result (Unit {0}) SourceFault × Having
+function_on standing said c known =
+    read_on (λ (n : (Symbol × Place) × Cursor) ns. done tt (ns.0, with_item (item_of_module standing said (function_named n.0)) ns.1))
     (by_names known.1 (name c known.0))
 
 -- the function that is next, if one is, by its name
-unfoldable pub function_read : (number : ℕ) → Attributes → Cursor → Having → Result (Unit {0}) SourceFault × Having
-function_read number said c known =
+unfoldable pub function_read : Standing → Attributes → Cursor → Having → Result (Unit {0}) SourceFault × Having
+function_read standing said c known =
     let f = qualifiers_passed c in
-    if is_keyword_next f keyword.Fn then function_on number said (passed f 1) known else done tt known
+    if is_keyword_next f keyword.Fn then function_on standing said (passed f 1) known else done tt known

@@ -3,6 +3,7 @@ use Rattle.std.specs.Prelude.{ℕ, ◌+◌, ◌-◌, ◌^◌, List, [], ◌∷�
 use Rattle.rust_source.specs.declared.fault.SourceFault.{SourceFault}
 use Rattle.rust_source.specs.declared.item.Module.{Module}
 use Rattle.rust_source.specs.declared.reader.attributes.Attributes.{Attributes}
+use Rattle.rust_source.specs.declared.reader.visibility.Standing.{Standing}
 use Rattle.rust_source.specs.Cfg.{Noted}
 use Rattle.rust_source.specs.Items.{ItemRead, ItemsRead, UseRead}
 use Rattle.rust_source.specs.Syntax.{PathRead}
@@ -26,11 +27,12 @@ abbrev pub using_within : {A : Type 0} → (items : ItemsRead) → Result A Sour
 using_within items read = (read.0, (read.1.0, record items { uses = read.1.1 }))
 
 -- an item of a module, with what its attributes say
-abbrev pub item_of_module : (number : ℕ) → Attributes → WrittenRead → ItemRead
-item_of_module number said w = record {
+abbrev pub item_of_module : Standing → Attributes → WrittenRead → ItemRead
+item_of_module standing said w = record {
   name = w.head.name;
   at = w.head.at;
-  inside = number;
+  inside = standing.«module»;
+  visible_in = standing.visible_in;
   parameters = w.head.parameters;
   repr = said.repr;
   valid_range = said.valid_range;

@@ -66,6 +66,7 @@ pub record ItemRead : Type 0 where
   pub name : Symbol
   pub at : Place
   pub inside : ℕ
+  pub visible_in : Option ℕ
   pub parameters : List ParameterRead
   pub repr : Repr
   pub valid_range : Option (ℕ × ℕ)
@@ -74,6 +75,7 @@ pub record ItemRead : Type 0 where
 -- what a `use` brings in, and the number of the module that it stands in
 pub record UseRead : Type 0 where
   pub inside : ℕ
+  pub visible_in : Option ℕ
   pub is_global : Bool
   pub path : List UsedName
   pub name : Option Symbol
@@ -131,6 +133,7 @@ item_of i = record {
   name = i.name;
   at = i.at;
   inside = i.«module»;
+  visible_in = i.visible_in;
   parameters = map parameter_of i.parameters.items;
   repr = i.repr;
   valid_range = i.valid_range;
@@ -139,7 +142,7 @@ item_of i = record {
 
 -- a use
 abbrev pub use_of : Use → UseRead
-use_of u = record { inside = u.«module»; is_global = u.is_global; path = u.path.items; name = u.name; is_glob = u.is_glob }
+use_of u = record { inside = u.«module»; visible_in = u.visible_in; is_global = u.is_global; path = u.path.items; name = u.name; is_glob = u.is_glob }
 
 -- all that sources have
 abbrev pub items_as_read : Items → ItemsRead

@@ -25,6 +25,7 @@ pub mod Repeated
 pub mod Generics
 pub mod Fields
 pub mod Uses
+pub mod Visibility
 pub mod Written
 pub mod Having
 pub mod Constants

@@ -1,5 +1,5 @@
 -- Items, one after another, and modules within one another.
-use Rattle.std.specs.Prelude.{ℕ, zero, suc, ◌+◌, ◌-◌, ◌&&◌, ◌||◌, Bool, true, false, codes, [], nat_lt, Option, None, Some, Result, if◌then◌else◌}
+use Rattle.std.specs.Prelude.{ℕ, zero, suc, ◌+◌, ◌-◌, ◌&&◌, ◌||◌, Bool, true, false, not, codes, [], nat_lt, Option, None, Some, Result, Ok, if◌then◌else◌}
 use Rattle.std.specs.Str.{bytes_eq}
 use Rattle.rust_source.specs.declared.fault.SourceFault.{SourceFault}
 use Rattle.rust_source.specs.declared.fault.SourceFaultKind.TheVariants.{ExpectedItem, ExpectedSemicolon, TooDeep}
@@ -8,6 +8,7 @@ use Rattle.rust_source.specs.declared.place.Symbol.{Symbol}
 use Rattle.rust_source.specs.declared.reader.attributes.Attributes.{Attributes}
 use Rattle.rust_source.specs.declared.reader.attributes.Rules.{Rules}
 use Rattle.rust_source.specs.declared.reader.cursor.Cursor.{Cursor}
+use Rattle.rust_source.specs.declared.reader.visibility.Standing.{Standing}
 use Rattle.rust_source.specs.declared.tokens.keyword.Keyword.{Keyword}
 use Rattle.rust_source.specs.declared.tokens.keyword.Keyword.TheVariants as keyword
 use Rattle.rust_source.specs.declared.tokens.token.Bracket.TheVariants as bracket
@@ -21,10 +22,12 @@ use Rattle.rust_source.specs.Functions.{function_read}
 use Rattle.rust_source.specs.Having.{Having, item_of_module, next_module, noted, using_within, with_item, with_module, with_passed, noted_within}
 use Rattle.rust_source.specs.Passing.{item_passed}
 use Rattle.rust_source.specs.Reading.{read_on, is_named, is_path_name, name, word_text}
+use Rattle.rust_source.specs.Repr.{misplaced}
 use Rattle.rust_source.specs.Simple.{most_nested}
 use Rattle.rust_source.specs.Terms.{done, fault_next}
 use Rattle.rust_source.specs.Uses.{tree_read}
-use Rattle.rust_source.specs.Written.{WrittenRead, written_read}
+use Rattle.rust_source.specs.Visibility.{visibility_read}
+use Rattle.rust_source.specs.Written.{WrittenRead, is_union, written_read}
 
 -- what follows names and `:`, of at most so many
 abbrev pub path_passed_from : (limit : ℕ) → Cursor → Cursor
@@ -69,11 +72,22 @@ is_passed_over c = passes_kind (next_kind c) || is_item_word c || is_macro c
 unfoldable pub over_passed : Cursor → Having → Result Cursor SourceFault × Having
 over_passed c known = if is_passed_over c then done (item_passed c) (known.0, with_passed known.1) else fault_next ExpectedItem c known
 
+-- what is next may have a `repr`: a struct, an enum, a union, or a macro's call, which may make one
+unfoldable pub may_have_repr : Cursor → Bool
+may_have_repr c =
+    is_keyword_next c keyword.Struct || is_keyword_next c keyword.Enum || is_union c
+    || (not (bytes_eq (word_text c) (codes "macro_rules")) && is_macro c)
+
+-- a `repr` at what may have none is a fault
+abbrev pub repr_judged : Attributes → Cursor → Result (Unit {0}) SourceFault
+repr_judged said c = if may_have_repr c then Ok tt else misplaced said.repr.at
+
 -- what is brought in, behind `use`
-unfoldable pub use_read : (number : ℕ) → Cursor → Having → Result Cursor SourceFault × Having
-use_read number c known =
+unfoldable pub use_read : Standing → Cursor → Having → Result Cursor SourceFault × Having
+use_read standing c known =
     read_on (λ d ns. (expected d 59 ExpectedSemicolon, ns))
-    (using_within known.1 (tree_read most_nested (record { «module» = number; is_global = false }) [] c (known.0, known.1.uses)))
+    (using_within known.1
+    (tree_read most_nested (record { «module» = standing.«module»; visible_in = standing.visible_in; is_global = false }) [] c (known.0, known.1.uses)))
 
 -- a module with its items is next
 abbrev pub is_inline_module : Cursor → Bool
@@ -85,20 +99,20 @@ ModuleReader = (number : ℕ) → Cursor → Having → Result (Unit {0}) Source
 
 module _ (rules : Rules) where
   -- the item that is next, which makes no type and is no constant
-  unfoldable pub other_read : (number : ℕ) → Attributes → Cursor → Having → Result Cursor SourceFault × Having
-  other_read number said c known =
-      if is_keyword_next c keyword.Use then use_read number (passed c 1) known
-      else read_on (λ _ ns. read_on (λ _ ms. over_passed c ms) (function_read number said c ns)) (own_constants rules number c known)
+  unfoldable pub other_read : Standing → Attributes → Cursor → Having → Result Cursor SourceFault × Having
+  other_read standing said c known =
+      if is_keyword_next c keyword.Use then use_read standing (passed c 1) known
+      else read_on (λ _ ns. read_on (λ _ ms. over_passed c ms) (function_read standing said c ns)) (own_constants rules standing.«module» c known)
 
   -- the item that is next, which this was or another one is
-  abbrev pub next_item_by : (number : ℕ) → Attributes → Option WrittenRead → Cursor → Having → Result Cursor SourceFault × Having
-  next_item_by number said (Some w) c known = done c (known.0, with_item (item_of_module number said w) known.1)
-  next_item_by number said None c known = other_read number said c known
+  abbrev pub next_item_by : Standing → Attributes → Option WrittenRead → Cursor → Having → Result Cursor SourceFault × Having
+  next_item_by standing said (Some w) c known = done c (known.0, with_item (item_of_module standing said w) known.1)
+  next_item_by standing said None c known = other_read standing said c known
 
   -- the item that is next, which is no module, behind its attributes and its `pub`
-  unfoldable pub item_read : (number : ℕ) → Attributes → Cursor → Having → Result Cursor SourceFault × Having
-  item_read number said c known =
-      read_on (λ (w : Option WrittenRead × Cursor) ns. next_item_by number said w.0 w.1 ns) (noted_within known.1 (written_read rules c (noted known)))
+  unfoldable pub item_read : Standing → Attributes → Cursor → Having → Result Cursor SourceFault × Having
+  item_read standing said c known =
+      read_on (λ (w : Option WrittenRead × Cursor) ns. next_item_by standing said w.0 w.1 ns) (noted_within known.1 (written_read rules c (noted known)))
 
   module _ (M : ModuleReader) where
     -- the items of a module, which stand in these braces
@@ -107,25 +121,33 @@ module _ (rules : Rules) where
     module_items number c (Some i) known = read_on (λ _ ns. done (behind_group c) ns) (M number i known)
 
     -- a module of this name in another one
-    abbrev pub module_on : (outer : ℕ) → Symbol → Cursor → Having → Result Cursor SourceFault × Having
-    module_on outer name c known =
-        module_items (next_module known.1) c (inside c bracket.Curly) (known.0, with_module (record { name = name; parent = Some outer }) known.1)
+    abbrev pub module_on : Standing → Symbol → Cursor → Having → Result Cursor SourceFault × Having
+    module_on standing name c known =
+        module_items (next_module known.1) c (inside c bracket.Curly)
+        (known.0, with_module (record { name = name; parent = Some standing.«module»; visible_in = standing.visible_in }) known.1)
 
     -- the module that is next
-    unfoldable pub module_read : (outer : ℕ) → Cursor → Having → Result Cursor SourceFault × Having
-    module_read outer c known =
-        read_on (λ (n : (Symbol × Place) × Cursor) ns. module_on outer n.0.0 n.1 ns) (by_names known.1 (name (passed c 1) known.0))
+    unfoldable pub module_read : Standing → Cursor → Having → Result Cursor SourceFault × Having
+    module_read standing c known =
+        read_on (λ (n : (Symbol × Place) × Cursor) ns. module_on standing n.0.0 n.1 ns) (by_names known.1 (name (passed c 1) known.0))
 
     -- what stands behind these attributes and its `pub`, and what follows it
+    abbrev pub standing_read : Standing → Attributes → Cursor → Having → Result Cursor SourceFault × Having
+    standing_read standing said c known =
+        read_on (λ _ ns. if is_inline_module c then module_read standing c ns else item_read standing said c ns) (repr_judged said c, known)
+
+    -- what stands behind these attributes, which no `cfg` takes out, and what follows it
     unfoldable pub said_read : (number : ℕ) → Attributes → Cursor → Having → Result Cursor SourceFault × Having
     said_read number said c known =
-        if said.holds then (if is_inline_module c then module_read number c known else item_read number said c known)
-        else done (item_passed c) known
+        read_on (λ (v : Option ℕ × Cursor) ns. standing_read (record { «module» = number; visible_in = v.0 }) said v.1 ns)
+        (by_names known.1 (visibility_read known.1.modules number c known.0))
 
     -- the item that is next, if one is behind its attributes
     unfoldable pub one_read : (number : ℕ) → Cursor → Having → Result Cursor SourceFault × Having
     one_read number c known =
-        read_on (λ (a : Attributes × Cursor) ns. if is_done a.1 then done a.1 ns else said_read number a.0 (visibility_passed a.1) ns)
+        read_on (λ (a : Attributes × Cursor) ns.
+        if is_done a.1 then done a.1 ns
+        else (if a.0.holds then said_read number a.0 a.1 ns else done (item_passed (visibility_passed a.1)) ns))
         (noted_within known.1 (attributes_read rules c (noted known)))
 
     -- the items of a module, at most so many
@@ -147,4 +169,4 @@ unfoldable pub root_read : Rules → Symbol → Cursor → Having → Result ℕ
 root_read rules name c known =
     read_on (λ _ ns. done (next_module known.1) ns)
     (all_read rules (module_within rules (most_nested + 1)) (next_module known.1) c
-    (known.0, with_module (record { name = name; parent = None }) known.1))
+    (known.0, with_module (record { name = name; parent = None; visible_in = None }) known.1))

@@ -1,8 +1,6 @@
 -- What `repr` asks for.
-use Rattle.std.specs.Prelude.{ℕ, zero, suc, ◌-◌, ◌^◌, ◌==◌, ◌&&◌, ◌||◌, true, not, codes, List, min, max, nat_lt, Option, None, Some, Result, Ok, Err, if◌then◌else◌}
+use Rattle.std.specs.Prelude.{ℕ, zero, suc, ◌-◌, ◌^◌, ◌==◌, ◌&&◌, ◌||◌, Bool, true, false, not, codes, List, min, max, nat_lt, Option, None, Some, Result, Ok, Err, if◌then◌else◌}
 use Rattle.std.specs.Str.{bytes_eq}
-use denote.Enum.Bare.{sameb}
-use Rattle.rust_source.specs.contracts.syntax.IntegerKind.{the_type}
 use Rattle.rust_source.specs.declared.fault.SourceFault.{SourceFault}
 use Rattle.rust_source.specs.declared.fault.SourceFaultKind.TheVariants.{BadRepr, RepeatedInteger}
 use Rattle.rust_source.specs.declared.item.Repr.{Repr}
@@ -18,6 +16,20 @@ use Rattle.rust_source.specs.declared.tokens.token.TokenKind.TheVariants as kind
 use Rattle.rust_source.specs.Cursor.{comma_passed, fault, group_passed, inside, is_done, is_none, nth, passed, place, token_text}
 use Rattle.rust_source.specs.Literals.{integer_kind, number_written}
 use Rattle.rust_source.specs.Reading.{read_as, then_read, word_text}
+
+-- something is there
+abbrev pub is_there : {A : Type 0} → Option A → Bool
+is_there None = false
+is_there (Some a) = true
+
+-- anything is asked for: `repr()` asks for nothing
+abbrev pub asks : Repr → Bool
+asks r = r.c || r.rust || r.transparent || r.simd || is_there r.integer || is_there r.packed || is_there r.align
+
+-- a fault at a `repr` that stands where none may, if one is there
+abbrev pub misplaced : (at : Option Place) → Result (Unit {0}) SourceFault
+misplaced None = Ok tt
+misplaced (Some at) = Err (record { at = at; kind = BadRepr })
 
 -- the number that a token of this kind is, whose text is given
 abbrev pub number_token : (text : List ℕ) → TokenKind → Number
@@ -56,10 +68,10 @@ abbrev pub greater_of : Option ℕ → ℕ → Option ℕ
 greater_of None n = Some n
 greater_of (Some m) n = Some (max m n)
 
--- with an integer type more: two that differ are refused
+-- with an integer type more: a second one is refused
 abbrev pub with_kind : Cursor → Repr → IntegerKind → (before : Option IntegerKind) → Result Repr SourceFault
 with_kind c r k None = Ok (record r { integer = Some k })
-with_kind c r k (Some before) = if sameb the_type before k then Ok (record r { integer = Some k }) else Err (fault c RepeatedInteger)
+with_kind c r k (Some before) = Err (fault c RepeatedInteger)
 
 -- the `repr` with this integer type more; a fault where the word is none
 abbrev pub integer_by : Cursor → Repr → Option IntegerKind → Result Repr SourceFault

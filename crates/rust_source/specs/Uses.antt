@@ -49,7 +49,7 @@ abbrev pub use_of_path : UsePlace → (path : List UsedName) → Option UsedName
 use_of_path place path None c known = fault_next ExpectedUse c known
 use_of_path place path (Some n) c known =
     read_on (λ (r : Option Symbol × Cursor) ns.
-    done r.1 (with_use (record { inside = place.«module»; is_global = place.is_global; path = path; name = r.0; is_glob = false }) ns))
+    done r.1 (with_use (record { inside = place.«module»; visible_in = place.visible_in; is_global = place.is_global; path = path; name = r.0; is_glob = false }) ns))
     (by_names known.1 (rename_read (Some n.name) c known.0))
 
 -- a path, whose last name stands before
@@ -58,7 +58,7 @@ path_used place path c known = use_of_path place (without_self path) (last (with
 
 -- all names of the module that a path names
 abbrev pub glob : UsePlace → (path : List UsedName) → UseRead
-glob place path = record { inside = place.«module»; is_global = place.is_global; path = path; name = None; is_glob = true }
+glob place path = record { inside = place.«module»; visible_in = place.visible_in; is_global = place.is_global; path = path; name = None; is_glob = true }
 
 -- names of a path, and whether it is all of it
 abbrev pub UsedNames : Type 0

@@ -48,7 +48,9 @@ pub enum SourceFaultKind {
     ExpectedAngle,
     /// A path of a `use` is missing.
     ExpectedUse,
-    /// `repr` asks for what there isn't.
+    /// A restriction behind `pub` that names no module around the item.
+    VisibilityOutside,
+    /// `repr` asks for what there isn't, or stands where none may.
     BadRepr,
     /// `repr` asks for two integer types.
     RepeatedInteger,
@@ -86,7 +88,8 @@ impl SourceFaultKind {
             SourceFaultKind::ExpectedSemicolon => "expected `;`",
             SourceFaultKind::ExpectedAngle => "expected `>`",
             SourceFaultKind::ExpectedUse => "expected a path to use",
-            SourceFaultKind::BadRepr => "unknown repr",
+            SourceFaultKind::VisibilityOutside => "expected a module around this one",
+            SourceFaultKind::BadRepr => "no repr that may stand here",
             SourceFaultKind::RepeatedInteger => "repr with two integer types",
             SourceFaultKind::RepeatedName => "this name stands twice",
             SourceFaultKind::BadCfg => "expected a cfg predicate",

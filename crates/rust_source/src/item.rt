@@ -122,6 +122,8 @@ pub struct Item {
     pub at: Place,
     /// The module that it is in, by its number.
     pub module: u32,
+    /// The module in which, with all that stand inside it, its name may be used; none where it may be used everywhere.
+    pub visible_in: Option<u32>,
     /// Its parameters, lifetimes left out.
     pub parameters: Vec<Parameter>,
     pub repr: Repr,
@@ -143,6 +145,8 @@ pub struct UsedName {
 pub struct Use {
     /// The module that it stands in, by its number.
     pub module: u32,
+    /// The module in which, with all that stand inside it, what it brings in may be used; none where it is everywhere.
+    pub visible_in: Option<u32>,
     /// Whether its path begins with `::`.
     pub is_global: bool,
     /// The names of the path. Of `use a::b::{self}` they are `a`, `b`.
@@ -160,6 +164,8 @@ pub struct Module {
     pub name: Symbol,
     /// The module that it is in, by its number; a root has none.
     pub parent: Option<u32>,
+    /// The module in which, with all that stand inside it, its name may be used; none where it may be used everywhere.
+    pub visible_in: Option<u32>,
 }
 
 /// What sources have, in the order in which they were read.

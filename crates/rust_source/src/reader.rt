@@ -19,6 +19,7 @@ mod repr;
 mod room;
 mod types;
 mod uses;
+mod visibility;
 mod written;
 
 ghost use Rattle.std.specs.Prelude.{◌≡◌, [], IfOk, length};
@@ -54,7 +55,8 @@ pub struct Source<'a> {
     pub text: &'a str,
     /// The place of its first byte, among all sources that are read together.
     pub start: Place,
-    /// The name of its root module.
+    /// The name of its root module: `crate` where it is the root of a crate. Another source stands in modules that
+    /// aren't read.
     pub root: Symbol,
     /// Whether it may use what only the standard library's own sources may.
     pub is_trusted: bool,

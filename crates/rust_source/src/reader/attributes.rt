@@ -1,9 +1,10 @@
 //! Attributes of items, fields and variants.
 
 ghost use Rattle.std.specs.Prelude.{◌≡◌};
-ghost use Rattle.rust_source.specs.Attributes.{attribute_read, attribute_with, attributes_read, cfg_said, expanded, expanded_all, none_said, number_and_comma, one_attribute, range_read, simple_said};
+ghost use Rattle.rust_source.specs.Attributes.{attribute_read, attribute_with, attributes_read, attributes_said, begins_attribute, cfg_said, expanded, expanded_all, faulty, judged_by, listless_said, none_said, number_and_comma, one_attribute, part_attributes, part_judged, range_read, repr_said, simple_said};
 ghost use Rattle.rust_source.specs.Names.{texts};
 ghost use Rattle.rust_source.specs.Reading.{Reads, read_as};
+ghost use Rattle.rust_source.specs.Repr.{with_repr};
 
 use crate::fault::{SourceFault, SourceFaultKind};
 use crate::item::Repr;
@@ -11,11 +12,11 @@ use crate::names::Names;
 use crate::place::Symbol;
 use crate::reader::cfg::is_predicate;
 use crate::reader::cursor::{
-    Cursor, expect_comma, fault, is_done, pass, take, take_group, take_until,
+    Cursor, expect, expect_comma, fault, is_done, is_next, pass, take, take_group, take_until,
 };
 use crate::reader::literals::Number;
 use crate::reader::naming::word_text;
-use crate::reader::repr::{NOTHING, next_number, with_repr};
+use crate::reader::repr::{NOTHING, asks, next_number, refuse_repr, with_repr};
 use crate::reader::room::{less, most_nested};
 use crate::target::CfgTarget;
 use crate::tokens::token::Bracket;
@@ -34,6 +35,8 @@ pub(crate) struct Attributes {
     pub holds: bool,
     pub repr: Repr,
     pub valid_range: Option<(u128, u128)>,
+    /// The first fault of a `repr`, which what a `cfg` takes out doesn't have.
+    pub fault: Option<SourceFault>,
 }
 
 /// What no attributes say.
@@ -41,6 +44,7 @@ const NONE: Attributes = Attributes {
     holds: true,
     repr: NOTHING,
     valid_range: None,
+    fault: None,
 };
 
 /// The attribute that tells which numbers a scalar may be.
@@ -83,7 +87,7 @@ fn range_in(inside: &mut Cursor<'_>) -> Result<(u128, u128), SourceFault>
     }
 }
 
-/// What is said with another `cfg`, whose predicate is next.
+/// What is said with the `cfg` whose predicate is next.
 #[tactic(auto, unfolding(crate::specs::Attributes::cfg_said))]
 fn read_cfg(
     names: &mut Names,
@@ -97,8 +101,60 @@ fn read_cfg(
 {
     let mut said = before;
     let holds = is_predicate(names, unknown, &rules.target, inside, most_nested())?;
-    said.holds = said.holds && holds;
-    Ok(said)
+    said.holds = holds;
+    expect_comma(inside)?;
+    if is_done(inside) {
+        Ok(said)
+    } else {
+        Err(fault(inside, SourceFaultKind::BadCfg))
+    }
+}
+
+/// What is said with a fault that is told where the item is there.
+fn faulty(before: Attributes, fault: SourceFault) -> Attributes
+    ensures { result ≡ faulty before fault }
+{
+    let mut said = before;
+    if said.fault.is_none() {
+        said.fault = Some(fault);
+    }
+    said
+}
+
+/// What is said with a `repr`, whose list is next, or with its fault.
+fn with_repr_said(before: Attributes, inside: &mut Cursor<'_>) -> Attributes
+    ensures { result ≡ repr_said before (with_repr before.repr inside.old) }
+{
+    let mut said = before;
+    match with_repr(said.repr, inside) {
+        Ok(repr) => {
+            said.repr = repr;
+            said
+        }
+        Err(fault) => faulty(said, fault),
+    }
+}
+
+/// What the attribute says that is next and has no list in parentheses.
+#[tactic(auto, unfolding(crate::specs::Attributes::listless_said))]
+fn read_listless(before: Attributes, cursor: &Cursor<'_>) -> Result<Attributes, SourceFault>
+    ensures { result ≡ listless_said before cursor.now }
+{
+    let name = word_text(cursor);
+    if name == "cfg" || name == "cfg_attr" {
+        return Err(fault(cursor, SourceFaultKind::BadCfg));
+    }
+    if name == "repr" {
+        return Ok(faulty(before, fault(cursor, SourceFaultKind::BadRepr)));
+    }
+    Ok(before)
+}
+
+/// Whether an attribute may begin with what is next.
+fn begins_attribute(cursor: &Cursor<'_>) -> bool
+    ensures { result ≡ begins_attribute cursor.now }
+{
+    !word_text(cursor).is_empty() || is_next(cursor, b':')
 }
 
 /// What an attribute of this name says that has no predicates within it, added to what those before it say.
@@ -113,8 +169,9 @@ fn read_simple(
 {
     let mut said = before;
     if name == "repr" {
-        said.repr = with_repr(said.repr, inside)?;
-    } else if name == VALID_RANGE && rules.is_trusted {
+        return Ok(with_repr_said(said, inside));
+    }
+    if name == VALID_RANGE && rules.is_trusted {
         said.valid_range = Some(range_in(inside)?);
     }
     Ok(said)
@@ -164,7 +221,7 @@ fn read_expanded(
         (texts names.new, unknown.new.items) result }
 {
     let holds = is_predicate(names, unknown, &rules.target, inside, most_nested())?;
-    expect_comma(inside)?;
+    expect(inside, b',', SourceFaultKind::ExpectedComma)?;
     if holds {
         read_list(names, unknown, rules, before, inside, room)
     } else {
@@ -187,11 +244,21 @@ fn read_within(
         (attribute_with rules.now (attribute_read rules.now room) before cursor.old (texts names.old, unknown.old.items))
         (texts names.new, unknown.new.items) result }
 {
+    if !before.holds {
+        return Ok(before);
+    }
+    if !begins_attribute(cursor) {
+        return Err(fault(cursor, SourceFaultKind::BadAttribute));
+    }
+    let start = *cursor;
     let name = word_text(cursor);
     pass(cursor, 1);
     let Some(mut inside) = take_group(cursor, Bracket::Round) else {
-        return Ok(before);
+        return read_listless(before, &start);
     };
+    if !is_done(cursor) {
+        return Err(fault(cursor, SourceFaultKind::BadAttribute));
+    }
     if name == "cfg_attr" {
         read_expanded(names, unknown, rules, before, &mut inside, room)
     } else if name == "cfg" {
@@ -241,15 +308,15 @@ fn read_one(
     read_attribute(names, unknown, rules, before, &mut inside, most_nested())
 }
 
-/// What the attributes that are next say.
-#[tactic(auto, unfolding(crate::specs::Attributes::attributes_read), using(crate::proofs::ItemTurns::said_more, crate::proofs::ItemTurns::said_done))]
-pub(crate) fn read_attributes(
+/// What the attributes that are next say, whatever it is that they stand at.
+#[tactic(auto, unfolding(crate::specs::Attributes::attributes_said), using(crate::proofs::ItemTurns::said_more, crate::proofs::ItemTurns::said_done))]
+fn read_all_said(
     names: &mut Names,
     unknown: &mut Vec<Symbol>,
     rules: &Rules<'_>,
     cursor: &mut Cursor<'_>,
 ) -> Result<Attributes, SourceFault>
-    ensures { Reads (λ said. (said, cursor.new)) (attributes_read rules.now cursor.old (texts names.old, unknown.old.items))
+    ensures { Reads (λ said. (said, cursor.new)) (attributes_said rules.now cursor.old (texts names.old, unknown.old.items))
         (texts names.new, unknown.new.items) result }
 {
     let mut said = none_said();
@@ -260,5 +327,57 @@ pub(crate) fn read_attributes(
         }
         said = read_one(names, unknown, rules, said, cursor)?;
     }
+    Ok(said)
+}
+
+/// What attributes say, or their fault where what they stand at is there.
+fn judged(said: Attributes) -> Result<Attributes, SourceFault>
+    ensures { result ≡ judged_by said said.fault }
+{
+    match said.fault {
+        Some(fault) if said.holds => Err(fault),
+        _ => Ok(said),
+    }
+}
+
+/// What the attributes that are next say.
+#[tactic(auto, unfolding(crate::specs::Attributes::attributes_read))]
+pub(crate) fn read_attributes(
+    names: &mut Names,
+    unknown: &mut Vec<Symbol>,
+    rules: &Rules<'_>,
+    cursor: &mut Cursor<'_>,
+) -> Result<Attributes, SourceFault>
+    ensures { Reads (λ said. (said, cursor.new)) (attributes_read rules.now cursor.old (texts names.old, unknown.old.items))
+        (texts names.new, unknown.new.items) result }
+{
+    let said = read_all_said(names, unknown, rules, cursor)?;
+    judged(said)
+}
+
+/// A fault where a field, a variant or a constant of a type that is there asks for something by `repr`.
+fn refuse_part_repr(said: &Attributes) -> Result<(), SourceFault>
+    ensures { result ≡ part_judged said.now }
+{
+    if said.holds && asks(&said.repr) {
+        refuse_repr(&said.repr)
+    } else {
+        Ok(())
+    }
+}
+
+/// What the attributes say that are next, of a field, a variant or a constant of a type.
+#[tactic(auto, unfolding(crate::specs::Attributes::part_attributes))]
+pub(crate) fn read_part_attributes(
+    names: &mut Names,
+    unknown: &mut Vec<Symbol>,
+    rules: &Rules<'_>,
+    cursor: &mut Cursor<'_>,
+) -> Result<Attributes, SourceFault>
+    ensures { Reads (λ said. (said, cursor.new)) (part_attributes rules.now cursor.old (texts names.old, unknown.old.items))
+        (texts names.new, unknown.new.items) result }
+{
+    let said = read_attributes(names, unknown, rules, cursor)?;
+    refuse_part_repr(&said)?;
     Ok(said)
 }

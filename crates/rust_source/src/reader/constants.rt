@@ -2,7 +2,7 @@
 
 ghost use Rattle.std.specs.Prelude.{◌≡◌, IfErr, IfOk};
 ghost use Rattle.std.specs.Option.{option_map};
-ghost use Rattle.rust_source.specs.Constants.{impl_in, is_wanting, lifetimes, lifetimes_in, own_const, own_constants, own_item, own_items, owner_read};
+ghost use Rattle.rust_source.specs.Constants.{impl_in, is_wanting, lifetimes, lifetimes_in, own_const, own_constants, own_item, own_items, own_said, owner_read};
 ghost use Rattle.rust_source.specs.Cursor.{inside};
 ghost use Rattle.rust_source.specs.Growth.{KeepsItems};
 ghost use Rattle.rust_source.specs.Having.{next_owner, with_owner};
@@ -14,7 +14,7 @@ ghost use Rattle.rust_source.specs.Syntax.{path_as_read};
 use crate::fault::{SourceFault, SourceFaultKind};
 use crate::item::Items;
 use crate::names::Names;
-use crate::reader::attributes::{Attributes, Rules, read_attributes};
+use crate::reader::attributes::{Attributes, Rules, read_part_attributes};
 use crate::reader::cursor::{Cursor, is_done, next_kind, pass, take, take_group, take_word};
 use crate::reader::fields::pass_visibility;
 use crate::reader::items::put_item;
@@ -22,6 +22,7 @@ use crate::reader::passing::pass_item;
 use crate::reader::paths::read_path;
 use crate::reader::room::most_nested;
 use crate::reader::types::begins_path;
+use crate::reader::visibility::{Standing, read_visibility};
 use crate::reader::written::{is_constant, read_const};
 use crate::syntax::Path;
 use crate::tokens::as_place;
@@ -94,17 +95,17 @@ fn take_owner(names: &mut Names, cursor: &mut Cursor<'_>) -> Result<Option<Path>
 fn read_own_const(
     names: &mut Names,
     items: &mut Items,
-    module: u32,
+    standing: Standing,
     said: &Attributes,
     owner: u32,
     cursor: &mut Cursor<'_>,
 ) -> Result<(), SourceFault>
     ensures kept { KeepsItems items.old items.new }
-    ensures read { Reads (λ done. done) (own_const «module» said.now owner cursor.old (texts names.old, items_as_read items.old))
+    ensures read { Reads (λ done. done) (own_const standing said.now owner cursor.old (texts names.old, items_as_read items.old))
         (texts names.new, items_as_read items.new) result }
 {
     match read_const(names, cursor, Some(owner)) {
-        Ok(one) => put_item(items, module, said, one),
+        Ok(one) => put_item(items, standing, said, one),
         Err(fault) => {
             if is_wanting(fault.kind) {
                 Err(fault)
@@ -113,6 +114,31 @@ fn read_own_const(
             }
         }
     }
+}
+
+/// Reads the next item of an `impl` block, behind its attributes, where it is a constant, and passes over it.
+#[tactic(auto, unfolding(crate::specs::Constants::own_said))]
+fn read_own_said(
+    names: &mut Names,
+    items: &mut Items,
+    module: u32,
+    said: &Attributes,
+    owner: u32,
+    inside: &mut Cursor<'_>,
+) -> Result<(), SourceFault>
+    ensures kept { KeepsItems items.old items.new }
+    ensures read { Reads (λ _. inside.new) (own_said «module» said.now owner inside.old (texts names.old, items_as_read items.old))
+        (texts names.new, items_as_read items.new) result }
+{
+    let visible_in = read_visibility(names, &items.modules, module, inside)?;
+    let standing = Standing { module, visible_in };
+    let mut ahead = *inside;
+    pass_item(inside);
+    if is_constant(&ahead) {
+        pass(&mut ahead, 1);
+        return read_own_const(names, items, standing, said, owner, &mut ahead);
+    }
+    Ok(())
 }
 
 /// Reads the next item of an `impl` block, where it is a constant, and passes over it.
@@ -129,14 +155,12 @@ fn read_own_item(
     ensures read { Reads (λ _. inside.new) (own_item rules.now «module» owner inside.old (texts names.old, items_as_read items.old))
         (texts names.new, items_as_read items.new) result }
 {
-    let said = read_attributes(names, &mut items.unknown_cfgs, rules, inside)?;
-    pass_visibility(inside);
-    let mut ahead = *inside;
-    pass_item(inside);
-    if said.holds && is_constant(&ahead) {
-        pass(&mut ahead, 1);
-        return read_own_const(names, items, module, &said, owner, &mut ahead);
+    let said = read_part_attributes(names, &mut items.unknown_cfgs, rules, inside)?;
+    if said.holds {
+        return read_own_said(names, items, module, &said, owner, inside);
     }
+    pass_visibility(inside);
+    pass_item(inside);
     Ok(())
 }
 

@@ -12,7 +12,7 @@ use crate::fault::{SourceFault, SourceFaultKind};
 use crate::item::{Enum, Field, FieldName, Fields, Variant};
 use crate::names::Names;
 use crate::place::{Place, Symbol};
-use crate::reader::attributes::{Rules, read_attributes};
+use crate::reader::attributes::{Rules, read_part_attributes};
 use crate::reader::cursor::{
     Cursor, expect, expect_comma, is_done, next_kind, nth, pass, place, place_behind, take,
     take_group, take_until, take_word,
@@ -28,7 +28,7 @@ use crate::tokens::keyword::Keyword;
 use crate::tokens::token::{Bracket, TokenKind};
 
 /// Whether the parentheses behind `pub` say where the item is seen, as `pub(crate)` and `pub(in a::b)`.
-fn is_restriction(inside: &Cursor<'_>) -> bool
+pub(crate) fn is_restriction(inside: &Cursor<'_>) -> bool
     ensures { result ≡ is_restriction inside.now }
 {
     match next_kind(inside) {
@@ -141,7 +141,7 @@ fn add_field(
         (field_more rules.now is_tuple (map field_of all.old.items) inside.old (texts names.old, unknown.old.items))
         (texts names.new, unknown.new.items) result }
 {
-    let said = read_attributes(names, unknown, rules, inside)?;
+    let said = read_part_attributes(names, unknown, rules, inside)?;
     let number = next_number(is_tuple, all);
     let field = read_field(names, inside, number)?;
     push_field(all, said.holds, field)?;
@@ -278,7 +278,7 @@ fn add_variant(
         (variant_more rules.now (map variant_as_read all.old.items) inside.old (texts names.old, unknown.old.items))
         (texts names.new, unknown.new.items) result }
 {
-    let said = read_attributes(names, unknown, rules, inside)?;
+    let said = read_part_attributes(names, unknown, rules, inside)?;
     let variant = read_variant(names, unknown, rules, inside)?;
     push_variant(all, said.holds, variant)?;
     expect_comma(inside)

@@ -16,6 +16,7 @@ use crate::reader::attributes::Attributes;
 use crate::reader::cursor::{Cursor, next_kind, pass, take_word};
 use crate::reader::items::put_item;
 use crate::reader::naming::take_name;
+use crate::reader::visibility::Standing;
 use crate::reader::written::{Head, Written};
 use crate::syntax::Type;
 use crate::tokens::keyword::Keyword;
@@ -73,12 +74,12 @@ fn function_named(alloc: Global, name: Symbol, at: Place) -> Written
 pub(crate) fn read_function(
     names: &mut Names,
     items: &mut Items,
-    module: u32,
+    standing: Standing,
     said: &Attributes,
     cursor: &Cursor<'_>,
 ) -> Result<(), SourceFault>
     ensures kept { KeepsItems items.old items.new }
-    ensures read { Reads (λ done. done) (function_read «module» said.now cursor.now (texts names.old, items_as_read items.old))
+    ensures read { Reads (λ done. done) (function_read standing said.now cursor.now (texts names.old, items_as_read items.old))
         (texts names.new, items_as_read items.new) result }
 {
     let mut ahead = *cursor;
@@ -88,5 +89,5 @@ pub(crate) fn read_function(
     }
     let (name, at) = take_name(names, &mut ahead)?;
     let one = function_named(names.alloc(), name, at);
-    put_item(items, module, said, one)
+    put_item(items, standing, said, one)
 }

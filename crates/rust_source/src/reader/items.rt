@@ -5,7 +5,7 @@ ghost use Rattle.rust_source.specs.Cursor.{inside, next_kind};
 ghost use Rattle.rust_source.specs.Growth.{KeepsItems};
 ghost use Rattle.rust_source.specs.Having.{item_of_module, next_module, with_item, with_module};
 ghost use Rattle.rust_source.specs.Items.{item_of, items_as_read};
-ghost use Rattle.rust_source.specs.Modules.{all_read, is_inline_module, is_item_word, is_macro, is_passed_over, item_read, module_items, module_read, module_within, one_read, other_read, over_passed, passes_kind, path_passed, root_read, said_read, use_read};
+ghost use Rattle.rust_source.specs.Modules.{all_read, is_inline_module, is_item_word, is_macro, is_passed_over, item_read, may_have_repr, module_items, module_read, module_within, one_read, other_read, over_passed, passes_kind, path_passed, repr_judged, root_read, said_read, use_read};
 ghost use Rattle.rust_source.specs.Names.{texts};
 ghost use Rattle.rust_source.specs.Reading.{Reads};
 ghost use Rattle.rust_source.specs.Simple.{most_nested};
@@ -24,22 +24,25 @@ use crate::reader::fields::pass_visibility;
 use crate::reader::functions::read_function;
 use crate::reader::naming::{is_named, is_path_name, take_name, word_text};
 use crate::reader::passing::pass_item;
+use crate::reader::repr::refuse_repr;
 use crate::reader::room::{less, most_nested};
 use crate::reader::uses::{UsePlace, read_tree};
-use crate::reader::written::{Written, read_written};
+use crate::reader::visibility::{Standing, read_visibility};
+use crate::reader::written::{Written, is_union, read_written};
 use crate::tokens::as_place;
 use crate::tokens::keyword::Keyword;
 use crate::tokens::token::{Bracket, TokenKind};
 
 /// An item of a module, with what its attributes say.
-fn item_in(module: u32, said: &Attributes, one: Written) -> Item
-    ensures { item_of result ≡ item_of_module «module» said.now (written_of one) }
+fn item_in(standing: Standing, said: &Attributes, one: Written) -> Item
+    ensures { item_of result ≡ item_of_module standing said.now (written_of one) }
 {
     let Written { head, kind } = one;
     Item {
         name: head.name,
         at: head.at,
-        module,
+        module: standing.module,
+        visible_in: standing.visible_in,
         parameters: head.parameters,
         repr: said.repr,
         valid_range: said.valid_range,
@@ -50,16 +53,16 @@ fn item_in(module: u32, said: &Attributes, one: Written) -> Item
 /// Puts an item behind the others.
 pub(crate) fn put_item(
     items: &mut Items,
-    module: u32,
+    standing: Standing,
     said: &Attributes,
     one: Written,
 ) -> Result<(), SourceFault>
     ensures kept { KeepsItems items.old items.new }
     ensures ok { IfOk result (λ _. items_as_read items.new ≡ with_item
-        (item_of_module «module» said.now (written_of one)) (items_as_read items.old)) }
+        (item_of_module standing said.now (written_of one)) (items_as_read items.old)) }
     ensures err { IfErr result (λ fault. fault.kind ≡ SourceFaultKind.OutOfMemory) }
 {
-    items.items.push(item_in(module, said, one))?;
+    items.items.push(item_in(standing, said, one))?;
     Ok(())
 }
 
@@ -68,15 +71,16 @@ pub(crate) fn put_item(
 fn read_use(
     names: &mut Names,
     items: &mut Items,
-    module: u32,
+    standing: Standing,
     cursor: &mut Cursor<'_>,
 ) -> Result<(), SourceFault>
     ensures kept { KeepsItems items.old items.new }
-    ensures read { Reads (λ _. cursor.new) (use_read «module» cursor.old (texts names.old, items_as_read items.old))
+    ensures read { Reads (λ _. cursor.new) (use_read standing cursor.old (texts names.old, items_as_read items.old))
         (texts names.new, items_as_read items.new) result }
 {
     let place = UsePlace {
-        module,
+        module: standing.module,
+        visible_in: standing.visible_in,
         is_global: false,
     };
     let uses = &mut items.uses;
@@ -169,19 +173,19 @@ fn read_other(
     rules: &Rules<'_>,
     names: &mut Names,
     items: &mut Items,
-    module: u32,
+    standing: Standing,
     said: &Attributes,
     cursor: &mut Cursor<'_>,
 ) -> Result<(), SourceFault>
     ensures kept { KeepsItems items.old items.new }
-    ensures read { Reads (λ _. cursor.new) (other_read rules.now «module» said.now cursor.old (texts names.old, items_as_read items.old))
+    ensures read { Reads (λ _. cursor.new) (other_read rules.now standing said.now cursor.old (texts names.old, items_as_read items.old))
         (texts names.new, items_as_read items.new) result }
 {
     if take_word(cursor, Keyword::Use) {
-        return read_use(names, items, module, cursor);
+        return read_use(names, items, standing, cursor);
     }
-    read_own_constants(rules, names, items, module, cursor)?;
-    read_function(names, items, module, said, cursor)?;
+    read_own_constants(rules, names, items, standing.module, cursor)?;
+    read_function(names, items, standing, said, cursor)?;
     pass_over(names, items, cursor)
 }
 
@@ -191,32 +195,54 @@ fn read_item(
     rules: &Rules<'_>,
     names: &mut Names,
     items: &mut Items,
-    module: u32,
+    standing: Standing,
     said: &Attributes,
     cursor: &mut Cursor<'_>,
 ) -> Result<(), SourceFault>
     ensures kept { KeepsItems items.old items.new }
-    ensures read { Reads (λ _. cursor.new) (item_read rules.now «module» said.now cursor.old (texts names.old, items_as_read items.old))
+    ensures read { Reads (λ _. cursor.new) (item_read rules.now standing said.now cursor.old (texts names.old, items_as_read items.old))
         (texts names.new, items_as_read items.new) result }
 {
     match read_written(names, &mut items.unknown_cfgs, rules, cursor)? {
-        Some(one) => put_item(items, module, said, one),
-        None => read_other(rules, names, items, module, said, cursor),
+        Some(one) => put_item(items, standing, said, one),
+        None => read_other(rules, names, items, standing, said, cursor),
     }
 }
 
 /// Begins a module behind the modules that are there, and is its number.
 #[tactic(auto, using(std::proofs::lemmas::Grind::common_steps))]
-fn begin_module(items: &mut Items, name: Symbol, parent: Option<u32>) -> Result<u32, SourceFault>
+fn begin_module(items: &mut Items, one: Module) -> Result<u32, SourceFault>
     ensures kept { KeepsItems items.old items.new }
     ensures number { IfOk result (λ number. number ≡ next_module (items_as_read items.old)) }
-    ensures ok { IfOk result (λ _. items_as_read items.new ≡ with_module
-        (record { name = name; parent = parent }) (items_as_read items.old)) }
+    ensures ok { IfOk result
+        (λ _. items_as_read items.new ≡ with_module one (items_as_read items.old)) }
     ensures err { IfErr result (λ fault. fault.kind ≡ SourceFaultKind.OutOfMemory) }
 {
     let number = as_place(items.modules.len());
-    items.modules.push(Module { name, parent })?;
+    items.modules.push(one)?;
     Ok(number)
+}
+
+/// Whether what is next may have a `repr`.
+#[tactic(auto, unfolding(crate::specs::Modules::may_have_repr))]
+fn may_have_repr(cursor: &Cursor<'_>) -> bool
+    ensures { result ≡ may_have_repr cursor.now }
+{
+    is_word(cursor, Keyword::Struct)
+        || is_word(cursor, Keyword::Enum)
+        || is_union(cursor)
+        || word_text(cursor) != "macro_rules" && is_macro(cursor)
+}
+
+/// A fault where `repr` stands at what may have none.
+fn refuse_misplaced_repr(said: &Attributes, cursor: &Cursor<'_>) -> Result<(), SourceFault>
+    ensures { result ≡ repr_judged said.now cursor.now }
+{
+    if may_have_repr(cursor) {
+        Ok(())
+    } else {
+        refuse_repr(&said.repr)
+    }
 }
 
 /// Whether a module with its items is next.
@@ -252,29 +278,34 @@ fn read_braces(
     }
 }
 
-/// Reads the module that is next, in the one with this number.
+/// Reads the module that is next, which stands here.
 #[cycle(modules)]
 #[tactic(auto, unfolding(crate::specs::Modules::module_read))]
 fn read_module(
     rules: &Rules<'_>,
     names: &mut Names,
     items: &mut Items,
-    outer: u32,
+    standing: Standing,
     cursor: &mut Cursor<'_>,
     room: u32,
 ) -> Result<(), SourceFault>
     ensures kept { KeepsItems items.old items.new }
     ensures read { Reads (λ _. cursor.new)
-        (module_read rules.now (module_within rules.now room) outer cursor.old (texts names.old, items_as_read items.old))
+        (module_read rules.now (module_within rules.now room) standing cursor.old (texts names.old, items_as_read items.old))
         (texts names.new, items_as_read items.new) result }
 {
     pass(cursor, 1);
     let (name, _at) = take_name(names, cursor)?;
-    let number = begin_module(items, name, Some(outer))?;
+    let one = Module {
+        name,
+        parent: Some(standing.module),
+        visible_in: standing.visible_in,
+    };
+    let number = begin_module(items, one)?;
     read_braces(rules, names, items, number, cursor, room)
 }
 
-/// Reads what stands behind these attributes and its `pub`.
+/// Reads what stands behind these attributes, which no `cfg` takes out.
 #[cycle(modules)]
 #[tactic(auto, unfolding(crate::specs::Modules::said_read))]
 fn read_said(
@@ -291,14 +322,13 @@ fn read_said(
         (said_read rules.now (module_within rules.now room) «module» said.now cursor.old (texts names.old, items_as_read items.old))
         (texts names.new, items_as_read items.new) result }
 {
-    if !said.holds {
-        pass_item(cursor);
-        return Ok(());
-    }
+    let visible_in = read_visibility(names, &items.modules, module, cursor)?;
+    let standing = Standing { module, visible_in };
+    refuse_misplaced_repr(said, cursor)?;
     if is_inline_module(cursor) {
-        read_module(rules, names, items, module, cursor, room)
+        read_module(rules, names, items, standing, cursor, room)
     } else {
-        read_item(rules, names, items, module, said, cursor)
+        read_item(rules, names, items, standing, said, cursor)
     }
 }
 
@@ -322,8 +352,12 @@ fn read_one(
     if is_done(cursor) {
         return Ok(());
     }
+    if said.holds {
+        return read_said(rules, names, items, module, &said, cursor, room);
+    }
     pass_visibility(cursor);
-    read_said(rules, names, items, module, &said, cursor, room)
+    pass_item(cursor);
+    Ok(())
 }
 
 /// Reads the items of the module with this number that are left.
@@ -384,7 +418,12 @@ pub(crate) fn read_root(
     ensures read { Reads (λ root. root) (root_read rules.now name cursor.old (texts names.old, items_as_read items.old))
         (texts names.new, items_as_read items.new) result }
 {
-    let root = begin_module(items, name, None)?;
+    let one = Module {
+        name,
+        parent: None,
+        visible_in: None,
+    };
+    let root = begin_module(items, one)?;
     read_all(rules, names, items, root, cursor, most_nested() + 1)?;
     Ok(root)
 }

@@ -3,7 +3,7 @@
 ghost use Rattle.std.specs.Prelude.{◌≡◌};
 ghost use Rattle.rust_source.specs.Literals.{integer_kind};
 ghost use Rattle.rust_source.specs.Reading.{read_as};
-ghost use Rattle.rust_source.specs.Repr.{bytes_in, first_at, integer_by, greater_of, next_number, with_bytes, with_packed, with_repr, with_word, word_by, word_more};
+ghost use Rattle.rust_source.specs.Repr.{asks, bytes_in, first_at, integer_by, greater_of, misplaced, next_number, with_bytes, with_packed, with_repr, with_word, word_by, word_more};
 
 use crate::fault::{SourceFault, SourceFaultKind};
 use crate::item::Repr;
@@ -27,6 +27,32 @@ pub(crate) const NOTHING: Repr = Repr {
     is_packed_apart: false,
     align: None,
 };
+
+/// Whether anything is asked for: `repr()` asks for nothing.
+pub(crate) fn asks(asked: &Repr) -> bool
+    ensures { result ≡ asks asked.now }
+{
+    asked.c
+        || asked.rust
+        || asked.transparent
+        || asked.simd
+        || asked.integer.is_some()
+        || asked.packed.is_some()
+        || asked.align.is_some()
+}
+
+/// A fault at the first `repr`, if one is there: it stands where none may.
+pub(crate) fn refuse_repr(asked: &Repr) -> Result<(), SourceFault>
+    ensures { result ≡ misplaced asked.now.at }
+{
+    match asked.at {
+        Some(at) => Err(SourceFault {
+            at,
+            kind: SourceFaultKind::BadRepr,
+        }),
+        None => Ok(()),
+    }
+}
 
 /// The number that is next; a bad one where none is.
 #[tactic(auto, unfolding(crate::specs::Repr::next_number))]
@@ -91,10 +117,8 @@ fn with_integer(cursor: &Cursor<'_>, asked: Repr, word: &str) -> Result<Repr, So
     let Some(kind) = integer_kind(word.as_bytes()) else {
         return Err(fault(cursor, SourceFaultKind::BadRepr));
     };
-    if let Some(before) = asked.integer {
-        if before != kind {
-            return Err(fault(cursor, SourceFaultKind::RepeatedInteger));
-        }
+    if asked.integer.is_some() {
+        return Err(fault(cursor, SourceFaultKind::RepeatedInteger));
     }
     asked.integer = Some(kind);
     Ok(asked)

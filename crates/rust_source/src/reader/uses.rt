@@ -20,10 +20,11 @@ use crate::reader::room::less;
 use crate::tokens::keyword::Keyword;
 use crate::tokens::token::Bracket;
 
-/// Where a `use` stands, and whether its path begins with `::`.
+/// Where a `use` stands and what it brings in may be used, and whether its path begins with `::`.
 #[derive(Clone, Copy)]
 pub(crate) struct UsePlace {
     pub module: u32,
+    pub visible_in: Option<u32>,
     pub is_global: bool,
 }
 
@@ -109,6 +110,7 @@ fn put_path(
     let name = read_rename(names, cursor, Some(last.name))?;
     let one = Use {
         module: place.module,
+        visible_in: place.visible_in,
         is_global: place.is_global,
         path,
         name,
@@ -123,6 +125,7 @@ fn glob(place: UsePlace, path: Vec<UsedName>) -> Use
 {
     Use {
         module: place.module,
+        visible_in: place.visible_in,
         is_global: place.is_global,
         path,
         name: None,
@@ -133,7 +136,7 @@ fn glob(place: UsePlace, path: Vec<UsedName>) -> Use
 /// The names of a path, behind those that stand before its group, up to a group, a `*` or its last name. Says whether
 /// it is all read.
 #[tactic(auto, unfolding(crate::specs::Uses::names_read), using(crate::proofs::UseTurns::names_more, crate::proofs::UseTurns::names_done))]
-fn read_names(
+pub(crate) fn read_names(
     names: &mut Names,
     cursor: &mut Cursor<'_>,
     path: &mut Vec<UsedName>,

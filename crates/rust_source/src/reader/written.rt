@@ -220,7 +220,7 @@ pub(crate) fn read_const(
 
 /// Whether a union is next: the word, and then a name.
 #[tactic(auto, unfolding(crate::specs::Written::is_union))]
-fn is_union(cursor: &Cursor<'_>) -> bool
+pub(crate) fn is_union(cursor: &Cursor<'_>) -> bool
     ensures { result ≡ is_union cursor.now }
 {
     is_named(cursor, "union") && is_named_next(cursor)

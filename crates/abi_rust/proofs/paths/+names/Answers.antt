@@ -9,8 +9,8 @@ follow_names-loop-name-preserved t c =
     let scope = c.args.scope.now in
     let more : c.loop-name.name-index < length c.in_ok-begin.rest.now = omega arith in
     let e : c.in-Some.fewer + 1 ≡ c.loop-name.left = omega (arith, c.in-Some.ensures) in
-    rw (c.behind-found.ensures, c.space_before.ensures)
-    (sym (names_on items scope (target items scope c.args.room) (λ n. n.name) c.in_ok-begin.rest.now _ c.loop-name.name-index c.loop-name.left c.in-Some.fewer c.args.space c.loop-name.found more e) ∙ c.loop-name.invariant)
+    rw (c.behind-found.ensures, c.asking-asked.ensures, c.space_before.ensures)
+    (sym (names_on items scope (target items scope c.args.room) c.args.used.now.«module» (λ n. n.name) c.in_ok-begin.rest.now _ c.loop-name.name-index c.loop-name.left c.in-Some.fewer c.args.space c.loop-name.found more e) ∙ c.loop-name.invariant)
 
 pub follow_names-returns-after-loop-name : goal.follow_names-returns-after-loop-name
 follow_names-returns-after-loop-name t c =
@@ -18,10 +18,10 @@ follow_names-returns-after-loop-name t c =
     let scope = c.args.scope.now in
     let brought = target items scope c.args.room in
     let e : c.in_ok-left.left + 1 ≡ length c.args.used.now.path.items = omega (arith, c.in_ok-left.ensures, c.len.ensures) in
-    all_named items scope brought (λ n. n.name) c.args.used.now.path.items c.in_ok-begin.rest.now c.in_ok-begin.begin.now (length c.args.used.now.path.items) c.in_ok-left.left c.loop-name.left
-    c.args.used.now.«module» c.args.used.now.is_global c.args.space (Some c.args.number) c.first-found.result c.loop-name.found (map (λ n. n.name) (drop c.loop-name.name-index c.in_ok-begin.rest.now))
-    (sym c.as_slice.ensures.value ∙ c.in_ok-begin.ensures.cases.0) e (rw (← c.space_before-first_space.ensures) c.first-found.ensures) c.loop-name.invariant
-    (names_end items scope brought (λ n. n.name) c.in_ok-begin.rest.now c.loop-name.name-index c.loop-name.left c.args.space c.loop-name.found c.loop-name-test.false)
+    all_named items scope brought c.args.used.now.«module» (λ n. n.name) c.args.used.now.path.items c.in_ok-begin.rest.now c.in_ok-begin.begin.now (length c.args.used.now.path.items) c.in_ok-left.left c.loop-name.left
+    c.args.used.now.is_global c.args.space (Some c.args.number) c.first-found.result c.loop-name.found (map (λ n. n.name) (drop c.loop-name.name-index c.in_ok-begin.rest.now))
+    (sym c.as_slice.ensures.value ∙ c.in_ok-begin.ensures.cases.0) e (rw (← c.space_before-first_space.ensures, ← c.asking-begins.ensures) c.first-found.ensures) c.loop-name.invariant
+    (names_end items scope brought c.args.used.now.«module» (λ n. n.name) c.in_ok-begin.rest.now c.loop-name.name-index c.loop-name.left c.args.space c.loop-name.found c.loop-name-test.false)
 
 pub follow_names-returns-in_default : goal.follow_names-returns-in_default
 follow_names-returns-in_default t c =
@@ -30,7 +30,7 @@ follow_names-returns-in_default t c =
     let brought = target items scope c.args.room in
     let e : c.in_ok-left.left + 1 ≡ length c.args.used.now.path.items = omega (arith, c.in_ok-left.ensures, c.len.ensures) in
     let none : c.loop-name.left ≡ 0 = omega (arith, c.in_default.ensures) in
-    all_named items scope brought (λ n. n.name) c.args.used.now.path.items c.in_ok-begin.rest.now c.in_ok-begin.begin.now (length c.args.used.now.path.items) c.in_ok-left.left c.loop-name.left
-    c.args.used.now.«module» c.args.used.now.is_global c.args.space (Some c.args.number) c.first-found.result c.loop-name.found (map (λ n. n.name) (drop c.loop-name.name-index c.in_ok-begin.rest.now))
-    (sym c.as_slice.ensures.value ∙ c.in_ok-begin.ensures.cases.0) e (rw (← c.space_before-first_space.ensures) c.first-found.ensures) c.loop-name.invariant
-    (names_past items scope brought c.loop-name.left c.args.space c.loop-name.found (map (λ n. n.name) (drop c.loop-name.name-index c.in_ok-begin.rest.now)) none)
+    all_named items scope brought c.args.used.now.«module» (λ n. n.name) c.args.used.now.path.items c.in_ok-begin.rest.now c.in_ok-begin.begin.now (length c.args.used.now.path.items) c.in_ok-left.left c.loop-name.left
+    c.args.used.now.is_global c.args.space (Some c.args.number) c.first-found.result c.loop-name.found (map (λ n. n.name) (drop c.loop-name.name-index c.in_ok-begin.rest.now))
+    (sym c.as_slice.ensures.value ∙ c.in_ok-begin.ensures.cases.0) e (rw (← c.space_before-first_space.ensures, ← c.asking-begins.ensures) c.first-found.ensures) c.loop-name.invariant
+    (names_past items scope brought c.args.used.now.«module» c.loop-name.left c.args.space c.loop-name.found (map (λ n. n.name) (drop c.loop-name.name-index c.in_ok-begin.rest.now)) none)

@@ -16,8 +16,11 @@ decreases-tree l = 16 * l.room
 abbrev pub decreases-tree_of_item : goal.decreases-tree_of_item
 decreases-tree_of_item l = 16 * l.room
 
+abbrev pub decreases-formed_tree : goal.decreases-formed_tree
+decreases-formed_tree l = 16 * l.room + 1
+
 abbrev pub decreases-tree_of_field : goal.decreases-tree_of_field
-decreases-tree_of_field l = 16 * l.room + 1
+decreases-tree_of_field l = 16 * l.room + 2
 
 abbrev pub decreases-trees_of_types : goal.decreases-trees_of_types
 decreases-trees_of_types l = 16 * l.room + 1
@@ -29,37 +32,37 @@ abbrev pub decreases-tree_with : goal.decreases-tree_with
 decreases-tree_with l = 16 * l.room + 3
 
 abbrev pub decreases-trees_of : goal.decreases-trees_of
-decreases-trees_of l = 16 * l.room + 2
+decreases-trees_of l = 16 * l.room + 3
 
 abbrev pub decreases-tree_of_union : goal.decreases-tree_of_union
-decreases-tree_of_union l = 16 * l.room + 3
+decreases-tree_of_union l = 16 * l.room + 4
 
 abbrev pub decreases-checked_trees : goal.decreases-checked_trees
-decreases-checked_trees l = 16 * l.room + 3
+decreases-checked_trees l = 16 * l.room + 4
 
 abbrev pub decreases-fields_of_struct : goal.decreases-fields_of_struct
-decreases-fields_of_struct l = 16 * l.room + 4
+decreases-fields_of_struct l = 16 * l.room + 5
 
 abbrev pub decreases-tree_of_struct : goal.decreases-tree_of_struct
-decreases-tree_of_struct l = 16 * l.room + 5
+decreases-tree_of_struct l = 16 * l.room + 6
 
 abbrev pub decreases-tree_of_variant : goal.decreases-tree_of_variant
-decreases-tree_of_variant l = 16 * l.room + 4
+decreases-tree_of_variant l = 16 * l.room + 5
 
 abbrev pub decreases-trees_of_variants : goal.decreases-trees_of_variants
-decreases-trees_of_variants l = 16 * l.room + 5
+decreases-trees_of_variants l = 16 * l.room + 6
 
 abbrev pub decreases-tree_of_enum : goal.decreases-tree_of_enum
-decreases-tree_of_enum l = 16 * l.room + 6
+decreases-tree_of_enum l = 16 * l.room + 7
 
 abbrev pub decreases-tree_of_kind : goal.decreases-tree_of_kind
-decreases-tree_of_kind l = 16 * l.room + 7
+decreases-tree_of_kind l = 16 * l.room + 8
 
 abbrev pub decreases-tree_of_found : goal.decreases-tree_of_found
-decreases-tree_of_found l = 16 * l.room + 8
+decreases-tree_of_found l = 16 * l.room + 9
 
 abbrev pub decreases-tree_of_item_with : goal.decreases-tree_of_item_with
-decreases-tree_of_item_with l = 16 * l.room + 9
+decreases-tree_of_item_with l = 16 * l.room + 10
 
 -- the types that are left, behind those that are made, have the trees that all have
 abbrev pub invariant-trees_of_types-loop-part : goal.invariant-trees_of_types-loop-part

@@ -15,7 +15,7 @@ returns-clause-globs c =
       before = before;
       followed = c.in_ok-direct.ensures.globs;
       same = same;
-      leads = reaches_through (lists_of c.add_lost.new.direct.items) _ after c.in_ok-add_lost.ensures.added c.in_ok-self.ensures.all;
+      leads = reaches_through c.args.items.now (lists_of c.add_lost.new.direct.items) _ after c.in_ok-add_lost.ensures.added c.in_ok-self.ensures.all;
     }
 
 pub returns-clause-same : goal.returns-clause-same

@@ -1,0 +1,227 @@
+//! Where names may be used (Rust Reference, "Visibility and privacy").
+
+ghost use Rattle.std.specs.Prelude.{◌≡◌, false, None, slice_get, if◌then◌else◌};
+ghost use Rattle.rust_source.specs.Names.{texts};
+ghost use Rattle.rust_source.specs.Reading.{Reads};
+ghost use Rattle.rust_source.specs.Visibility.{around, child_towards, has_name, is_in_crate, module_named, path_restricts, restricted_by, restriction_read, root_around, step, steps, visibility_read};
+
+use crate::fault::{SourceFault, SourceFaultKind};
+use crate::item::{Module, UsedName};
+use crate::names::Names;
+use crate::place::Symbol;
+use crate::reader::cursor::{Cursor, fault, is_done, take_group, take_word};
+use crate::reader::fields::is_restriction;
+use crate::reader::uses::read_names;
+use crate::tokens::keyword::Keyword;
+use crate::tokens::token::Bracket;
+
+/// Where an item stands, and where its name may be used.
+#[derive(Clone, Copy)]
+pub(crate) struct Standing {
+    /// The module that it is in, by its number.
+    pub module: u32,
+    /// The module in which, with all that stand inside it, its name may be used; none where it may be used everywhere.
+    pub visible_in: Option<u32>,
+}
+
+/// The module around the one with this number; none around a root.
+fn around(modules: &[Module], number: u32) -> Option<u32>
+    ensures { result ≡ around modules.now number }
+{
+    match modules.get(number as usize) {
+        Some(module) => module.parent,
+        None => None,
+    }
+}
+
+/// Whether the module with this number has the name.
+fn has_name(modules: &[Module], number: u32, name: Symbol) -> bool
+    ensures { result ≡ has_name name (slice_get modules.now number) }
+{
+    match modules.get(number as usize) {
+        Some(module) => module.name == name,
+        None => false,
+    }
+}
+
+/// The root around the module with this number.
+#[tactic(auto, unfolding(crate::specs::Visibility::root_around), using(crate::proofs::VisibilityTurns::root_more, crate::proofs::VisibilityTurns::root_done))]
+fn root_around(modules: &[Module], number: u32) -> u32
+    ensures { result ≡ root_around modules.now number }
+{
+    let mut at = number;
+    let turns = modules.len();
+    for turn in 0..turns {
+        match around(modules, at) {
+            Some(outer) => at = outer,
+            None => return at,
+        }
+    }
+    at
+}
+
+/// The module right in the outer one that the module with this number is or stands in.
+#[tactic(auto, unfolding(crate::specs::Visibility::child_towards), using(crate::proofs::VisibilityTurns::child_more, crate::proofs::VisibilityTurns::child_done))]
+fn child_towards(modules: &[Module], outer: u32, number: u32) -> Option<u32>
+    ensures { result ≡ child_towards modules.now outer number }
+{
+    let mut at = number;
+    let turns = modules.len();
+    for turn in 0..turns {
+        let next = around(modules, at)?;
+        if next == outer {
+            return Some(at);
+        }
+        at = next;
+    }
+    None
+}
+
+/// The module that a name of a path names behind another one, of those around the item in the module with this number.
+#[tactic(auto, unfolding(crate::specs::Visibility::step))]
+fn step(modules: &[Module], number: u32, at: u32, may_rise: bool, name: Symbol) -> Option<u32>
+    ensures { result ≡ step modules.now number at may_rise name }
+{
+    if may_rise && name == Symbol::SUPER {
+        return around(modules, at);
+    }
+    let child = child_towards(modules, at, number)?;
+    if has_name(modules, child, name) {
+        Some(child)
+    } else {
+        None
+    }
+}
+
+/// The module that names of a path name behind another one.
+fn steps(
+    modules: &[Module],
+    number: u32,
+    may_rise: bool,
+    path: &[UsedName],
+    from: u32,
+) -> Option<u32>
+    ensures { result ≡ steps modules.now number may_rise path.now from }
+{
+    let mut at = from;
+    let mut rises = may_rise;
+    for used in path {
+        at = step(modules, number, at, rises, used.name)?;
+        rises = rises && used.name == Symbol::SUPER;
+    }
+    Some(at)
+}
+
+/// Whether the source that the module with this number stands in is the root of a crate, which `crate` names.
+fn is_in_crate(modules: &[Module], number: u32) -> bool
+    ensures { result ≡ is_in_crate modules.now number }
+{
+    has_name(modules, root_around(modules, number), Symbol::CRATE)
+}
+
+/// The module that a path names that begins with `crate`, behind that.
+fn module_in_crate(modules: &[Module], number: u32, path: &[UsedName]) -> Option<u32>
+    ensures { result ≡ (if is_in_crate modules.now number
+        then steps modules.now number false path.now (root_around modules.now number) else None) }
+{
+    if is_in_crate(modules, number) {
+        steps(modules, number, false, path, root_around(modules, number))
+    } else {
+        None
+    }
+}
+
+/// The module that a path names, of that with this number and those around it.
+fn module_named(modules: &[Module], number: u32, path: &[UsedName]) -> Option<u32>
+    ensures { result ≡ module_named modules.now number path.now }
+{
+    let (first, behind) = path.split_first()?;
+    if first.name == Symbol::CRATE {
+        module_in_crate(modules, number, behind)
+    } else if first.name == Symbol::SELF {
+        steps(modules, number, true, behind, number)
+    } else if first.name == Symbol::SUPER {
+        steps(modules, number, true, path, number)
+    } else {
+        None
+    }
+}
+
+/// The module that a path names which stands there. A source that isn't the root of a crate stands in modules that
+/// aren't read: where the path names one of these, the name may be used in all of the source.
+fn restricted(
+    modules: &[Module],
+    number: u32,
+    path: &[UsedName],
+    outside: SourceFault,
+) -> Result<u32, SourceFault>
+    ensures { result ≡ restricted_by modules.now outside number (module_named modules.now number path.now) }
+{
+    match module_named(modules, number, path) {
+        Some(named) => Ok(named),
+        None if is_in_crate(modules, number) => Err(outside),
+        None => Ok(root_around(modules, number)),
+    }
+}
+
+/// The module that the path names which is all that is left.
+#[tactic(auto, unfolding(crate::specs::Visibility::path_restricts))]
+fn read_restricting(
+    names: &mut Names,
+    modules: &[Module],
+    number: u32,
+    cursor: &mut Cursor<'_>,
+) -> Result<u32, SourceFault>
+    ensures { Reads (λ found. found) (path_restricts modules.now number cursor.old (texts names.old))
+        (texts names.new) result }
+{
+    let outside = fault(cursor, SourceFaultKind::VisibilityOutside);
+    let mut path = Vec::new(names.alloc());
+    let is_whole = read_names(names, cursor, &mut path)?;
+    if is_whole && is_done(cursor) {
+        restricted(modules, number, &path, outside)
+    } else {
+        Err(outside)
+    }
+}
+
+/// The module that the parentheses behind `pub` name.
+fn read_restriction(
+    names: &mut Names,
+    modules: &[Module],
+    number: u32,
+    inside: &mut Cursor<'_>,
+) -> Result<u32, SourceFault>
+    ensures { Reads (λ found. found) (restriction_read modules.now number inside.old (texts names.old))
+        (texts names.new) result }
+{
+    let _ = take_word(inside, Keyword::In);
+    read_restricting(names, modules, number, inside)
+}
+
+/// The module in which, with all that stand inside it, the name may be used of an item in the module with this number,
+/// whose `pub` is next, if it has one; it is passed over. None where the name may be used everywhere.
+#[tactic(auto, unfolding(crate::specs::Visibility::visibility_read))]
+pub(crate) fn read_visibility(
+    names: &mut Names,
+    modules: &[Module],
+    number: u32,
+    cursor: &mut Cursor<'_>,
+) -> Result<Option<u32>, SourceFault>
+    ensures { Reads (λ found. (found, cursor.new))
+        (visibility_read modules.now number cursor.old (texts names.old)) (texts names.new) result }
+{
+    if !take_word(cursor, Keyword::Pub) {
+        return Ok(Some(number));
+    }
+    let mut behind = *cursor;
+    let Some(mut inside) = take_group(&mut behind, Bracket::Round) else {
+        return Ok(None);
+    };
+    if !is_restriction(&inside) {
+        return Ok(None);
+    }
+    let found = read_restriction(names, modules, number, &mut inside)?;
+    *cursor = behind;
+    Ok(Some(found))
+}
