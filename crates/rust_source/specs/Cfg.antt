@@ -157,7 +157,8 @@ has_flag t name =
     if bytes_eq name (codes "true") || bytes_eq name (codes "debug_assertions") then Some true
     else (if bytes_eq name (codes "false") then Some false
     else (if bytes_eq name (codes "unix") then Some (is_unix t.family)
-    else (if bytes_eq name (codes "windows") then Some (is_windows t.family) else None)))
+    else (if bytes_eq name (codes "windows") then Some (is_windows t.family)
+    else (if bytes_eq name (codes "target_has_atomic") then Some (not (length t.atomics.now == 0)) else None))))
 
 -- what lies between a string's quotes, where each escape is one that there is
 abbrev pub with_escapes : Option (List ℕ) → Option ValueRead

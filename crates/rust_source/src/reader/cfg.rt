@@ -205,6 +205,8 @@ fn has_flag(target: &CfgTarget<'_>, name: &str) -> Option<bool>
         Some(target.family == Family::Unix)
     } else if name == "windows" {
         Some(target.family == Family::Windows)
+    } else if name == "target_has_atomic" {
+        Some(!target.atomics.is_empty())
     } else {
         None
     }
