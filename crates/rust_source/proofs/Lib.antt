@@ -19,4 +19,4 @@ mod TokenSteps
 mod Turns
 mod Until
 mod UseTurns
-mod VisibilityTurns
+mod AroundTurns

@@ -45,7 +45,7 @@ fn has_name(modules: &[Module], number: u32, name: Symbol) -> bool
 }
 
 /// The root around the module with this number.
-#[tactic(auto, unfolding(crate::specs::Visibility::root_around), using(crate::proofs::VisibilityTurns::root_more, crate::proofs::VisibilityTurns::root_done))]
+#[tactic(auto, unfolding(crate::specs::Visibility::root_around), using(crate::proofs::AroundTurns::root_more, crate::proofs::AroundTurns::root_done))]
 fn root_around(modules: &[Module], number: u32) -> u32
     ensures { result ≡ root_around modules.now number }
 {
@@ -61,7 +61,7 @@ fn root_around(modules: &[Module], number: u32) -> u32
 }
 
 /// The module right in the outer one that the module with this number is or stands in.
-#[tactic(auto, unfolding(crate::specs::Visibility::child_towards), using(crate::proofs::VisibilityTurns::child_more, crate::proofs::VisibilityTurns::child_done))]
+#[tactic(auto, unfolding(crate::specs::Visibility::child_towards), using(crate::proofs::AroundTurns::child_more, crate::proofs::AroundTurns::child_done))]
 fn child_towards(modules: &[Module], outer: u32, number: u32) -> Option<u32>
     ensures { result ≡ child_towards modules.now outer number }
 {
