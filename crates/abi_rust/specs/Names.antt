@@ -104,10 +104,10 @@ is_unknown _ = false
 
 -- what has a name that stands in a module, and is brought in there by a use: not both, unless it isn't known what the
 -- use brings in, which then is a name of another kind
-abbrev pub beside : Symbol → (standing import : Option OwnName) → Option OwnName
-beside name None import = import
-beside name (Some standing) None = Some standing
-beside name (Some standing) (Some import) = if is_unknown import.found then Some standing else Some (ambiguous name)
+abbrev pub standing_or_import : Symbol → (standing import : Option OwnName) → Option OwnName
+standing_or_import name None import = import
+standing_or_import name (Some standing) None = Some standing
+standing_or_import name (Some standing) (Some import) = if is_unknown import.found then Some standing else Some (ambiguous name)
 
 -- the module that is found, and nothing where something else is
 abbrev pub module_found : Option Found → Option ℕ
@@ -187,7 +187,7 @@ module _ (items : Items) (scope : Scope) where
 
     -- what a name names in a module without its globs: what stands there, or else what a use brings in
     unfoldable pub own : (inside : ℕ) → Asked → Option OwnName
-    own m a = beside a.name (declared items scope m a.name a.space) (used_by a (use_in scope m a.name))
+    own m a = standing_or_import a.name (declared items scope m a.name a.space) (used_by a (use_in scope m a.name))
 
     -- each module that a way's globs stand in sees what is visible in that module, and has no such name of its own, which
     -- would stand before

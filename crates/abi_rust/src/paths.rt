@@ -4,7 +4,7 @@ ghost use Rattle.std.specs.Prelude.{◌≡◌, ◌+◌, IfNone, IfSome, None, le
 ghost use Rattle.std.specs.Option.{option_copied};
 ghost use Rattle.rust_source.specs.declared.syntax.Path.{out-Path};
 ghost use Rattle.abi_rust.specs.Kinds.{found_by, most_aliases, type_named};
-ghost use Rattle.abi_rust.specs.Names.{agreed, along, ambiguous, among, asking, behind_module, beside, beside_module, crate_above, declared, first, found, found_of, imported, is_open, is_usable, most_uses, named_behind, names_in_path, one_of, other_space, own, own_item, own_module, path_named, perhaps, root, seen_own, shown, space_before, target, target_with, used_by, visibility_of_item, visibility_of_module, visibility_of_use, within};
+ghost use Rattle.abi_rust.specs.Names.{agreed, along, ambiguous, among, asking, behind_module, beside_module, crate_above, declared, first, found, found_of, imported, is_open, is_usable, most_uses, named_behind, names_in_path, one_of, other_space, own, own_item, own_module, path_named, perhaps, root, seen_own, shown, space_before, standing_or_import, target, target_with, used_by, visibility_of_item, visibility_of_module, visibility_of_use, within};
 
 use crate::scope::Scope;
 use crate::standing::SEVERAL;
@@ -567,7 +567,7 @@ fn own(items: &Items, scope: &Scope, module: u32, asked: Asked, room: u32) -> Op
 {
     let standing = declared(items, scope, module, asked.name, asked.space);
     let number = scope.used(module, asked.name);
-    beside(
+    standing_or_import(
         asked.name,
         standing,
         brought_in(items, scope, number, asked, room),
@@ -575,8 +575,12 @@ fn own(items: &Items, scope: &Scope, module: u32, asked: Asked, room: u32) -> Op
 }
 
 /// What has a name that stands in a module, and is brought in there by a use.
-fn beside(name: Symbol, standing: Option<OwnName>, import: Option<OwnName>) -> Option<OwnName>
-    ensures { result ≡ beside name standing import }
+fn standing_or_import(
+    name: Symbol,
+    standing: Option<OwnName>,
+    import: Option<OwnName>,
+) -> Option<OwnName>
+    ensures { result ≡ standing_or_import name standing import }
 {
     match (standing, import) {
         (Some(standing), Some(import)) => match import.found {
