@@ -8,7 +8,7 @@ use Rattle.abi_rust.specs.declared.fault.Stop.{Stop}
 use Rattle.abi_rust.specs.declared.scope.Scope.{Scope}
 use Rattle.abi_rust.specs.declared.ways.Glob.{Glob}
 use Rattle.abi_rust.specs.declared.ways.Way.{Way}
-use Rattle.abi_rust.specs.Globs.{AreRounds, no_round, round, Reaches, globs_added, if_all, is_in, led_from, led_to, list_at, lists_of, most_ways, none_direct, with_glob, with_next, with_target, with_way, with_ways}
+use Rattle.abi_rust.specs.Globs.{AreRounds, Leads, no_round, round, globs_added, if_all, is_in, led_from, led_to, list_at, lists_of, most_ways, none_direct, with_glob, with_next, with_target, with_way, with_ways}
 use Rattle.abi_rust.specs.Scope.{all_listed, reached_from}
 use Rattle.abi_rust.specs.ScopeNames.{HasSameNames}
 
@@ -123,22 +123,13 @@ listed_at (v ∷ all) (l ∷ lists) f none same zero = cc
 listed_at (v ∷ all) (l ∷ lists) f none same (suc m) = let rest : lists_of all ≡ map f lists = cc in listed_at all lists f none rest m
 
 -- what is kept is where the lists lead
-pub reaches : (items : Items) (direct : List (List Glob)) (scope : Scope) → lists_of scope.reached.items ≡ map (led_to items direct) direct → Reaches items direct scope
+pub reaches : (items : Items) (direct : List (List Glob)) (scope : Scope) → lists_of scope.reached.items ≡ map (led_to items direct) direct
+    → (m : ℕ) → reached_from scope m ≡ led_to items direct (list_at direct m)
 unfolding reached_from
 reaches items direct scope same = listed_at scope.reached.items direct (led_to items direct) (led_none items direct) same
 
-pub reaches_through : (items : Items) (direct is : List (List Glob)) (scope : Scope) → direct ≡ is → lists_of scope.reached.items ≡ map (led_to items direct) direct → Reaches items is scope
-reaches_through items direct is scope same leads = subst (λ d. Reaches items d scope) same (reaches items direct scope leads)
-
-none_listed : {A S : Type 0} (all : List (Vec A S)) (n : ℕ) → lists_of all ≡ replicate n [] → (m : ℕ) → all_listed (slice_get all m) ≡ []
-none_listed [] n same m = refl
-none_listed (v ∷ all) zero same m = cc
-none_listed (v ∷ all) (suc n) same zero = cc
-none_listed {A} (v ∷ all) (suc n) same (suc m) = let rest : lists_of all ≡ replicate n (let none : List A = [] in none) = cc in none_listed all n rest m
-
-pub reaches_none : (scope : Scope) (n : ℕ) → lists_of scope.reached.items ≡ replicate n [] → (m : ℕ) → reached_from scope m ≡ []
-unfolding reached_from
-reaches_none scope n same = none_listed scope.reached.items n same
+pub leads_through : (items : Items) (direct is : List (List Glob)) (scope : Scope) → direct ≡ is → Leads items direct scope → Leads items is scope
+leads_through items direct is scope same leads = subst (λ d. Leads items d scope) same leads
 
 -- as many empty lists as there are modules
 pub none_each : {A B : Type 0} (xs : List A) → replicate (length xs) [] ≡ map (λ (x : A). let none : List B = [] in none) xs
@@ -157,15 +148,15 @@ names_on a b c ab bc = record {
 }
 
 -- no round was made
-pub begun : (items : Items) (scope : Scope) (direct : List (List Glob)) (n k : ℕ) → direct ≡ replicate n [] → n ≡ length items.modules.items
-    → lists_of scope.reached.items ≡ replicate k [] → AreRounds items 0 direct scope
-begun items scope direct n k none long empty =
-    let is : none_direct items ≡ direct = sym (none ∙ (ap (λ m. replicate m []) long ∙ none_each items.modules.items)) in
-    subst (λ d. AreRounds items 0 d scope) is (no_round scope (reaches_none scope k empty))
+pub begun : (items : Items) (scope : Scope) (direct : List (List Glob)) (n : ℕ) → direct ≡ replicate n [] → n ≡ length items.modules.items
+    → Leads items direct scope → AreRounds items 0 direct scope
+begun items scope direct n none long leads =
+    let is : direct ≡ none_direct items = none ∙ (ap (λ m. replicate m []) long ∙ none_each items.modules.items) in
+    subst (λ d. AreRounds items 0 d scope) (sym is) (no_round scope (leads_through items direct (none_direct items) scope is leads))
 
 -- and one more
 pub once_more : (items : Items) (rounds : ℕ) (direct next : List (List Glob)) (before after : Scope) → AreRounds items rounds direct before → HasSameNames before after
-    → next ≡ globs_added items before direct → lists_of after.reached.items ≡ map (led_to items next) next → AreRounds items (rounds + 1) next after
+    → next ≡ globs_added items before direct → Leads items next after → AreRounds items (rounds + 1) next after
 once_more items rounds direct next before after made same is leads =
     subst (λ d. AreRounds items (rounds + 1) d after) (sym is)
-    (round rounds direct before after made same (subst (λ d. Reaches items d after) is (reaches items next after leads)))
+    (round rounds direct before after made same (leads_through items next (globs_added items before direct) after is leads))

@@ -19,6 +19,7 @@ pub mod Rooms
 pub mod Same
 pub mod ScopeLemmas
 pub mod StandingLemmas
+pub mod TargetLemmas
 pub mod Trees
 pub mod WayLemmas
 pub mod Written

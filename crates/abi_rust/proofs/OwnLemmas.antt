@@ -5,7 +5,7 @@ use Rattle.std.proofs.lemmas.Grind.{common_steps}
 use Rattle.std.specs.Prelude.{nat_eq, if◌then◌else◌}
 use Rattle.std.specs.Option.{option_or}
 use Rattle.abi_rust.specs.OwnConstants.{last_told}
-use Rattle.abi_rust.specs.Standing.{numbered}
+use Rattle.abi_rust.specs.Scope.{numbered}
 
 or_none : {B : Type 0} (o : Option B) → option_or o None ≡ o
 or_none None = refl

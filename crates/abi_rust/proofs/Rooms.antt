@@ -18,7 +18,7 @@ use Rattle.rust_source.specs.declared.syntax.«Type».{«Type» as Written}
 use Rattle.abi_rust.specs.Resolving.{inner, item_with, resolver, type_with}
 use Rattle.abi_rust.specs.Tails.{Outer, tail_inner, tail_of_item_with, tail_with}
 use Rattle.abi_rust.specs.Types.{GivensRead, TyRead, Where}
-use Rattle.abi_rust.specs.Names.{asking, named_behind, behind_all, first, path_named, root_above, root_within, space_before, target, target_with}
+use Rattle.abi_rust.specs.Names.{asking, named_behind, behind_all, first, path_named, root_above, root_within, space_before}
 use Rattle.abi_rust.specs.Visible.{parent}
 
 pub turns : (n i : ℕ) → i < n → n - i ≡ suc (n - (i + 1))
@@ -34,16 +34,6 @@ pub root_done : (n i : ℕ) (items : Items) (m : ℕ) → n ≤ i → root_withi
 root_done n i items m done = ap (λ k. root_within k items m) (none_left n i done)
 
 module _ (items : Items) (scope : Scope) where
-  pub target_less : (room left u : ℕ) (space : Space) → left + 1 ≡ room → target items scope room u space ≡ target_with items scope (target items scope left) u space
-  unfolding target
-  target_less zero left u space is = absurd (omega arith)
-  target_less (suc room) left u space is = let e : room ≡ left = omega arith in ap (λ r. target_with items scope (target items scope r) u space) e
-
-  pub target_none : (room u : ℕ) (space : Space) → room ≡ 0 → target items scope room u space ≡ None
-  unfolding target
-  target_none zero u space is = refl
-  target_none (suc room) u space is = absurd (omega arith)
-
   module _ (brought : ℕ → Space → Option Found) (m : ℕ) where
     pub names_step : (left fewer : ℕ) (space : Space) (before : Option Found) (name : Symbol) (names : List Symbol) → fewer + 1 ≡ left
         → behind_all items scope brought left m space before (name ∷ names)

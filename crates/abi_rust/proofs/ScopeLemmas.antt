@@ -1,5 +1,5 @@
 -- Names that are kept stay so, and errors that are passed on.
-use Rattle.std.proofs.Common.{◌≡◌, ◌∙◌, ℕ, zero, suc, Err, Ok, Option, Result, ap, inl, inr, refl, subst, sym}
+use Rattle.std.proofs.Common.{◌≡◌, ◌∙◌, ℕ, zero, suc, Err, List, Ok, Option, Result, ap, inl, inr, map, refl, subst, sym}
 use Rattle.std.specs.Result.{IfErr, IsErrAnd}
 use Rattle.indexmap.specs.IndexMap.{get}
 use Rattle.std.specs.Prelude.{nat_eq}
@@ -9,15 +9,16 @@ use Rattle.rust_source.specs.declared.syntax.Path.{Path}
 use Rattle.abi_rust.specs.declared.fault.Stop.{Stop}
 use Rattle.abi_rust.specs.declared.scope.Scope.{Scope}
 use Rattle.abi_rust.specs.declared.words.Word.TheVariants.{Prelude}
-use Rattle.abi_rust.specs.Globs.{KeepsGlobs}
+use Rattle.abi_rust.specs.declared.ways.Glob.{Glob}
+use Rattle.abi_rust.specs.Globs.{KeepsGlobs, Leads, led_to, lists_of}
 use Rattle.abi_rust.specs.Kinds.{type_named}
-use Rattle.abi_rust.specs.Names.{named_behind, first, found_of, most_uses, own, target, target_with, within}
+use Rattle.abi_rust.specs.Names.{named_behind, first, found_of, most_uses, own, target_with, targets_on, use_target, use_targets, within}
 use Rattle.abi_rust.specs.OwnConstants.{is_own, last_told, own_at, own_type, own_type_by, type_owning}
 use Rattle.abi_rust.specs.Scope.{constant_standing, leads_nowhere, module_in, reached_from, same_key, type_standing, use_in}
 use Rattle.abi_rust.specs.ScopeNames.{HasSameNames, KeepsNames, KeepsOwn}
 use Rattle.abi_rust.specs.Standing.{ModuleName, first_so}
 use Rattle.abi_rust.specs.Words.{symbol_of}
-use Rattle.abi_rust.proofs.GlobLemmas.{names_on}
+use Rattle.abi_rust.proofs.GlobLemmas.{names_on, reaches}
 
 -- an error that was passed on
 pub passed_on : {B : Type 0} (P : Stop → Type 0) (e : Stop) (r : Result B Stop) → IsErrAnd r (λ stop. stop ≡ e) → P e → IfErr r P
@@ -43,15 +44,16 @@ abbrev with_own : (scope other : Scope) → Scope
 with_own scope other = record scope { owners = other.owners; own_constants = other.own_constants }
 
 -- that tells nothing of what uses bring in
-same_target : (items : Items) (scope other : Scope) (room : ℕ) → target items (with_own scope other) room ≡ target items scope room
-unfolding target target_with first named_behind within own use_in module_in type_standing constant_standing reached_from leads_nowhere
-same_target items scope other zero = refl
-same_target items scope other (suc room) = ap (target_with items scope) (same_target items scope other room)
+same_targets : (items : Items) (scope other : Scope) (most : ℕ) → use_targets items (with_own scope other) most ≡ use_targets items scope most
+unfolding use_targets target_with first named_behind within own use_in module_in type_standing constant_standing reached_from leads_nowhere
+same_targets items scope other zero = refl
+same_targets items scope other (suc most) =
+    ap (λ known. targets_on (use_target items scope known) 0 items.uses.items) (same_targets items scope other most)
 
 -- nor of what paths name
 same_type : (items : Items) (scope other : Scope) (m : ℕ) (p : Path) (count : ℕ) → type_named items (with_own scope other) m p count ≡ type_named items scope m p count
-unfolding type_named found_of first named_behind within own use_in module_in type_standing constant_standing reached_from leads_nowhere target target_with
-same_type items scope other m p count = rw (same_target items scope other most_uses) refl
+unfolding type_named found_of first named_behind within own use_in module_in type_standing constant_standing reached_from leads_nowhere
+same_type items scope other m p count = refl
 
 same_types : (items : Items) (scope other : Scope) → type_named items (with_own scope other) ≡ type_named items scope
 same_types items scope other = λ i m p count. same_type items scope other m p count i
@@ -79,5 +81,25 @@ keeps_globs items scope other keeps =
       before = keeps.before;
       followed = keeps.followed;
       same = names_on keeps.before scope (with_own scope other) keeps.same same;
-      leads = λ m. keeps.leads m;
+      leads = record { ways = λ m. keeps.leads.ways m; targets = keeps.leads.targets ∙ sym (same_targets items scope other most_uses) };
     }
+
+-- the scope with what uses bring in
+abbrev with_targets : (scope other : Scope) → Scope
+with_targets scope other = record scope { use_targets = other.use_targets }
+
+-- what uses bring in is found without what is kept of it
+pub found_apart : (items : Items) (scope other : Scope) (most : ℕ) → use_targets items (with_targets scope other) most ≡ use_targets items scope most
+unfolding use_targets target_with first named_behind within own use_in module_in type_standing constant_standing reached_from leads_nowhere
+found_apart items scope other zero = refl
+found_apart items scope other (suc most) =
+    ap (λ known. targets_on (use_target items scope known) 0 items.uses.items) (found_apart items scope other most)
+
+-- the ways of globs are kept, and what uses bring in by them
+pub leads_kept : (items : Items) (direct : List (List Glob)) (scope other : Scope) → lists_of scope.reached.items ≡ map (led_to items direct) direct
+    → other.use_targets.items ≡ use_targets items scope most_uses → Leads items direct (with_targets scope other)
+unfolding reached_from
+leads_kept items direct scope other ways targets = record {
+  ways = λ m. reaches items direct scope ways m;
+  targets = targets ∙ sym (found_apart items scope other most_uses);
+}

@@ -6,8 +6,8 @@ use Rattle.std.specs.Prelude.{is_some, if◌then◌else◌}
 use Rattle.std.specs.Option.{option_or}
 use Rattle.rust_source.specs.declared.item.Item.{Item}
 use Rattle.abi_rust.specs.declared.fault.Stop.{Stop}
-use Rattle.abi_rust.specs.Scope.{several}
-use Rattle.abi_rust.specs.Standing.{ModuleName, constant_at, first_repeated, first_so, key_of, last_so, numbered, one_so, repeated_by, type_at}
+use Rattle.abi_rust.specs.Scope.{numbered, several}
+use Rattle.abi_rust.specs.Standing.{ModuleName, constant_at, first_repeated, first_so, key_of, last_so, one_so, repeated_by, type_at}
 
 -- the last of one more
 pub last_snoc : {A : Type 0} (is : A → Bool) (i : ℕ) (xs : List A) (x : A)

@@ -35,15 +35,15 @@ abbrev pub any_written : List Variant → Bool
 any_written [] = false
 any_written (v ∷ vs) = is_some v.discriminant || any_written vs
 
--- one of these variants has fields, or parentheses for them
-abbrev pub any_fields : List Variant → Bool
-any_fields [] = false
-any_fields (v ∷ vs) = (v.fields.is_tuple || not (nat_eq (length v.fields.all.items) 0)) || any_fields vs
+-- each of these variants is a name alone, without parentheses or braces
+abbrev pub all_units : List Variant → Bool
+all_units [] = true
+all_units (v ∷ vs) = v.fields.is_unit && all_units vs
 
--- an enum with a discriminant and a variant with fields has an integer as its repr
+-- an enum with a discriminant, and with a variant that is no name alone, has an integer as its repr
 abbrev pub discriminants_checked : Item → List Variant → Meaning Bool
 discriminants_checked it vs =
-    if not (is_some it.repr.integer) && (any_written vs && any_fields vs) then fault_at it.at DiscriminantWithoutRepr else Ok true
+    if not (is_some it.repr.integer) && (any_written vs && not (all_units vs)) then fault_at it.at DiscriminantWithoutRepr else Ok true
 
 module _ (cx : Context) where
   module _ (A : Aligning) where

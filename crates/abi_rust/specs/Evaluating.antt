@@ -85,19 +85,19 @@ integer_or_isize None = Isize
 abbrev pub discriminant_kind : Item → IntegerKind
 discriminant_kind it = integer_or_isize it.repr.integer
 
--- a variant has no fields, and parentheses only where no discriminant is written
+-- a variant has no fields, and parentheses or braces only where no discriminant is written
 abbrev pub is_fieldless : Variant → Bool
-is_fieldless v = nat_eq (length v.fields.all.items) 0 && not (v.fields.is_tuple && is_some v.discriminant)
+is_fieldless v = nat_eq (length v.fields.all.items) 0 && (v.fields.is_unit || not (is_some v.discriminant))
 
 -- each of these variants is so, as of an enum that can be cast (Rust Reference, "Enumerations")
 abbrev pub all_fieldless : List Variant → Bool
 all_fieldless [] = true
 all_fieldless (v ∷ vs) = is_fieldless v && all_fieldless vs
 
--- the variant has no parentheses, so that its name alone is a value
+-- the variant is a name alone, which is a value
 abbrev pub is_unit_at : Option Variant → Bool
 is_unit_at None = false
-is_unit_at (Some v) = not v.fields.is_tuple
+is_unit_at (Some v) = v.fields.is_unit
 
 -- the variant of this number is a value by its name alone, of an enum that can be cast
 abbrev pub is_castable : (index : ℕ) → ItemKind → Bool

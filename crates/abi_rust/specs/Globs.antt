@@ -10,10 +10,9 @@ use Rattle.abi_rust.specs.declared.paths.Space.TheVariants.{Types}
 use Rattle.abi_rust.specs.declared.scope.Scope.{Scope}
 use Rattle.abi_rust.specs.declared.ways.Glob.{Glob}
 use Rattle.abi_rust.specs.declared.ways.Way.{Way}
-use Rattle.abi_rust.specs.Names.{module_found, most_uses, target}
-use Rattle.abi_rust.specs.Scope.{nowhere, reached_from}
+use Rattle.abi_rust.specs.Names.{module_found, most_uses, target_in, use_targets}
+use Rattle.abi_rust.specs.Scope.{nowhere, numbered, reached_from}
 use Rattle.abi_rust.specs.ScopeNames.{HasSameNames}
-use Rattle.abi_rust.specs.Standing.{numbered}
 use Rattle.abi_rust.specs.Ways.{leads_on}
 
 -- how many ways of globs are kept of a module
@@ -35,9 +34,9 @@ other_than m (Some found) = if nat_eq found m then None else Some found
 
 -- the use of this number as a glob, if it is one: it leads to the module that its path names, but not to the one that it
 -- stands in
-abbrev pub glob_target : Items → Scope → (use_number : ℕ) → Use → Option Glob
-glob_target items scope n u =
-    if u.is_glob then option_map (glob_to u) (other_than u.«module» (module_found (target items scope most_uses n Types))) else None
+abbrev pub glob_target : Scope → (use_number : ℕ) → Use → Option Glob
+glob_target scope n u =
+    if u.is_glob then option_map (glob_to u) (other_than u.«module» (module_found (target_in scope.use_targets.items n Types))) else None
 
 -- nowhere, but for a module, and for an item: the glob of an enum brings in its variants, which are no types
 abbrev pub nowhere_by : Option Found → Option ℕ
@@ -46,8 +45,8 @@ nowhere_by (Some (Item n)) = None
 nowhere_by _ = Some nowhere
 
 -- the use of this number as a glob, if it is one that leads to nothing that is read
-abbrev pub lost_target : Items → Scope → (use_number : ℕ) → Use → Option Glob
-lost_target items scope n u = if u.is_glob then option_map (glob_to u) (nowhere_by (target items scope most_uses n Types)) else None
+abbrev pub lost_target : Scope → (use_number : ℕ) → Use → Option Glob
+lost_target scope n u = if u.is_glob then option_map (glob_to u) (nowhere_by (target_in scope.use_targets.items n Types)) else None
 
 -- they are the same module, or no module both
 abbrev pub same_visibility : Option ℕ → Option ℕ → Bool
@@ -84,11 +83,11 @@ with_globs target_of n (u ∷ us) lists = with_globs target_of (n + 1) us (with_
 
 -- each module's own globs, beside those that were known, where names stand as this scope says
 abbrev pub globs_added : Items → Scope → (direct : List (List Glob)) → List (List Glob)
-globs_added items scope direct = with_globs (glob_target items scope) 0 items.uses.items direct
+globs_added items scope direct = with_globs (glob_target scope) 0 items.uses.items direct
 
 -- each module's own globs, and behind those the ones that lead nowhere
 abbrev pub lost_added : Items → Scope → (direct : List (List Glob)) → List (List Glob)
-lost_added items scope direct = with_globs (lost_target items scope) 0 items.uses.items direct
+lost_added items scope direct = with_globs (lost_target scope) 0 items.uses.items direct
 
 -- a way that leads to nothing that is read
 abbrev pub lost_way : Way
@@ -130,16 +129,17 @@ module _ (items : Items) where
 abbrev pub none_direct : Items → List (List Glob)
 none_direct items = map (λ m. []) items.modules.items
 
--- each module has the ways that begin with its own globs
-abbrev pub Reaches : Items → (direct : List (List Glob)) → Scope → Type 0
-Reaches items direct scope = (m : ℕ) → reached_from scope m ≡ led_to items direct (list_at direct m)
+-- each module has the ways that begin with its own globs, and each use brings in what it names by these
+pub record Leads (items : Items) (direct : List (List Glob)) (scope : Scope) : Type 0 where
+  pub ways : (m : ℕ) → reached_from scope m ≡ led_to items direct (list_at direct m)
+  pub targets : scope.use_targets.items ≡ use_targets items scope most_uses
 
 -- the scope after so many rounds, and each module's own globs then: in each round names stand as the scope
 -- says that the round before left
 pub data AreRounds (items : Items) : (rounds : ℕ) → (direct : List (List Glob)) → Scope → Type 0 where
-  no_round : (scope : Scope) → ((m : ℕ) → reached_from scope m ≡ []) → AreRounds items 0 (none_direct items) scope
+  no_round : (scope : Scope) → Leads items (none_direct items) scope → AreRounds items 0 (none_direct items) scope
   round : (rounds : ℕ) (direct : List (List Glob)) (before after : Scope) → AreRounds items rounds direct before
-      → HasSameNames before after → Reaches items (globs_added items before direct) after
+      → HasSameNames before after → Leads items (globs_added items before direct) after
       → AreRounds items (rounds + 1) (globs_added items before direct) after
 
 -- rounds were made until no glob led further, or as many as there are uses and one more
@@ -154,4 +154,4 @@ pub record KeepsGlobs (items : Items) (scope : Scope) : Type 0 where
   pub before : Scope
   pub followed : AreFollowed items direct before
   pub same : HasSameNames before scope
-  pub leads : Reaches items (lost_added items before direct) scope
+  pub leads : Leads items (lost_added items before direct) scope

@@ -1,5 +1,5 @@
 -- What paths name.
-use Rattle.std.specs.Prelude.{ℕ, zero, suc, nat_eq, Bool, true, false, List, [], ◌∷◌, length, map, not, slice_get, is_some, ◌&&◌, ◌||◌, Option, Some, None, if◌then◌else◌}
+use Rattle.std.specs.Prelude.{ℕ, zero, suc, ◌+◌, nat_eq, Bool, true, false, List, [], ◌∷◌, length, map, not, slice_get, is_some, ◌&&◌, ◌||◌, Option, Some, None, if◌then◌else◌}
 use Rattle.std.specs.Option.{option_and_then, option_map, option_or}
 use Rattle.rust_source.specs.declared.item.Items.{Items}
 use Rattle.rust_source.specs.declared.item.Use.{Use}
@@ -15,8 +15,9 @@ use Rattle.abi_rust.specs.declared.paths.Seen.{Seen}
 use Rattle.abi_rust.specs.declared.paths.Space.{Space}
 use Rattle.abi_rust.specs.declared.paths.Space.TheVariants.{Types, Values}
 use Rattle.abi_rust.specs.declared.scope.Scope.{Scope}
+use Rattle.abi_rust.specs.declared.use_targets.UseTarget.{UseTarget}
 use Rattle.abi_rust.specs.declared.ways.Way.{Way}
-use Rattle.abi_rust.specs.Scope.{constant_standing, leads_nowhere, module_in, reached_from, several, type_standing, use_in}
+use Rattle.abi_rust.specs.Scope.{constant_standing, leads_nowhere, module_in, numbered, reached_from, several, type_standing, use_in}
 use Rattle.abi_rust.specs.Visible.{is_visible, most_modules, parent}
 use Rattle.abi_rust.specs.Ways.{all_along, is_way_visible}
 use Rattle.abi_rust.specs.Words.{is_std, primitive_named, is_same_name}
@@ -24,6 +25,20 @@ use Rattle.abi_rust.specs.Words.{is_std, primitive_named, is_same_name}
 -- how many uses may lead from one to another
 unfoldable pub most_uses : ℕ
 most_uses = 32
+
+-- what a use brings in, of these names
+abbrev pub of_space : Space → UseTarget → Option Found
+of_space Types brought = brought.types
+of_space Values brought = brought.values
+
+-- what the use of this number is known to bring in, of these names
+abbrev pub target_in : List UseTarget → (use_number : ℕ) → Space → Option Found
+target_in known u space = option_and_then (of_space space) (slice_get known u)
+
+-- what each of these uses brings in, of which the first has this number
+abbrev pub targets_on : (target_of : (use_number : ℕ) → Use → UseTarget) → (use_number : ℕ) → List Use → List UseTarget
+targets_on target_of n [] = []
+targets_on target_of n (used ∷ uses) = target_of (numbered n) used ∷ targets_on target_of (n + 1) uses
 
 -- the root of the module above, or this one where none is above
 abbrev pub root_above : (go_on : ℕ → ℕ) → (inside : ℕ) → Option ℕ → ℕ
@@ -131,6 +146,10 @@ is_usable (Some found) = true
 abbrev pub import_of : (found other : Option Found) → Option Found
 import_of found other = if is_usable found then found else (if is_usable other then None else option_or found (Some Unknown))
 
+-- the item that a use leads to, or else one that isn't known, unless it leads to one of the other names
+abbrev pub imported : (brought : (use_number : ℕ) → Space → Option Found) → (use_number : ℕ) → Space → Option Found
+imported brought u space = import_of (brought u space) (brought u (other_space space))
+
 -- what a module has of its own, as another one sees it
 abbrev pub seen_own : Items → (from : ℕ) → OwnName → Seen
 seen_own items from own = record { found = own.found; is_visible = is_visible items own.visible_in from }
@@ -171,13 +190,9 @@ perhaps items scope m a =
 
 module _ (items : Items) (scope : Scope) where
   module _ (brought : (use_number : ℕ) → Space → Option Found) where
-    -- the item that a use leads to, or else one that isn't known, unless it leads to one of the other names
-    abbrev pub imported : (use_number : ℕ) → Space → Option Found
-    imported u space = import_of (brought u space) (brought u (other_space space))
-
     -- what a use brings in, with where it may be used
     abbrev pub own_import : Asked → (use_number : ℕ) → Option OwnName
-    own_import a u = option_map (λ found. record { found = found; visible_in = visibility_of_use items u }) (imported u a.space)
+    own_import a u = option_map (λ found. record { found = found; visible_in = visibility_of_use items u }) (imported brought u a.space)
 
     -- what the use of a name brings in, but for the one that counts for nothing; of several uses it is ambiguous
     abbrev pub used_by : Asked → Option ℕ → Option OwnName
@@ -272,19 +287,22 @@ module _ (items : Items) (scope : Scope) where
     path_named (suc count) m is_global space skipped (name ∷ names) =
         behind_all count m space (first (asking m name (space_before count space) skipped) is_global) names
 
-    abbrev pub target_by : (use_number : ℕ) → Space → Option Use → Option Found
-    target_by u space None = None
-    target_by u space (Some used) =
+    -- what a use brings in, by those that its path goes through
+    unfoldable pub target_with : (use_number : ℕ) → Use → Space → Option Found
+    target_with u used space =
         path_named (length used.path.items) used.«module» used.is_global space (Some u) (map (λ n. n.name) used.path.items)
 
-    -- what a use brings in, by those that its path goes through
-    unfoldable pub target_with : (use_number : ℕ) → Space → Option Found
-    target_with u space = target_by u space (slice_get items.uses.items u)
+  -- what a use brings in, by what others are known to; a glob leads to a module, and to no constant
+  abbrev pub use_target : (known : List UseTarget) → (use_number : ℕ) → Use → UseTarget
+  use_target known u used = record {
+    types = target_with (target_in known) u used Types;
+    values = if used.is_glob then None else target_with (target_in known) u used Values;
+  }
 
-  -- what a use brings in, where so many lead from one to another
-  unfoldable pub target : (room : ℕ) → (use_number : ℕ) → Space → Option Found
-  target zero u space = None
-  target (suc room) u space = target_with (target room) u space
+  -- what each use brings in, where so many lead from one to another
+  unfoldable pub use_targets : (most : ℕ) → List UseTarget
+  use_targets zero = []
+  use_targets (suc most) = targets_on (use_target (use_targets most)) 0 items.uses.items
 
   -- the primitive type of a name that names a module too, which a type can't be
   abbrev pub beside_module : (count : ℕ) → Space → List Symbol → Option Found → Option Found
@@ -296,7 +314,7 @@ module _ (items : Items) (scope : Scope) where
   unfoldable pub found_of : (inside : ℕ) → Path → (count : ℕ) → Space → Option Found
   found_of m p count space =
       beside_module count space (names_in_path p)
-      (path_named (target most_uses) count m (out-Path p).is_global space None (names_in_path p))
+      (path_named (target_in scope.use_targets.items) count m (out-Path p).is_global space None (names_in_path p))
 
   -- what a path names in a module
   abbrev pub found : (inside : ℕ) → Path → Space → Option Found

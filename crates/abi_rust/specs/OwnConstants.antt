@@ -9,7 +9,8 @@ use Rattle.rust_source.specs.declared.place.Symbol.{Symbol}
 use Rattle.rust_source.specs.declared.syntax.Path.{Path, out-Path}
 use Rattle.abi_rust.specs.declared.scope.Scope.{Scope}
 use Rattle.abi_rust.specs.Kinds.{type_named}
-use Rattle.abi_rust.specs.Standing.{ModuleName, first_so, is_module_number, numbered}
+use Rattle.abi_rust.specs.Standing.{ModuleName, first_so, is_module_number}
+use Rattle.abi_rust.specs.Scope.{numbered}
 
 -- what the last of these tells that has the number, the first of which stands at this index
 abbrev pub last_told : {A B : Type 0} → (A → Option B) → (index number : ℕ) → List A → Option B

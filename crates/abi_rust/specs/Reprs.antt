@@ -1,5 +1,5 @@
 -- What is wrong with a repr.
-use Rattle.std.specs.Prelude.{ℕ, bit_or, length, Bool, true, false, cond, ◌&&◌, ◌||◌, not, nat_eq, is_some, Option, Some, None, Result, Ok, Err, if◌then◌else◌}
+use Rattle.std.specs.Prelude.{ℕ, bit_or, length, Bool, true, false, List, cond, ◌&&◌, ◌||◌, not, nat_eq, is_some, Option, Some, None, Result, Ok, Err, if◌then◌else◌}
 use Rattle.std.specs.Option.{option_map}
 use Rattle.abi_base.specs.Align.{align_of_bytes}
 use Rattle.abi_base.specs.declared.align.AlignFromBytesError.{AlignFromBytesError}
@@ -7,26 +7,29 @@ use Rattle.abi_scalar.specs.declared.repr.ReprFlags.{ReprFlags}
 use Rattle.abi_scalar.specs.declared.repr.ReprOptions.{ReprOptions}
 use Rattle.rust_source.specs.declared.item.Item.{Item}
 use Rattle.rust_source.specs.declared.item.ItemKind.{ItemKind}
-use Rattle.rust_source.specs.declared.item.ItemKind.TheVariants.{Enum as EnumItem}
+use Rattle.rust_source.specs.declared.item.ItemKind.TheVariants.{Enum as EnumItem, Union as UnionItem}
 use Rattle.rust_source.specs.declared.item.Repr.{Repr}
+use Rattle.rust_source.specs.declared.item.Variant.{Variant}
 use Rattle.rust_source.specs.declared.place.Place.{Place}
+use Rattle.abi_rust.specs.Aligned.{all_units}
 use Rattle.abi_rust.specs.Meaning.{Meaning, then_meant, fault_at}
 use Rattle.abi_rust.specs.Scalars.{type_of_kind}
 use Rattle.rust_source.specs.declared.fault.SourceFaultKind.TheVariants.{OutOfMemory as SourceOutOfMemory}
 use Rattle.rustc_abi.specs.declared.error.LayError.TheVariants.{OutOfMemory as LayOutOfMemory}
 use Rattle.abi_rust.specs.declared.fault.FaultKind.{FaultKind}
-use Rattle.abi_rust.specs.declared.fault.FaultKind.TheVariants.{BadAlignment, OutOfMemory, RustBeside, Simd, Source, Layout, PackedApart, TransparentBeside, PackedEnum, ReprWithoutVariants, TransparentFields, IntegerRepr, PackedAndAligned}
+use Rattle.abi_rust.specs.declared.fault.FaultKind.TheVariants.{BadAlignment, OutOfMemory, RustBeside, Simd, Source, Layout, PackedApart, TransparentBeside, PackedEnum, ReprWithoutVariants, TransparentFields, TransparentUnion, IntegerBesideC, IntegerRepr, PackedAndAligned}
 
 -- it asks for something beside transparent
 abbrev pub asks_beside : Repr → Bool
 asks_beside r = r.c || r.rust || is_some r.integer || is_some r.packed || is_some r.align
 
--- what is wrong with it on an enum of so many variants
-abbrev pub repr_fault_of_enum : Repr → (variants : ℕ) → Option FaultKind
+-- what is wrong with it on an enum of these variants
+abbrev pub repr_fault_of_enum : Repr → List Variant → Option FaultKind
 repr_fault_of_enum r variants =
     cond (is_some r.packed) (Some PackedEnum)
-    (cond (nat_eq variants 0) (Some ReprWithoutVariants)
-    (cond (r.transparent && not (nat_eq variants 1)) (Some TransparentFields) None))
+    (cond (nat_eq (length variants) 0) (Some ReprWithoutVariants)
+    (cond (r.transparent && not (nat_eq (length variants) 1)) (Some TransparentFields)
+    (cond (r.c && is_some r.integer && all_units variants) (Some IntegerBesideC) None)))
 
 -- what is wrong with it on a struct or a union
 abbrev pub repr_fault_of_fields : Repr → Option FaultKind
@@ -46,7 +49,8 @@ is_want_of_memory _ = false
 
 -- what is wrong with it on a kind of item
 abbrev pub kind_fault : Repr → ItemKind → Option FaultKind
-kind_fault r (EnumItem all) = repr_fault_of_enum r (length all.variants.items)
+kind_fault r (EnumItem all) = repr_fault_of_enum r all.variants.items
+kind_fault r (UnionItem fields) = cond r.transparent (Some TransparentUnion) (repr_fault_of_fields r)
 kind_fault r _ = repr_fault_of_fields r
 
 -- what the compiler finds wrong with it

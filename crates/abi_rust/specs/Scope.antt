@@ -1,5 +1,5 @@
 -- What the names of modules are.
-use Rattle.std.specs.Prelude.{ℕ, ◌-◌, ◌^◌, ◌&&◌, nat_eq, Bool, List, [], slice_get, Option, Some, None, Vec}
+use Rattle.std.specs.Prelude.{ℕ, ◌-◌, ◌^◌, ◌&&◌, min, nat_eq, Bool, List, [], slice_get, Option, Some, None, Vec}
 use Rattle.std.specs.List.{list_any}
 use Rattle.indexmap.specs.IndexMap.{get}
 use Rattle.rust_source.specs.declared.item.Items.{Items}
@@ -7,6 +7,10 @@ use Rattle.rust_source.specs.declared.place.Symbol.{Symbol}
 use Rattle.abi_rust.specs.declared.scope.Scope.{Scope}
 use Rattle.abi_rust.specs.declared.ways.Way.{Way}
 use Rattle.abi_rust.specs.Ways.{is_way_visible}
+
+-- the number of what stands at an index: there are fewer than 2^32 of each kind, since each is written somewhere
+abbrev pub numbered : (index : ℕ) → ℕ
+numbered i = min i (2 ^ 32 - 1)
 
 -- two names of modules are one
 abbrev pub same_key : (ℕ × ℕ) → (ℕ × ℕ) → Bool

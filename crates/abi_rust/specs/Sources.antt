@@ -62,6 +62,11 @@ abbrev pub place_of_item : Sources → Option Item → FaultPlace
 place_of_item s None = Nowhere
 place_of_item s (Some it) = place_in_sources s it.at.0
 
+-- where the first attribute of an item stands that isn't known, if it has one
+abbrev pub place_of_attribute : Sources → Option Item → FaultPlace
+place_of_attribute s None = Nowhere
+place_of_attribute s (Some it) = place_told s it.unknown_attribute
+
 -- the name of a module, with `::` behind, and those around it before it; of a root nothing
 abbrev pub module_told : Names → (outer : (inside : ℕ) → List ℕ) → Symbol → (parent : Option ℕ) → List ℕ
 module_told names outer name None = []

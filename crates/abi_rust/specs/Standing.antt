@@ -10,16 +10,12 @@ use Rattle.rust_source.specs.declared.place.Symbol.{Symbol}
 use Rattle.abi_rust.specs.declared.fault.FaultKind.TheVariants.{OutOfMemory, RepeatedConstant, RepeatedType}
 use Rattle.abi_rust.specs.declared.fault.Stop.{Stop}
 use Rattle.abi_rust.specs.declared.fault.Stop.TheVariants.{Fault}
-use Rattle.abi_rust.specs.Scope.{same_key, several}
+use Rattle.abi_rust.specs.Scope.{numbered, same_key, several}
 use Rattle.abi_rust.specs.Sources.{is_type}
 
 -- a name in a module: the module's number, and the name's
 abbrev pub ModuleName : Type 0
 ModuleName = ℕ × ℕ
-
--- the number of what stands at an index: there are fewer than 2^32 of each kind, since each is written somewhere
-abbrev pub numbered : (index : ℕ) → ℕ
-numbered i = min i (2 ^ 32 - 1)
 
 -- the number of the last of these that is so, the first of which stands at this index
 abbrev pub last_so : {A : Type 0} → (A → Bool) → (index : ℕ) → List A → Option ℕ

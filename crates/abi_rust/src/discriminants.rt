@@ -84,21 +84,21 @@ fn is_castable(kind: &ItemKind, index: usize) -> bool
     }
 }
 
-/// Whether the variant of this number has no parentheses.
+/// Whether the variant of this number is a name alone.
 fn is_unit_at(variants: &[Variant], index: usize) -> bool
     ensures { result ≡ is_unit_at (slice_get variants.now index) }
 {
     match variants.get(index) {
-        Some(variant) => !variant.fields.is_tuple,
+        Some(variant) => variant.fields.is_unit,
         None => false,
     }
 }
 
-/// Whether a variant has no fields, and parentheses only where no discriminant is written.
+/// Whether a variant has no fields, and parentheses or braces only where no discriminant is written.
 fn is_fieldless(variant: &Variant) -> bool
     ensures { result ≡ is_fieldless variant.now }
 {
-    variant.fields.all.is_empty() && !(variant.fields.is_tuple && variant.discriminant.is_some())
+    variant.fields.all.is_empty() && (variant.fields.is_unit || variant.discriminant.is_none())
 }
 
 /// Whether each of these variants is so.

@@ -80,6 +80,10 @@ pub enum FaultKind {
     PackedEnum,
     /// An integer as the repr of a struct or a union.
     IntegerRepr,
+    /// `transparent` on a union, which the stable language hasn't.
+    TransparentUnion,
+    /// An integer beside `C` as the repr of an enum whose variants are names alone.
+    IntegerBesideC,
     /// A repr of an enum without variants.
     ReprWithoutVariants,
     /// A packed type contains one with `align`.

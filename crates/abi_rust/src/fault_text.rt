@@ -107,6 +107,9 @@ fn plain_text(kind: FaultKind) -> &'static str {
         FaultKind::TransparentBeside => "`transparent` stands alone",
         FaultKind::TransparentFields =>
             "`transparent` wants one field that takes room, or one variant",
+        FaultKind::TransparentUnion => "a union can't be `transparent`",
+        FaultKind::IntegerBesideC =>
+            "`C` doesn't go with an integer where no variant has fields",
         FaultKind::PackedAndAligned => "`packed` doesn't go with `align`",
         FaultKind::PackedApart => "`packed` is asked for with two sizes",
         FaultKind::PackedEnum => "an enum can't be `packed`",

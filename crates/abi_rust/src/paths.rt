@@ -1,20 +1,18 @@
 //! What a path names.
 
-ghost use Rattle.std.specs.Prelude.{◌≡◌, ◌+◌, IfNone, IfSome, None, length, map, slice_get};
+ghost use Rattle.std.specs.Prelude.{◌≡◌, None, slice_get};
 ghost use Rattle.std.specs.Option.{option_copied};
 ghost use Rattle.rust_source.specs.declared.syntax.Path.{out-Path};
 ghost use Rattle.abi_rust.specs.Kinds.{found_by, most_aliases, type_named};
-ghost use Rattle.abi_rust.specs.Names.{agreed, along, ambiguous, among, asking, behind_module, beside_module, crate_above, declared, first, found, found_of, imported, is_open, is_usable, most_uses, named_behind, names_in_path, one_of, other_space, own, own_item, own_module, path_named, perhaps, root, seen_own, shown, space_before, standing_or_import, target, target_with, used_by, visibility_of_item, visibility_of_module, visibility_of_use, within};
+ghost use Rattle.abi_rust.specs.Names.{agreed, along, ambiguous, among, asking, behind_module, beside_module, crate_above, declared, first, found, found_of, imported, is_open, is_usable, named_behind, names_in_path, one_of, other_space, own, own_item, own_module, path_named, perhaps, root, seen_own, shown, space_before, standing_or_import, target_in, target_with, used_by, visibility_of_item, visibility_of_module, visibility_of_use, within};
 
 use crate::scope::Scope;
 use crate::standing::SEVERAL;
 use crate::ty::Primitive;
+use crate::use_targets::{UseTarget, target_in};
 use crate::visible::{is_visible, most_modules, parent_of};
 use crate::ways::{Way, is_way_visible, way_at};
 use rust_source::{Item, ItemKind, Items, Path, Symbol, Type, Use};
-
-/// How many uses may lead from one to another.
-const MOST_USES: u32 = 32;
 
 /// How many aliases may lead from one to another.
 const MOST_ALIASES: u32 = 64;
@@ -127,7 +125,7 @@ pub(crate) fn find_of(
 ) -> Option<Found>
     ensures { result ≡ found_of items.now scope.now «module» path.now count space }
 {
-    let found = names_named(items, scope, module, path, count, space, most_uses());
+    let found = names_named(items, scope, module, path, count, space);
     beside_module(items, scope, path, count, space, found)
 }
 
@@ -139,23 +137,23 @@ fn names_named(
     path: &Path,
     count: usize,
     space: Space,
-    room: u32,
 ) -> Option<Found>
-    ensures { result ≡ path_named items.now scope.now (target items.now scope.now room)
+    ensures { result ≡ path_named items.now scope.now (target_in scope.now.use_targets.items)
         count «module» (out-Path path.now).is_global space None (names_in_path path.now) }
 {
+    let targets = scope.use_targets.as_slice();
     let mut left = count.checked_sub(1)?;
     let (begin, rest) = path.segments.as_slice().split_first()?;
     let first_space = space_before(left, space);
     let begins = asking(module, begin.name, first_space, None);
-    let mut found = first(items, scope, begins, path.is_global, room);
+    let mut found = first(items, scope, targets, begins, path.is_global);
     for segment in rest {
         let Some(fewer) = left.checked_sub(1) else {
             break;
         };
         left = fewer;
         let asked = asking(module, segment.name, space_before(left, space), None);
-        found = behind(items, scope, found, asked, room);
+        found = behind(items, scope, targets, found, asked);
     }
     found
 }
@@ -234,21 +232,6 @@ fn space_before(behind: usize, space: Space) -> Space
     if behind == 0 { space } else { Space::Types }
 }
 
-/// How many uses may lead from one to another.
-#[tactic(auto, unfolding(crate::specs::Names::most_uses))]
-fn most_uses() -> u32
-    ensures { result ≡ most_uses }
-{
-    MOST_USES
-}
-
-/// The use of this number.
-fn use_at(items: &Items, number: u32) -> Option<&Use>
-    ensures { option_copied result ≡ slice_get items.now.uses.items number }
-{
-    items.uses.get(number as usize)
-}
-
 /// The item of this number.
 pub(crate) fn item_at(items: &Items, number: u32) -> Option<&Item>
     ensures { option_copied result ≡ slice_get items.now.items.items number }
@@ -256,71 +239,31 @@ pub(crate) fn item_at(items: &Items, number: u32) -> Option<&Item>
     items.items.get(number as usize)
 }
 
-/// One less room, if there is some.
-fn less(room: u32) -> Option<u32>
-    ensures some { IfSome result (λ left. left + 1 ≡ room) }
-    ensures none { IfNone result (room ≡ 0) }
-{
-    room.checked_sub(1)
-}
-
-/// What a use brings in, if anything.
-pub(crate) fn target_of(items: &Items, scope: &Scope, number: u32, space: Space) -> Option<Found>
-    ensures { result ≡ target items.now scope.now most_uses number space }
-{
-    follow(items, scope, number, space, most_uses())
-}
-
-/// What a use brings in, if anything.
-#[cycle(names)]
-#[tactic(auto, using(crate::proofs::Rooms::target_less, crate::proofs::Rooms::target_none))]
-fn follow(items: &Items, scope: &Scope, number: u32, space: Space, room: u32) -> Option<Found>
-    ensures { result ≡ target items.now scope.now room number space }
-{
-    match less(room) {
-        Some(room) => follow_use(items, scope, number, space, room),
-        None => None,
-    }
-}
-
-/// What a use brings in, by those that its path goes through.
-#[cycle(names)]
+/// What a use brings in, by what others do.
 #[tactic(auto, unfolding(crate::specs::Names::target_with))]
-fn follow_use(items: &Items, scope: &Scope, number: u32, space: Space, room: u32) -> Option<Found>
-    ensures { result ≡ target_with items.now scope.now (target items.now scope.now room) number space }
-{
-    match use_at(items, number) {
-        Some(used) => follow_names(items, scope, used, number, space, room),
-        None => None,
-    }
-}
-
-/// What the names of a use name.
-#[cycle(names)]
-fn follow_names(
+pub(crate) fn target_of(
     items: &Items,
     scope: &Scope,
-    used: &Use,
+    targets: &[UseTarget],
     number: u32,
+    used: &Use,
     space: Space,
-    room: u32,
 ) -> Option<Found>
     ensures { result
-        ≡ path_named items.now scope.now (target items.now scope.now room) (length used.now.path.items)
-        used.now.«module» used.now.is_global space (Some number) (map (λ n. n.name) used.now.path.items) }
+        ≡ target_with items.now scope.now (target_in targets.now) number used.now space }
 {
     let mut left = used.path.len().checked_sub(1)?;
     let (begin, rest) = used.path.as_slice().split_first()?;
     let first_space = space_before(left, space);
     let begins = asking(used.module, begin.name, first_space, Some(number));
-    let mut found = first(items, scope, begins, used.is_global, room);
+    let mut found = first(items, scope, targets, begins, used.is_global);
     for name in rest {
         let Some(fewer) = left.checked_sub(1) else {
             break;
         };
         left = fewer;
         let asked = asking(used.module, name.name, space_before(left, space), None);
-        found = behind(items, scope, found, asked, room);
+        found = behind(items, scope, targets, found, asked);
     }
     found
 }
@@ -338,10 +281,9 @@ fn asking(from: u32, name: Symbol, space: Space, skipped: Option<u32>) -> Asked
 }
 
 /// What a path's first name names in the module that asks.
-#[cycle(names)]
 #[tactic(auto, unfolding(crate::specs::Names::first))]
-fn first(items: &Items, scope: &Scope, asked: Asked, is_global: bool, room: u32) -> Option<Found>
-    ensures { result ≡ first items.now scope.now (target items.now scope.now room) asked is_global }
+fn first(items: &Items, scope: &Scope, targets: &[UseTarget], asked: Asked, is_global: bool) -> Option<Found>
+    ensures { result ≡ first items.now scope.now (target_in targets.now) asked is_global }
 {
     if asked.name == Symbol::CRATE {
         return Some(crate_above(items, asked.from));
@@ -353,14 +295,14 @@ fn first(items: &Items, scope: &Scope, asked: Asked, is_global: bool, room: u32)
         return Some(Found::Module(parent_of(items, asked.from)?));
     }
     if !is_global {
-        if let Some(found) = within(items, scope, asked.from, asked, room) {
+        if let Some(found) = within(items, scope, targets, asked.from, asked) {
             return Some(found);
         }
         if let Some(found) = perhaps(items, scope, asked.from, asked) {
             return Some(found);
         }
         if let Some(prelude) = scope.prelude() {
-            if let Some(found) = within(items, scope, prelude, asked, room) {
+            if let Some(found) = within(items, scope, targets, prelude, asked) {
                 return Some(found);
             }
         }
@@ -372,19 +314,18 @@ fn first(items: &Items, scope: &Scope, asked: Asked, is_global: bool, room: u32)
 }
 
 /// What a name behind another names.
-#[cycle(names)]
 #[tactic(auto, unfolding(crate::specs::Names::named_behind))]
 fn behind(
     items: &Items,
     scope: &Scope,
+    targets: &[UseTarget],
     before: Option<Found>,
     asked: Asked,
-    room: u32,
 ) -> Option<Found>
-    ensures { result ≡ named_behind items.now scope.now (target items.now scope.now room) before asked }
+    ensures { result ≡ named_behind items.now scope.now (target_in targets.now) before asked }
 {
     match before {
-        Some(Found::Module(module)) => behind_module(items, scope, module, asked, room),
+        Some(Found::Module(module)) => behind_module(items, scope, targets, module, asked),
         Some(Found::Unknown) => before,
         Some(Found::Hidden(_)) => before,
         Some(Found::Ambiguous(_)) => before,
@@ -393,15 +334,14 @@ fn behind(
 }
 
 /// What a name behind a module's names.
-#[cycle(names)]
 fn behind_module(
     items: &Items,
     scope: &Scope,
+    targets: &[UseTarget],
     module: u32,
     asked: Asked,
-    room: u32,
 ) -> Option<Found>
-    ensures { result ≡ behind_module items.now scope.now (target items.now scope.now room) asked «module» }
+    ensures { result ≡ behind_module items.now scope.now (target_in targets.now) asked «module» }
 {
     if asked.name == Symbol::SUPER {
         return Some(Found::Module(parent_of(items, module)?));
@@ -409,7 +349,7 @@ fn behind_module(
     if asked.name == Symbol::SELF {
         return Some(Found::Module(module));
     }
-    match within(items, scope, module, asked, room) {
+    match within(items, scope, targets, module, asked) {
         Some(found) => Some(found),
         None => perhaps(items, scope, module, asked),
     }
@@ -428,14 +368,13 @@ fn perhaps(items: &Items, scope: &Scope, module: u32, asked: Asked) -> Option<Fo
 }
 
 /// What a name names in a module: what it has of its own, or else what its globs bring in.
-#[cycle(names)]
 #[tactic(auto, unfolding(crate::specs::Names::within))]
-fn within(items: &Items, scope: &Scope, module: u32, asked: Asked, room: u32) -> Option<Found>
-    ensures { result ≡ within items.now scope.now (target items.now scope.now room) «module» asked }
+fn within(items: &Items, scope: &Scope, targets: &[UseTarget], module: u32, asked: Asked) -> Option<Found>
+    ensures { result ≡ within items.now scope.now (target_in targets.now) «module» asked }
 {
-    let seen = match own(items, scope, module, asked, room) {
+    let seen = match own(items, scope, targets, module, asked) {
         Some(own) => seen_own(items, own, asked.from),
-        None => among(items, scope, scope.reached(module), asked, room)?,
+        None => among(items, scope, targets, scope.reached(module), asked)?,
     };
     Some(shown(asked.name, seen))
 }
@@ -462,14 +401,13 @@ fn shown(name: Symbol, seen: Seen) -> Found
 }
 
 /// What a name names by the ways of a module's globs, together.
-#[cycle(names)]
-fn among(items: &Items, scope: &Scope, ways: &[Way], asked: Asked, room: u32) -> Option<Seen>
+fn among(items: &Items, scope: &Scope, targets: &[UseTarget], ways: &[Way], asked: Asked) -> Option<Seen>
     ensures { result
-        ≡ among items.now scope.now (target items.now scope.now room) ways.now asked None ways.now }
+        ≡ among items.now scope.now (target_in targets.now) ways.now asked None ways.now }
 {
     let mut all = None;
     for way in ways {
-        let seen = along(items, scope, ways, *way, asked, room);
+        let seen = along(items, scope, targets, ways, *way, asked);
         all = agreed(asked.name, all, seen);
     }
     all
@@ -506,19 +444,18 @@ fn one_of(name: Symbol, one: Found, other: Found) -> Found
 
 /// What a way of globs brings under a name: what the module at its end has of its own, unless a glob of the way doesn't
 /// see it, or a module before has the name of its own.
-#[cycle(names)]
 fn along(
     items: &Items,
     scope: &Scope,
+    targets: &[UseTarget],
     ways: &[Way],
     way: Way,
     asked: Asked,
-    room: u32,
 ) -> Option<Seen>
-    ensures { result ≡ along items.now scope.now (target items.now scope.now room) ways.now asked way }
+    ensures { result ≡ along items.now scope.now (target_in targets.now) ways.now asked way }
 {
-    let own = own(items, scope, way.glob.target, asked, room)?;
-    if !is_open(items, scope, ways, way, own.visible_in, asked, room) {
+    let own = own(items, scope, targets, way.glob.target, asked)?;
+    if !is_open(items, scope, targets, ways, way, own.visible_in, asked) {
         return None;
     }
     Some(Seen {
@@ -529,19 +466,18 @@ fn along(
 }
 
 /// Whether each module that a way's globs stand in sees what is visible in that module, and has no such name of its own.
-#[cycle(names)]
 #[tactic(auto, using(crate::proofs::WayLemmas::on_next, crate::proofs::WayLemmas::on_not, crate::proofs::WayLemmas::on_end, crate::proofs::WayLemmas::on_done))]
 fn is_open(
     items: &Items,
     scope: &Scope,
+    targets: &[UseTarget],
     ways: &[Way],
     way: Way,
     visible_in: Option<u32>,
     asked: Asked,
-    room: u32,
 ) -> bool
     ensures { result
-        ≡ is_open items.now scope.now (target items.now scope.now room) ways.now asked way visible_in }
+        ≡ is_open items.now scope.now (target_in targets.now) ways.now asked way visible_in }
 {
     let mut last = Some(way);
     for turn in 0..ways.len() {
@@ -551,7 +487,7 @@ fn is_open(
         if !is_visible(items, visible_in, way.glob.inside) {
             return false;
         }
-        if own(items, scope, way.glob.inside, asked, room).is_some() {
+        if own(items, scope, targets, way.glob.inside, asked).is_some() {
             return false;
         }
         last = way_at(ways, way.before);
@@ -560,17 +496,16 @@ fn is_open(
 }
 
 /// What a name names in a module without its globs.
-#[cycle(names)]
 #[tactic(auto, unfolding(crate::specs::Names::own))]
-fn own(items: &Items, scope: &Scope, module: u32, asked: Asked, room: u32) -> Option<OwnName>
-    ensures { result ≡ own items.now scope.now (target items.now scope.now room) «module» asked }
+fn own(items: &Items, scope: &Scope, targets: &[UseTarget], module: u32, asked: Asked) -> Option<OwnName>
+    ensures { result ≡ own items.now scope.now (target_in targets.now) «module» asked }
 {
     let standing = declared(items, scope, module, asked.name, asked.space);
     let number = scope.used(module, asked.name);
     standing_or_import(
         asked.name,
         standing,
-        brought_in(items, scope, number, asked, room),
+        brought_in(items, scope, targets, number, asked),
     )
 }
 
@@ -603,15 +538,14 @@ fn ambiguous(name: Symbol) -> OwnName
 }
 
 /// What the use of this number brings in, but for the one that counts for nothing.
-#[cycle(names)]
 fn brought_in(
     items: &Items,
     scope: &Scope,
+    targets: &[UseTarget],
     number: Option<u32>,
     asked: Asked,
-    room: u32,
 ) -> Option<OwnName>
-    ensures { result ≡ used_by items.now scope.now (target items.now scope.now room) asked number }
+    ensures { result ≡ used_by items.now scope.now (target_in targets.now) asked number }
 {
     let number = number?;
     if number == SEVERAL {
@@ -620,7 +554,7 @@ fn brought_in(
     if asked.skipped == Some(number) {
         return None;
     }
-    let found = imported(items, scope, number, asked.space, room)?;
+    let found = imported(targets, number, asked.space)?;
     Some(OwnName {
         found,
         visible_in: visibility_of_use(items, number),
@@ -629,15 +563,14 @@ fn brought_in(
 
 /// What the use of this number brings in: the item that it leads to, or else one that isn't known, unless it leads to
 /// one of the other names.
-#[cycle(names)]
-fn imported(items: &Items, scope: &Scope, number: u32, space: Space, room: u32) -> Option<Found>
-    ensures { result ≡ imported items.now scope.now (target items.now scope.now room) number space }
+fn imported(targets: &[UseTarget], number: u32, space: Space) -> Option<Found>
+    ensures { result ≡ imported (target_in targets.now) number space }
 {
-    let found = follow(items, scope, number, space, room);
+    let found = target_in(targets, number, space);
     if is_usable(found) {
         return found;
     }
-    if is_usable(follow(items, scope, number, other_space(space), room)) {
+    if is_usable(target_in(targets, number, other_space(space))) {
         return None;
     }
     match found {

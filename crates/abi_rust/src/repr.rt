@@ -7,12 +7,13 @@ ghost use Rattle.abi_rust.specs.Meaning.{Means};
 ghost use Rattle.abi_rust.specs.Reprs.{alignment_asked, asks_beside, repr_fault_of_enum, repr_fault_of_fields, flags_of, no_repr, repr_by, repr_fault, repr_of};
 
 use crate::fault::{FaultKind, Stop, stop_at};
+use crate::repr_fields::all_units;
 use crate::scalars::integer_type;
 use abi_base::{Align, IntegerType};
 use abi_index::Hash64;
 use abi_scalar::{ReprFlags, ReprOptions};
 use bitflags::Flags;
-use rust_source::{IntegerKind, Item, ItemKind, Place, Repr};
+use rust_source::{IntegerKind, Item, ItemKind, Place, Repr, Variant};
 
 /// What asks for nothing.
 pub(crate) fn plain() -> ReprOptions
@@ -116,7 +117,8 @@ fn fault_of(repr: &Repr, kind: &ItemKind) -> Option<FaultKind>
         return Some(FaultKind::RustBeside);
     }
     match kind {
-        ItemKind::Enum(all) => fault_on_enum(repr, all.variants.len()),
+        ItemKind::Enum(all) => fault_on_enum(repr, all.variants.as_slice()),
+        ItemKind::Union(_) if repr.transparent => Some(FaultKind::TransparentUnion),
         _ => fault_on_fields(repr),
     }
 }
@@ -128,18 +130,21 @@ fn asks_else(repr: &Repr) -> bool
     repr.c || repr.rust || repr.integer.is_some() || repr.packed.is_some() || repr.align.is_some()
 }
 
-/// What is wrong with a repr on an enum of so many variants.
-fn fault_on_enum(repr: &Repr, variants: usize) -> Option<FaultKind>
-    ensures { result ≡ repr_fault_of_enum repr.now variants }
+/// What is wrong with a repr on an enum of these variants.
+fn fault_on_enum(repr: &Repr, variants: &[Variant]) -> Option<FaultKind>
+    ensures { result ≡ repr_fault_of_enum repr.now variants.now }
 {
     if repr.packed.is_some() {
         return Some(FaultKind::PackedEnum);
     }
-    if variants == 0 {
+    if variants.is_empty() {
         return Some(FaultKind::ReprWithoutVariants);
     }
-    if repr.transparent && variants != 1 {
+    if repr.transparent && variants.len() != 1 {
         return Some(FaultKind::TransparentFields);
+    }
+    if repr.c && repr.integer.is_some() && all_units(variants) {
+        return Some(FaultKind::IntegerBesideC);
     }
     None
 }

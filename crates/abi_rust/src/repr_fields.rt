@@ -2,7 +2,7 @@
 
 ghost use Rattle.std.specs.Prelude.{◌≡◌, Ok, map, true};
 ghost use Rattle.abi_laid.specs.Tree.{tree_of};
-ghost use Rattle.abi_rust.specs.Aligned.{aligning, any_aligned, any_fields, any_written, discriminants_checked, fields_aligned, packed_checked, place_of_repr, type_aligned};
+ghost use Rattle.abi_rust.specs.Aligned.{aligning, all_units, any_aligned, any_written, discriminants_checked, fields_aligned, packed_checked, place_of_repr, type_aligned};
 ghost use Rattle.abi_rust.specs.Meaning.{Means, then_meant};
 ghost use Rattle.abi_rust.specs.Measure.{IsMeasure, Measure, room_takers, takes_room, transparent_checked};
 
@@ -220,26 +220,26 @@ fn any_written(variants: &[Variant]) -> bool
     false
 }
 
-/// Whether one of these variants has fields, or parentheses for them.
-fn any_fields(variants: &[Variant]) -> bool
-    ensures { result ≡ any_fields variants.now }
+/// Whether each of these variants is a name alone, without parentheses or braces.
+pub(crate) fn all_units(variants: &[Variant]) -> bool
+    ensures { result ≡ all_units variants.now }
 {
     for variant in variants {
-        if variant.fields.is_tuple || !variant.fields.all.is_empty() {
-            return true;
+        if !variant.fields.is_unit {
+            return false;
         }
     }
-    false
+    true
 }
 
-/// A fault where an enum with a discriminant and a variant with fields has no integer as its repr.
+/// A fault where an enum with a discriminant, and with a variant that is no name alone, has no integer as its repr.
 pub(crate) fn check_discriminants(item: &Item, all: &Enum) -> Result<(), Stop>
     ensures { Means (λ _. true) (discriminants_checked item.now all.now.variants.items) result }
 {
     if item.repr.integer.is_some() {
         return Ok(());
     }
-    if any_written(all.variants.as_slice()) && any_fields(all.variants.as_slice()) {
+    if any_written(all.variants.as_slice()) && !all_units(all.variants.as_slice()) {
         return Err(stop_at(item.at, FaultKind::DiscriminantWithoutRepr));
     }
     Ok(())

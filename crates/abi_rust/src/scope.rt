@@ -1,15 +1,16 @@
 //! The names that each module has.
 
 ghost use Rattle.std.specs.Prelude.{◌≡◌, ◌⊎◌, [], IfErr, IfOk, None, Some, false, map, not, replicate, slice_get};
-ghost use Rattle.abi_rust.specs.Globs.{AreFollowed, KeepsGlobs, glob_target, glob_to, globs_added, if_all, is_in, led_from, led_to, list_at, lists_of, lost_added, lost_target, lost_way, most_ways, with_glob, with_target, with_way, with_ways};
+ghost use Rattle.abi_rust.specs.Globs.{AreFollowed, KeepsGlobs, Leads, glob_target, glob_to, globs_added, if_all, is_in, led_from, led_to, list_at, lists_of, lost_added, lost_target, lost_way, most_ways, with_glob, with_target, with_way, with_ways};
 ghost use Rattle.abi_rust.specs.Scope.{constant_standing, leads_nowhere, module_in, own_constant, owner_of, reached_from, type_standing, use_in};
 ghost use Rattle.abi_rust.specs.ScopeNames.{HasSameNames, HasSameRoots, IsEmpty, KeepsNames, KeepsOwn, repeated_of};
 ghost use Rattle.abi_rust.specs.Standing.{IsMemory};
 
 use crate::fault::{FaultKind, Stop, stop_at};
 use crate::own_constants::add_own_constants;
-use crate::paths::{Found, Space, target_of};
+use crate::paths::{Found, Space};
 use crate::standing::{Key, add_items, add_modules, add_uses, key, numbered};
+use crate::use_targets::{UseTarget, target_in, use_targets};
 use crate::ways::{Glob, Way, is_way_visible, leads_on};
 use crate::words::{Word, Words};
 use indexmap::IndexMap;
@@ -45,6 +46,8 @@ pub(crate) struct Scope {
     /// For each module the ways of its globs, and of the globs of the modules that these lead to, to `NOWHERE` where one
     /// of them leads to nothing that is read.
     reached: Vec<Vec<Way>>,
+    /// What each use brings in.
+    pub(crate) use_targets: Vec<UseTarget>,
 }
 
 impl Scope {
@@ -74,6 +77,7 @@ impl Scope {
             owners: IndexMap::new(alloc),
             uses: IndexMap::new(alloc),
             reached: Vec::new(alloc),
+            use_targets: Vec::new(alloc),
         };
         match scope.fill(alloc, items) {
             Ok(()) => Ok(scope),
@@ -127,7 +131,22 @@ impl Scope {
     {
         let mut direct = self.follow_rounds(alloc, items)?;
         self.add_lost(items, &mut direct)?;
-        self.reached = reached_through(alloc, items, &direct)?;
+        self.keep_ways(alloc, items, &direct)
+    }
+
+    /// Keeps where these globs lead, and what uses bring in then.
+    fn keep_ways(
+        &mut self,
+        alloc: Global,
+        items: &Items,
+        direct: &Vec<Vec<Glob>>,
+    ) -> Result<(), Stop>
+        ensures leads { IfOk result (λ _. Leads items.now (lists_of direct.now.items) self.new) }
+        ensures same { IfOk result (λ _. HasSameNames self.old self.new) }
+        ensures err { IfErr result IsMemory }
+    {
+        self.reached = reached_through(alloc, items, direct)?;
+        self.use_targets = use_targets(alloc, items, self)?;
         Ok(())
     }
 
@@ -139,13 +158,13 @@ impl Scope {
         ensures err { IfErr result IsMemory }
     {
         let mut direct = empty_lists(alloc, items.modules.len())?;
-        self.reached = empty_lists(alloc, items.modules.len())?;
+        self.keep_ways(alloc, items, &direct)?;
         let rounds = items.uses.len().saturating_add(1);
         for _round in 0..rounds {
             if !self.add_globs(items, &mut direct)? {
                 return Ok(direct);
             }
-            self.reached = reached_through(alloc, items, &direct)?;
+            self.keep_ways(alloc, items, &direct)?;
         }
         Ok(direct)
     }
@@ -157,7 +176,7 @@ impl Scope {
         ensures err { IfErr result IsMemory }
     {
         for (number, used) in items.uses.iter().enumerate() {
-            let target = self.lost_target(items, numbered(number), used);
+            let target = self.lost_target(numbered(number), used);
             let _is_new = add_target(direct, target)?;
         }
         Ok(())
@@ -165,13 +184,13 @@ impl Scope {
 
     /// The use of this number as a glob, if it is one that leads to nothing that is read. The glob of an enum brings in
     /// its variants, which are no types.
-    fn lost_target(&self, items: &Items, number: u32, used: &Use) -> Option<Glob>
-        ensures { result ≡ lost_target items.now self.now number used.now }
+    fn lost_target(&self, number: u32, used: &Use) -> Option<Glob>
+        ensures { result ≡ lost_target self.now number used.now }
     {
         if !used.is_glob {
             return None;
         }
-        match target_of(items, self, number, Space::Types) {
+        match target_in(self.use_targets.as_slice(), number, Space::Types) {
             Some(Found::Module(_)) => None,
             Some(Found::Item(_)) => None,
             _ => Some(glob_to(used, NOWHERE)),
@@ -188,7 +207,7 @@ impl Scope {
     {
         let mut is_new = false;
         for (number, used) in items.uses.iter().enumerate() {
-            let target = self.glob_target(items, numbered(number), used);
+            let target = self.glob_target(numbered(number), used);
             if add_target(direct, target)? {
                 is_new = true;
             }
@@ -197,13 +216,14 @@ impl Scope {
     }
 
     /// The use of this number as a glob, if it is one, and leads to another module than its own.
-    fn glob_target(&self, items: &Items, number: u32, used: &Use) -> Option<Glob>
-        ensures { result ≡ glob_target items.now self.now number used.now }
+    fn glob_target(&self, number: u32, used: &Use) -> Option<Glob>
+        ensures { result ≡ glob_target self.now number used.now }
     {
         if !used.is_glob {
             return None;
         }
-        let Some(Found::Module(target)) = target_of(items, self, number, Space::Types) else {
+        let found = target_in(self.use_targets.as_slice(), number, Space::Types);
+        let Some(Found::Module(target)) = found else {
             return None;
         };
         if target == used.module {

@@ -4,7 +4,7 @@ ghost use Rattle.std.specs.Prelude.{◌≡◌, ◌-◌, ◌<◌, ◌^◌, ◌++�
 ghost use Rattle.rust_source.specs.Growth.{BeginsWith};
 ghost use Rattle.abi_rust.specs.Measure.{IsMeasure, Measure};
 ghost use Rattle.abi_rust.specs.Reading.{AllRead, IsSourceOf, IsUnread, ReadsText, Stops, StopsReading, file_kind, having, is_library, library_text, place_behind, root_name};
-ghost use Rattle.abi_rust.specs.Sources.{IsWorkOver, Tells, TellsWritten, fault_told, is_told_of, items_read, modules_told, name_told, place_of_item, place_told, pointer_bits};
+ghost use Rattle.abi_rust.specs.Sources.{IsWorkOver, Tells, TellsWritten, fault_told, is_told_of, items_read, modules_told, name_told, place_of_attribute, place_of_item, place_told, pointer_bits};
 
 use crate::fault::{Fault, FaultKind, FaultPlace, Stop, stop_at};
 use crate::scope::Scope;
@@ -197,6 +197,17 @@ impl Sources {
     {
         match self.items.items.get(item) {
             Some(found) => self.place(Some(found.at)),
+            None => FaultPlace::Nowhere,
+        }
+    }
+
+    /// Where the first attribute of the item stands that isn't known, and may be a macro that rewrites it; at no place
+    /// where it has none.
+    pub fn unknown_attribute(&self, item: usize) -> FaultPlace
+        ensures { result ≡ place_of_attribute self.now (slice_get (items_read self.now) item) }
+    {
+        match self.items.items.get(item) {
+            Some(found) => self.place(found.unknown_attribute),
             None => FaultPlace::Nowhere,
         }
     }

@@ -2,8 +2,8 @@
 
 ghost use Rattle.std.specs.Prelude.{◌≡◌, ◌⊎◌, ℕ, [], IfErr, IfOk, None, Option, Some, is_some, if◌then◌else◌};
 ghost use Rattle.indexmap.specs.IndexMap.{get};
-ghost use Rattle.abi_rust.specs.Scope.{same_key, several};
-ghost use Rattle.abi_rust.specs.Standing.{IsMemory, constant_at, first_repeated, is_constant_at, is_module_at, is_type_at, is_use_at, module_at, numbered, repeated_by, type_at, use_at};
+ghost use Rattle.abi_rust.specs.Scope.{numbered, same_key, several};
+ghost use Rattle.abi_rust.specs.Standing.{IsMemory, constant_at, first_repeated, is_constant_at, is_module_at, is_type_at, is_use_at, module_at, repeated_by, type_at, use_at};
 
 use crate::fault::{FaultKind, Stop, stop_at};
 use indexmap::IndexMap;

@@ -55,7 +55,7 @@ module _ (rules : Rules) where
       bracket_at (kind.Close bracket.Curly) 10 1 ∷
       [])) (first_names, [])).0
       ≡ Ok (struct_of (record {
-        is_tuple = false;
+        is_unit = false;
         all = record {
           name = Named (record { 0 = 6 });
           at = record { 0 = 4 };
@@ -89,7 +89,7 @@ module _ (rules : Rules) where
       ≡ Ok (enum_of (record {
         name = record { 0 = 6 };
         at = record { 0 = 4 };
-        fields = record { is_tuple = false; all = [] };
+        fields = record { is_unit = true; all = [] };
         discriminant = Some (integer 3 None (record { 0 = 8 }));
       } ∷ []))
   unfolding first_names enum_read head_where head_read where_asked name bare_text place place_behind_start nth passed is_nth is_nth_pair is_keyword_next is_group inside behind_group text_between parameters_read where_read fields_read variants_in_braces variants_all variant_more variant_read value_read part_attributes attributes_read attributes_said none_said one_attribute attribute_read attribute_with cfg_said predicate_read predicate_with option_read option_answer has_flag word_text visibility_passed until up_to tree_passed whole readers expr_with operand primary is_literal literal_read signs number_written digits_length number_of_digits digits_value integer_kind integer_kinds next_operator pairs all_joined most_nested

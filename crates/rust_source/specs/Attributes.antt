@@ -1,9 +1,10 @@
 -- What the attributes of items, fields and variants say.
-use Rattle.std.specs.Prelude.{ℕ, zero, suc, ◌-◌, ◌==◌, ◌&&◌, ◌||◌, Bool, true, false, not, codes, length, List, Option, None, Some, Result, Ok, Err, if◌then◌else◌}
+use Rattle.std.specs.Prelude.{ℕ, zero, suc, ◌-◌, ◌==◌, ◌&&◌, ◌||◌, Bool, true, false, not, codes, is_some, length, List, Option, None, Some, Result, Ok, Err, if◌then◌else◌}
 use Rattle.std.specs.Str.{bytes_eq}
 use Rattle.rust_source.specs.declared.fault.SourceFault.{SourceFault}
 use Rattle.rust_source.specs.declared.fault.SourceFaultKind.TheVariants.{BadAttribute, BadCfg, BadRepr, ExpectedComma, TooDeep}
 use Rattle.rust_source.specs.declared.item.Repr.{Repr}
+use Rattle.rust_source.specs.declared.place.Place.{Place}
 use Rattle.rust_source.specs.declared.reader.attributes.Attributes.{Attributes}
 use Rattle.rust_source.specs.declared.reader.attributes.Rules.{Rules}
 use Rattle.rust_source.specs.declared.reader.cursor.Cursor.{Cursor}
@@ -11,7 +12,8 @@ use Rattle.rust_source.specs.declared.reader.literals.Number.{Number}
 use Rattle.rust_source.specs.declared.reader.literals.Number.TheVariants as number
 use Rattle.rust_source.specs.declared.tokens.token.Bracket.TheVariants as bracket
 use Rattle.rust_source.specs.Cfg.{Noted, predicate_read}
-use Rattle.rust_source.specs.Cursor.{behind_group, comma_passed, expected, fault, inside, is_done, is_next, passed}
+use Rattle.rust_source.specs.Cursor.{behind_group, comma_passed, expected, fault, inside, is_done, is_next, passed, place}
+use Rattle.rust_source.specs.KnownAttributes.{is_among, known_names, names_other_trait}
 use Rattle.rust_source.specs.Reading.{read_on, read_as, then_read, word_text}
 use Rattle.rust_source.specs.Repr.{asks, misplaced, next_number, with_repr}
 use Rattle.rust_source.specs.Simple.{most_nested}
@@ -50,6 +52,8 @@ none_said = record {
   };
   valid_range = None;
   fault = None;
+  has_helpers = false;
+  unknown = None;
 }
 
 -- what is said where a `cfg` is all that its parentheses have
@@ -86,7 +90,18 @@ unfoldable pub simple_said : Rules → Attributes → (name : List ℕ) → Curs
 simple_said rules said name i =
     if bytes_eq name (codes "repr") then Ok (repr_said said (with_repr said.repr i))
     else (if bytes_eq name (codes "rustc_layout_scalar_valid_range") && rules.is_trusted
-    then read_as (λ r. record said { valid_range = Some r }) (range_read i) else Ok said)
+    then read_as (λ r. record said { valid_range = Some r }) (range_read i)
+    else Ok (record said { has_helpers = said.has_helpers || (bytes_eq name (codes "derive") && names_other_trait i) }))
+
+-- where the first attribute stands that isn't known and that no `derive` before it may have brought in, with the one
+-- that is next
+abbrev pub unknown_with : Attributes → Cursor → Option Place
+unknown_with said c =
+    if is_some said.unknown || said.has_helpers || is_among known_names (word_text c) then said.unknown else Some (place c)
+
+-- with the name of the attribute that is next
+abbrev pub named_said : Attributes → Cursor → Attributes
+named_said said c = record said { unknown = unknown_with said c }
 
 -- a path is next, or a keyword that an attribute begins with
 abbrev pub begins_attribute : Cursor → Bool
@@ -126,7 +141,7 @@ module _ (rules : Rules) (A : Attributes → Cursor → Noted → Result Attribu
   unfoldable pub attribute_with : Attributes → Cursor → Noted → Result Attributes SourceFault × Noted
   attribute_with said c known =
       if not said.holds then done said known
-      else (if begins_attribute c then attribute_by said c (inside (passed c 1) bracket.Round) known else fault_next BadAttribute c known)
+      else (if begins_attribute c then attribute_by (named_said said c) c (inside (passed c 1) bracket.Round) known else fault_next BadAttribute c known)
 
 -- what the attribute says that is next and may stand in so many others, added to what those before it say
 unfoldable pub attribute_read : Rules → (room : ℕ) → Attributes → Cursor → Noted → Result Attributes SourceFault × Noted

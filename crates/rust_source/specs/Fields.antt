@@ -101,13 +101,13 @@ module _ (rules : Rules) where
   -- the fields within brackets, no two of one name
   unfoldable pub fields_in : (is_tuple : Bool) → Cursor → Noted → Result FieldsRead SourceFault × Noted
   fields_in is_tuple c known =
-      read_on (λ (all : List FieldRead) ns. (read_as (λ _. record { is_tuple = is_tuple; all = all }) (none_twice (field_names all)), ns)) (fields_all is_tuple [] c known)
+      read_on (λ (all : List FieldRead) ns. (read_as (λ _. record { is_unit = false; all = all }) (none_twice (field_names all)), ns)) (fields_all is_tuple [] c known)
 
   -- the fields in these parentheses or braces; none where there are neither
   abbrev pub fields_by : Cursor → (round curly : Option Cursor) → Noted → Result (FieldsRead × Cursor) SourceFault × Noted
   fields_by c (Some i) curly known = read_on (λ f ns. done (f, behind_group c) ns) (fields_in true i known)
   fields_by c None (Some i) known = read_on (λ f ns. done (f, behind_group c) ns) (fields_in false i known)
-  fields_by c None None known = done (record { is_tuple = false; all = [] }, c) known
+  fields_by c None None known = done (record { is_unit = true; all = [] }, c) known
 
   -- the fields that are next
   unfoldable pub fields_read : Noting FieldsRead

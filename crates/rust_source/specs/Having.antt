@@ -36,6 +36,7 @@ item_of_module standing said w = record {
   parameters = w.head.parameters;
   repr = said.repr;
   valid_range = said.valid_range;
+  unknown_attribute = said.unknown;
   kind = w.kind;
 }
 

@@ -31,7 +31,7 @@ pub record FieldRead : Type 0 where
 
 -- fields, in parentheses or not
 pub record FieldsRead : Type 0 where
-  pub is_tuple : Bool
+  pub is_unit : Bool
   pub all : List FieldRead
 
 -- a variant, and its discriminant where it is written
@@ -70,6 +70,7 @@ pub record ItemRead : Type 0 where
   pub parameters : List ParameterRead
   pub repr : Repr
   pub valid_range : Option (ℕ × ℕ)
+  pub unknown_attribute : Option Place
   pub kind : ItemKindRead
 
 -- what a `use` brings in, and the number of the module that it stands in
@@ -100,7 +101,7 @@ field_of f = record { name = f.name; at = f.at; ty = type_of f.ty; start = f.sta
 
 -- fields, by whether they are a tuple's
 abbrev pub fields_as_read : Fields → FieldsRead
-fields_as_read f = record { is_tuple = f.is_tuple; all = map field_of f.all.items }
+fields_as_read f = record { is_unit = f.is_unit; all = map field_of f.all.items }
 
 -- a variant
 abbrev pub variant_as_read : Variant → VariantRead
@@ -137,6 +138,7 @@ item_of i = record {
   parameters = map parameter_of i.parameters.items;
   repr = i.repr;
   valid_range = i.valid_range;
+  unknown_attribute = i.unknown_attribute;
   kind = item_kind_of i.kind;
 }
 

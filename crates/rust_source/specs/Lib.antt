@@ -5,6 +5,7 @@ pub mod Growth
 pub mod Numerals
 pub mod Quoted
 pub mod Keywords
+pub mod KnownAttributes
 pub mod Tokens
 pub mod Until
 pub mod Cursor

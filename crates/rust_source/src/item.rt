@@ -53,8 +53,8 @@ pub struct Field {
 /// The fields of a struct, a union or a variant, in the order of the source; those that a `cfg` takes out are left out.
 #[derive(Drop)]
 pub struct Fields {
-    /// Whether they stand in parentheses, so that numbers name them.
-    pub is_tuple: bool,
+    /// Whether neither parentheses nor braces stand behind the name, as of `struct A;`.
+    pub is_unit: bool,
     pub all: Vec<Field>,
 }
 
@@ -130,6 +130,9 @@ pub struct Item {
     /// The first and the last number that the scalar of its first field may be, as the standard library's own types
     /// ask for.
     pub valid_range: Option<(u128, u128)>,
+    /// Where the first of its attributes stands that is neither the language's nor a tool's, nor one that a `derive`
+    /// may have brought in: it may be a macro that rewrites the item.
+    pub unknown_attribute: Option<Place>,
     pub kind: ItemKind,
 }
 

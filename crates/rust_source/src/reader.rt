@@ -9,6 +9,7 @@ mod fields;
 mod functions;
 mod generics;
 mod items;
+mod known_attributes;
 mod literals;
 mod naming;
 mod operators;

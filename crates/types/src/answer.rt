@@ -5,6 +5,7 @@ ghost use Rattle.abi_text.specs.LaidOut.{IsLaidOut};
 use crate::json::{Telling, put_text, type_value};
 use crate::lines::write_lines;
 use crate::mapped::by_name;
+use crate::notes::write_notes;
 use crate::options::{Form, Options};
 use crate::place::Spot;
 use abi_base::TargetDataLayout;
@@ -230,27 +231,6 @@ fn tell_asked(
     Ok(())
 }
 
-/// Notes what was passed over, and which names of `cfg` count as false.
-fn note(notes: &mut String, sources: &Sources) -> Result<(), AllocError> {
-    let count = sources.passed_over();
-    if count > 0 {
-        write!(
-            notes,
-            "types: {count} items that define no type are passed over\n"
-        )?;
-    }
-    let unknown = sources.unknown_cfgs();
-    if !unknown.is_empty() {
-        notes.push_str("types: of cfg these names count as false:")?;
-        for name in unknown {
-            let text = sources.names().text(*name);
-            write!(notes, " {text}")?;
-        }
-        notes.push_str("\n")?;
-    }
-    Ok(())
-}
-
 /// Reads the source, and tells of its types.
 fn tell_read(
     alloc: Global,
@@ -263,7 +243,7 @@ fn tell_read(
     if let Err(fault) = sources.read(alloc, &target.cfg, options.is_root, under.source) {
         return Err(faulty(alloc, sources, &fault, Spot::Nowhere));
     }
-    note(&mut answer.notes, sources)?;
+    write_notes(alloc, &mut answer.notes, sources, options.file, under.source)?;
     if options.types.is_empty() {
         tell_all(alloc, answer, under, sources)
     } else {

@@ -11,6 +11,7 @@ mod json;
 mod labels;
 mod lines;
 mod mapped;
+mod notes;
 
 use crate::answer::{Answer, Failure, tell_source};
 use crate::options::{Form, OptionFault, Options, command, options_of};

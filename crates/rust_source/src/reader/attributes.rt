@@ -1,7 +1,7 @@
 //! Attributes of items, fields and variants.
 
 ghost use Rattle.std.specs.Prelude.{◌≡◌};
-ghost use Rattle.rust_source.specs.Attributes.{attribute_read, attribute_with, attributes_read, attributes_said, begins_attribute, cfg_said, expanded, expanded_all, faulty, judged_by, listless_said, none_said, number_and_comma, one_attribute, part_attributes, part_judged, range_read, repr_said, simple_said};
+ghost use Rattle.rust_source.specs.Attributes.{attribute_read, attribute_with, attributes_read, attributes_said, begins_attribute, cfg_said, expanded, expanded_all, faulty, judged_by, listless_said, named_said, none_said, number_and_comma, one_attribute, part_attributes, part_judged, range_read, repr_said, simple_said, unknown_with};
 ghost use Rattle.rust_source.specs.Names.{texts};
 ghost use Rattle.rust_source.specs.Reading.{Reads, read_as};
 ghost use Rattle.rust_source.specs.Repr.{with_repr};
@@ -9,11 +9,13 @@ ghost use Rattle.rust_source.specs.Repr.{with_repr};
 use crate::fault::{SourceFault, SourceFaultKind};
 use crate::item::Repr;
 use crate::names::Names;
-use crate::place::Symbol;
+use crate::place::{Place, Symbol};
 use crate::reader::cfg::is_predicate;
 use crate::reader::cursor::{
-    Cursor, expect, expect_comma, fault, is_done, is_next, pass, take, take_group, take_until,
+    Cursor, expect, expect_comma, fault, is_done, is_next, pass, place, take, take_group,
+    take_until,
 };
+use crate::reader::known_attributes::{is_known, names_other_trait};
 use crate::reader::literals::Number;
 use crate::reader::naming::word_text;
 use crate::reader::repr::{NOTHING, asks, next_number, refuse_repr, with_repr};
@@ -37,6 +39,10 @@ pub(crate) struct Attributes {
     pub valid_range: Option<(u128, u128)>,
     /// The first fault of a `repr`, which what a `cfg` takes out doesn't have.
     pub fault: Option<SourceFault>,
+    /// Whether a `derive` may bring in attributes of its own.
+    pub has_helpers: bool,
+    /// Where the first attribute stands that isn't known, and that no `derive` before it may have brought in.
+    pub unknown: Option<Place>,
 }
 
 /// What no attributes say.
@@ -45,6 +51,8 @@ const NONE: Attributes = Attributes {
     repr: NOTHING,
     valid_range: None,
     fault: None,
+    has_helpers: false,
+    unknown: None,
 };
 
 /// The attribute that tells which numbers a scalar may be.
@@ -173,8 +181,30 @@ fn read_simple(
     }
     if name == VALID_RANGE && rules.is_trusted {
         said.valid_range = Some(range_in(inside)?);
+        return Ok(said);
     }
+    said.has_helpers = said.has_helpers || (name == "derive" && names_other_trait(inside));
     Ok(said)
+}
+
+/// Where the first attribute stands that isn't known, with the one that is next.
+fn unknown_with(before: &Attributes, cursor: &Cursor<'_>) -> Option<Place>
+    ensures { result ≡ unknown_with before.now cursor.now }
+{
+    if before.unknown.is_some() || before.has_helpers || is_known(word_text(cursor)) {
+        before.unknown
+    } else {
+        Some(place(cursor))
+    }
+}
+
+/// What is said with the name of the attribute that is next.
+fn named_said(before: Attributes, cursor: &Cursor<'_>) -> Attributes
+    ensures { result ≡ named_said before cursor.now }
+{
+    let mut said = before;
+    said.unknown = unknown_with(&before, cursor);
+    said
 }
 
 /// What attributes separated by `,` say, added to what those before them say.
@@ -252,19 +282,20 @@ fn read_within(
     }
     let start = *cursor;
     let name = word_text(cursor);
+    let said = named_said(before, cursor);
     pass(cursor, 1);
     let Some(mut inside) = take_group(cursor, Bracket::Round) else {
-        return read_listless(before, &start);
+        return read_listless(said, &start);
     };
     if !is_done(cursor) {
         return Err(fault(cursor, SourceFaultKind::BadAttribute));
     }
     if name == "cfg_attr" {
-        read_expanded(names, unknown, rules, before, &mut inside, room)
+        read_expanded(names, unknown, rules, said, &mut inside, room)
     } else if name == "cfg" {
-        read_cfg(names, unknown, rules, before, &mut inside)
+        read_cfg(names, unknown, rules, said, &mut inside)
     } else {
-        read_simple(rules, before, name, &mut inside)
+        read_simple(rules, said, name, &mut inside)
     }
 }
 

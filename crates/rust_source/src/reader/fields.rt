@@ -187,7 +187,10 @@ fn read_fields_in(
     let mut all = Vec::new(names.alloc());
     add_fields(names, unknown, rules, inside, is_tuple, &mut all)?;
     refuse_repeated_fields(names.alloc(), &all)?;
-    Ok(Fields { is_tuple, all })
+    Ok(Fields {
+        is_unit: false,
+        all,
+    })
 }
 
 /// The fields that are next, in parentheses or braces; none where neither is next.
@@ -208,7 +211,7 @@ pub(crate) fn read_fields(
         return read_fields_in(names, unknown, rules, &mut inside, false);
     }
     Ok(Fields {
-        is_tuple: false,
+        is_unit: true,
         all: Vec::new(names.alloc()),
     })
 }

@@ -46,6 +46,7 @@ fn item_in(standing: Standing, said: &Attributes, one: Written) -> Item
         parameters: head.parameters,
         repr: said.repr,
         valid_range: said.valid_range,
+        unknown_attribute: said.unknown,
         kind,
     }
 }

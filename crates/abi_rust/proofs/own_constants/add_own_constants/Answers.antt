@@ -4,7 +4,8 @@ use Rattle.std.specs.Prelude.{nat_eq, if◌then◌else◌}
 use Rattle.std.specs.Option.{option_or}
 use Rattle.rust_source.specs.declared.item.Item.{Item}
 use Rattle.abi_rust.specs.OwnConstants.{is_own_at, last_told, own_type}
-use Rattle.abi_rust.specs.Standing.{first_so, numbered}
+use Rattle.abi_rust.specs.Standing.{first_so}
+use Rattle.abi_rust.specs.Scope.{numbered}
 use Rattle.abi_rust.proofs.OwnLemmas.{told_more}
 use Rattle.abi_rust.proofs.StandingLemmas.{first_more}
 use Rattle.abi_rust.proofs.own_constants.add_own_constants.Goals as goal

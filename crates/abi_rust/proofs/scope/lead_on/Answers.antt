@@ -1,7 +1,7 @@
 use Rattle.std.proofs.Common.{◌≡◌, ◌∙◌, ◌+◌, ◌-◌, ◌<◌, Some, ap, arith, sym}
 use Rattle.std.specs.Prelude.{slice_get}
 use Rattle.abi_rust.specs.Globs.{led_from, list_at, lists_of, with_next, with_ways}
-use Rattle.abi_rust.specs.Standing.{numbered}
+use Rattle.abi_rust.specs.Scope.{numbered}
 use Rattle.abi_rust.proofs.GlobLemmas.{led_end, led_more}
 use Rattle.abi_rust.proofs.scope.lead_on.Goals as goal
 

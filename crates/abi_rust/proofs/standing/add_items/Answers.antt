@@ -3,8 +3,8 @@ use Rattle.std.proofs.Common.{◌≡◌, ◌∙◌, ◌<◌, None, Some, ap, len
 use Rattle.std.specs.Prelude.{if◌then◌else◌}
 use Rattle.indexmap.specs.IndexMap.{get}
 use Rattle.rust_source.specs.declared.item.Item.{Item}
-use Rattle.abi_rust.specs.Scope.{same_key}
-use Rattle.abi_rust.specs.Standing.{constant_at, is_constant_at, is_type_at, key_of, numbered, repeated_by, type_at}
+use Rattle.abi_rust.specs.Scope.{numbered, same_key}
+use Rattle.abi_rust.specs.Standing.{constant_at, is_constant_at, is_type_at, key_of, repeated_by, type_at}
 use Rattle.abi_rust.proofs.StandingLemmas.{last_more, repeated_later, repeated_same}
 use Rattle.abi_rust.proofs.standing.add_items.Goals as goal
 

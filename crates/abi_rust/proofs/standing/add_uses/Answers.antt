@@ -2,8 +2,8 @@
 use Rattle.std.proofs.Common.{◌∙◌, ◌<◌, Some, ap, length, rules, sym, take}
 use Rattle.std.specs.Prelude.{is_some, if◌then◌else◌}
 use Rattle.rust_source.specs.declared.item.Use.{Use}
-use Rattle.abi_rust.specs.Scope.{several}
-use Rattle.abi_rust.specs.Standing.{is_use_at, numbered, use_at}
+use Rattle.abi_rust.specs.Scope.{numbered, several}
+use Rattle.abi_rust.specs.Standing.{is_use_at, use_at}
 use Rattle.abi_rust.proofs.StandingLemmas.{ones_more}
 use Rattle.abi_rust.proofs.standing.add_uses.Goals as goal
 

@@ -1,0 +1,139 @@
+//! What each use brings in.
+
+ghost use Rattle.std.specs.Prelude.{◌≡◌, IfErr, IfOk, true};
+ghost use Rattle.abi_rust.specs.Names.{most_uses, target_in, targets_on, use_target, use_targets};
+ghost use Rattle.abi_rust.specs.Standing.{IsMemory};
+
+use crate::fault::Stop;
+use crate::paths::{Found, Space, target_of};
+use crate::scope::Scope;
+use crate::standing::numbered;
+use rust_source::{Items, Use};
+use std::alloc::Global;
+
+/// How many uses may lead from one to another.
+const MOST_USES: u32 = 32;
+
+/// What a use brings in.
+#[derive(Clone, Copy)]
+pub(crate) struct UseTarget {
+    /// A type or a module, if anything.
+    pub(crate) types: Option<Found>,
+    /// A constant, if anything.
+    pub(crate) values: Option<Found>,
+}
+
+/// How many uses may lead from one to another.
+#[tactic(auto, unfolding(crate::specs::Names::most_uses))]
+fn most_uses() -> u32
+    ensures { result ≡ most_uses }
+{
+    MOST_USES
+}
+
+/// What the use of this number is known to bring in, of these names.
+pub(crate) fn target_in(targets: &[UseTarget], number: u32, space: Space) -> Option<Found>
+    ensures { result ≡ target_in targets.now number space }
+{
+    let target = targets.get(number as usize)?;
+    match space {
+        Space::Types => target.types,
+        Space::Values => target.values,
+    }
+}
+
+/// What each use brings in. It is found in rounds, since what a use names may be what others bring in: until a round
+/// finds what the one before it did, or as many as uses may lead from one to another.
+pub(crate) fn use_targets(
+    alloc: Global,
+    items: &Items,
+    scope: &Scope,
+) -> Result<Vec<UseTarget>, Stop>
+    ensures all { IfOk result (λ all. all.items ≡ use_targets items.now scope.now most_uses) }
+    ensures err { IfErr result IsMemory }
+{
+    let mut known = Vec::new(alloc);
+    let rounds = most_uses();
+    for round in 0..rounds {
+        let found = targets_on(alloc, items, scope, known.as_slice())?;
+        if are_same(found.as_slice(), known.as_slice()) {
+            return Ok(found);
+        }
+        known = found;
+    }
+    Ok(known)
+}
+
+/// What each use brings in, by what others are known to.
+fn targets_on(
+    alloc: Global,
+    items: &Items,
+    scope: &Scope,
+    known: &[UseTarget],
+) -> Result<Vec<UseTarget>, Stop>
+    ensures all { IfOk result (λ all.
+        all.items ≡ targets_on (use_target items.now scope.now known.now) 0 items.now.uses.items) }
+    ensures err { IfErr result IsMemory }
+{
+    let mut all = Vec::new(alloc);
+    for (number, used) in items.uses.iter().enumerate() {
+        all.push(use_target(items, scope, known, numbered(number), used))?;
+    }
+    Ok(all)
+}
+
+/// What a use brings in, by what others are known to. A glob leads to a module, and to no constant.
+fn use_target(
+    items: &Items,
+    scope: &Scope,
+    known: &[UseTarget],
+    number: u32,
+    used: &Use,
+) -> UseTarget
+    ensures { result ≡ use_target items.now scope.now known.now number used.now }
+{
+    let values = if used.is_glob {
+        None
+    } else {
+        target_of(items, scope, known, number, used, Space::Values)
+    };
+    UseTarget {
+        types: target_of(items, scope, known, number, used, Space::Types),
+        values,
+    }
+}
+
+/// Whether two lists are found to be the same.
+#[tactic(auto, using(crate::proofs::TargetLemmas::same_more, crate::proofs::TargetLemmas::same_end))]
+fn are_same(a: &[UseTarget], b: &[UseTarget]) -> bool
+    ensures { result ≡ true → a.now ≡ b.now }
+{
+    if a.len() != b.len() {
+        return false;
+    }
+    for (index, one) in a.iter().enumerate() {
+        let Some(other) = b.get(index) else {
+            return false;
+        };
+        if !is_same(one.types, other.types) || !is_same(one.values, other.values) {
+            return false;
+        }
+    }
+    true
+}
+
+/// Whether two names are found to lead to the same.
+fn is_same(a: Option<Found>, b: Option<Found>) -> bool
+    ensures { result ≡ true → a ≡ b }
+{
+    match (a, b) {
+        (Some(Found::Module(a)), Some(Found::Module(b))) => a == b,
+        (Some(Found::Item(a)), Some(Found::Item(b))) => a == b,
+        (Some(Found::Primitive(a)), Some(Found::Primitive(b))) => a == b,
+        (Some(Found::Hidden(a)), Some(Found::Hidden(b))) => a == b,
+        (Some(Found::Ambiguous(a)), Some(Found::Ambiguous(b))) => a == b,
+        (Some(Found::Unknown), Some(Found::Unknown)) => true,
+        (None, None) => true,
+        _ => false,
+    }
+}
