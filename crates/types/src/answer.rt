@@ -1,8 +1,8 @@
-//! The answer to a source: what is told of its types, and what is noted beside.
+//! The answer to a source: the report on its types, and what is noted beside.
 
 ghost use Rattle.abi_text.specs.LaidOut.{IsLaidOut};
 
-use crate::json::{Telling, put_text, type_value};
+use crate::json::{JsonContext, put_text, type_value};
 use crate::lines::write_lines;
 use crate::mapped::by_name;
 use crate::notes::write_notes;
@@ -17,12 +17,12 @@ use rustc_abi::{LayError, lay_out};
 use serde_json::Value;
 use std::alloc::{AllocError, Global};
 
-/// What is told of types, and what is noted beside.
+/// The report on types, and what is noted beside.
 #[derive(Drop)]
 pub(crate) struct Answer {
-    /// The lines, where types are told of by lines.
+    /// The lines, where the report is lines.
     pub(crate) text: String,
-    /// The types, where they are told of by JSON.
+    /// The types, where the report is JSON.
     pub(crate) values: Vec<Value>,
     /// Lines for standard error.
     pub(crate) notes: String,
@@ -39,7 +39,7 @@ impl Answer {
     }
 }
 
-/// Why nothing is told.
+/// Why there is no report.
 #[derive(Drop)]
 pub(crate) enum Failure {
     OutOfMemory,
@@ -55,8 +55,8 @@ impl From<AllocError> for Failure {
     }
 }
 
-/// A fault as it is told, of a type that stands here.
-fn faulty(alloc: Global, sources: &Sources, fault: &Fault, own: Spot) -> Failure {
+/// A fault as it is reported, of a type that stands here.
+fn failure_of(alloc: Global, sources: &Sources, fault: &Fault, own: Spot) -> Failure {
     if fault.is_out_of_memory() {
         return Failure::OutOfMemory;
     }
@@ -67,8 +67,8 @@ fn faulty(alloc: Global, sources: &Sources, fault: &Fault, own: Spot) -> Failure
     }
 }
 
-/// A refusal as it is told.
-fn refused(alloc: Global, name: &str, own: Spot, error: LayError) -> Failure {
+/// A refusal as it is reported.
+fn refusal_of(alloc: Global, name: &str, own: Spot, error: LayError) -> Failure {
     if let LayError::OutOfMemory = error {
         return Failure::OutOfMemory;
     }
@@ -78,7 +78,7 @@ fn refused(alloc: Global, name: &str, own: Spot, error: LayError) -> Failure {
     }
 }
 
-/// What all types under one target are told with.
+/// What the reports on all types under one target have in common.
 #[derive(Clone, Copy)]
 struct Under<'a> {
     form: Form,
@@ -99,19 +99,19 @@ fn object_of(
 ) -> Result<Value, LayError>
     requires { IsLaidOut under.dl.now laid.now }
 {
-    let telling = Telling {
+    let cx = JsonContext {
         dl: under.dl,
         names,
         source: under.source,
     };
-    let mut object = type_value(alloc, telling, name, &told.shape, &told.tree, laid)?;
+    let mut object = type_value(alloc, cx, name, &told.shape, &told.tree, laid)?;
     if let Some(triple) = under.triple {
         put_text(alloc, &mut object, "target", triple)?;
     }
     Ok(Value::Object(object))
 }
 
-/// Puts a laid-out type behind what is told, in the form that is asked for.
+/// Puts the report on a laid-out type behind the others, in the form that is asked for.
 fn put_laid(
     alloc: Global,
     answer: &mut Answer,
@@ -141,7 +141,7 @@ fn put_laid(
     Ok(())
 }
 
-/// Lays out a type, and puts it behind what is told.
+/// Lays out a type, and puts the report on it behind the others.
 fn put_tree(
     alloc: Global,
     answer: &mut Answer,
@@ -155,7 +155,7 @@ fn put_tree(
 }
 
 /// Tells of a type that stands here; that it has no size of its own is noted.
-fn tell_type(
+fn add_type(
     alloc: Global,
     answer: &mut Answer,
     under: Under<'_>,
@@ -172,12 +172,12 @@ fn tell_type(
     };
     match put_tree(alloc, answer, under, names, name, told) {
         Ok(()) => Ok(()),
-        Err(error) => Err(refused(alloc, name, own, error)),
+        Err(error) => Err(refusal_of(alloc, name, own, error)),
     }
 }
 
 /// Tells of what a type that stands here was read as, or of its fault.
-fn tell_found(
+fn add_found(
     alloc: Global,
     answer: &mut Answer,
     under: Under<'_>,
@@ -189,14 +189,14 @@ fn tell_found(
     match found {
         Ok(told) => {
             let names = sources.names();
-            tell_type(alloc, answer, under, names, name, told.as_ref(), own)
+            add_type(alloc, answer, under, names, name, told.as_ref(), own)
         }
-        Err(fault) => Err(faulty(alloc, sources, &fault, own)),
+        Err(fault) => Err(failure_of(alloc, sources, &fault, own)),
     }
 }
 
 /// Tells of each type of the source.
-fn tell_all(
+fn add_all(
     alloc: Global,
     answer: &mut Answer,
     under: Under<'_>,
@@ -209,14 +209,14 @@ fn tell_all(
             sources.write_name(&mut name, item)?;
             let found = sources.type_of(alloc, under.dl, item);
             let own = Spot::Nowhere.of(sources.place_of(item));
-            tell_found(alloc, answer, under, sources, name.as_str(), found, own)?;
+            add_found(alloc, answer, under, sources, name.as_str(), found, own)?;
         }
     }
     Ok(())
 }
 
 /// Tells of the types that are asked for.
-fn tell_asked(
+fn add_asked(
     alloc: Global,
     answer: &mut Answer,
     under: Under<'_>,
@@ -226,13 +226,13 @@ fn tell_asked(
     for (before, name) in types.iter().enumerate() {
         let found = sources.type_written(alloc, under.dl, name);
         let own = Spot::Asked(before, 0);
-        tell_found(alloc, answer, under, sources, name, found, own)?;
+        add_found(alloc, answer, under, sources, name, found, own)?;
     }
     Ok(())
 }
 
-/// Reads the source, and tells of its types.
-fn tell_read(
+/// Reads the source, and reports on its types.
+fn answer_read(
     alloc: Global,
     answer: &mut Answer,
     options: &Options<'_>,
@@ -241,18 +241,24 @@ fn tell_read(
     sources: &mut Sources,
 ) -> Result<(), Failure> {
     if let Err(fault) = sources.read(alloc, &target.cfg, options.is_root, under.source) {
-        return Err(faulty(alloc, sources, &fault, Spot::Nowhere));
+        return Err(failure_of(alloc, sources, &fault, Spot::Nowhere));
     }
-    write_notes(alloc, &mut answer.notes, sources, options.file, under.source)?;
+    write_notes(
+        alloc,
+        &mut answer.notes,
+        sources,
+        options.file,
+        under.source,
+    )?;
     if options.types.is_empty() {
-        tell_all(alloc, answer, under, sources)
+        add_all(alloc, answer, under, sources)
     } else {
-        tell_asked(alloc, answer, under, sources, &options.types)
+        add_asked(alloc, answer, under, sources, &options.types)
     }
 }
 
-/// Tells of types under a target, whose name is told where several are asked for.
-fn tell_under(
+/// Reports on types under a target, whose name is printed where several are asked for.
+fn answer_under(
     alloc: Global,
     answer: &mut Answer,
     options: &Options<'_>,
@@ -272,11 +278,11 @@ fn tell_under(
         triple,
     };
     let mut sources = Sources::new(alloc)?;
-    tell_read(alloc, answer, options, under, target, &mut sources)
+    answer_read(alloc, answer, options, under, target, &mut sources)
 }
 
 /// Tells of types under each target that is asked for.
-fn tell_targets(
+fn answer_targets(
     alloc: Global,
     answer: &mut Answer,
     options: &Options<'_>,
@@ -289,7 +295,7 @@ fn tell_targets(
     }
     for target in &options.targets {
         match data_layout_of(alloc, target) {
-            Ok(dl) => tell_under(alloc, answer, options, target, &dl, source)?,
+            Ok(dl) => answer_under(alloc, answer, options, target, &dl, source)?,
             Err(_) => return Err(Failure::OutOfMemory),
         }
     }
@@ -297,13 +303,13 @@ fn tell_targets(
 }
 
 /// Tells of the types of a source under each target that is asked for.
-pub(crate) fn tell_source(
+pub(crate) fn answer_source(
     alloc: Global,
     options: &Options<'_>,
     source: &str,
 ) -> Result<Answer, Failure> {
     let mut answer = Answer::new(alloc);
-    match tell_targets(alloc, &mut answer, options, source) {
+    match answer_targets(alloc, &mut answer, options, source) {
         Ok(()) => Ok(answer),
         Err(failure) => Err(failure),
     }

@@ -18,9 +18,9 @@ use std::alloc::{AllocError, Global};
 /// The bytes of a larger type aren't listed. In bytes.
 const MOST_LISTED: u64 = 65_536;
 
-/// What types are told with.
+/// What types are written as JSON with.
 #[derive(Clone, Copy)]
-pub(crate) struct Telling<'a> {
+pub(crate) struct JsonContext<'a> {
     pub(crate) dl: &'a TargetDataLayout,
     pub(crate) names: &'a Names,
     /// The file, of which types are cut out as they are written.
@@ -28,7 +28,7 @@ pub(crate) struct Telling<'a> {
 }
 
 /// Puts a member into an object.
-fn put(
+fn put_member(
     alloc: Global,
     object: &mut Map<String, Value>,
     key: &str,
@@ -46,7 +46,7 @@ pub(crate) fn put_text(
     text: &str,
 ) -> Result<(), AllocError> {
     let text = String::from_str(alloc, text)?;
-    put(alloc, object, key, Value::String(text))
+    put_member(alloc, object, key, Value::String(text))
 }
 
 /// Puts a number into an object.
@@ -56,7 +56,7 @@ fn put_number(
     key: &str,
     number: u64,
 ) -> Result<(), AllocError> {
-    put(alloc, object, key, Value::from(number))
+    put_member(alloc, object, key, Value::from(number))
 }
 
 /// The size of a type, in bytes.
@@ -68,25 +68,23 @@ fn size_of_tree(alloc: Global, dl: &TargetDataLayout, tree: &TypeTree) -> Result
 /// A field: its name, its type as it is written, its offset and its size.
 fn field_value(
     alloc: Global,
-    telling: Telling<'_>,
+    cx: JsonContext<'_>,
     label: &Label,
     offset: u64,
     tree: &TypeTree,
 ) -> Result<Value, LayError> {
     let mut object = Map::new(alloc);
     let mut name = String::new(alloc);
-    write_field_name(&mut name, telling.names, label.name)?;
-    put(alloc, &mut object, "name", Value::String(name))?;
-    let written = telling
-        .source
-        .get(label.start.0 as usize..label.end.0 as usize);
+    write_field_name(&mut name, cx.names, label.name)?;
+    put_member(alloc, &mut object, "name", Value::String(name))?;
+    let written = cx.source.get(label.start.0 as usize..label.end.0 as usize);
     put_text(alloc, &mut object, "type", written.unwrap_or(""))?;
     put_number(alloc, &mut object, "offset", offset)?;
     put_number(
         alloc,
         &mut object,
         "size",
-        size_of_tree(alloc, telling.dl, tree)?,
+        size_of_tree(alloc, cx.dl, tree)?,
     )?;
     Ok(Value::Object(object))
 }
@@ -94,7 +92,7 @@ fn field_value(
 /// Fields, in source order.
 fn fields_value(
     alloc: Global,
-    telling: Telling<'_>,
+    cx: JsonContext<'_>,
     labels: &[Label],
     offsets: &[Size],
     trees: &[TypeTree],
@@ -103,7 +101,7 @@ fn fields_value(
     for (index, label) in labels.iter().enumerate() {
         if let Some(tree) = trees.get(index) {
             let offset = offset_at(offsets, index);
-            all.push(field_value(alloc, telling, label, offset, tree)?)?;
+            all.push(field_value(alloc, cx, label, offset, tree)?)?;
         }
     }
     Ok(Value::Array(all))
@@ -136,7 +134,7 @@ fn variant_offsets(laid: &Laid, variant: usize) -> &[Size] {
 /// The variants of an enum, each with its name and its fields.
 fn variants_value(
     alloc: Global,
-    telling: Telling<'_>,
+    cx: JsonContext<'_>,
     labels: &[VariantLabels],
     laid: &Laid,
     trees: &[(u128, Vec<TypeTree>)],
@@ -145,10 +143,10 @@ fn variants_value(
     for (index, label) in labels.iter().enumerate() {
         if let Some((_, fields)) = trees.get(index) {
             let mut object = Map::new(alloc);
-            put_text(alloc, &mut object, "name", telling.names.text(label.name))?;
+            put_text(alloc, &mut object, "name", cx.names.text(label.name))?;
             let offsets = variant_offsets(laid, index);
-            let fields = fields_value(alloc, telling, &label.fields, offsets, fields)?;
-            put(alloc, &mut object, "fields", fields)?;
+            let fields = fields_value(alloc, cx, &label.fields, offsets, fields)?;
+            put_member(alloc, &mut object, "fields", fields)?;
             all.push(Value::Object(object))?;
         }
     }
@@ -173,9 +171,9 @@ fn put_scalar(
 }
 
 /// The name of the variant with this index.
-fn variant_name<'a>(telling: Telling<'a>, labels: &[VariantLabels], variant: usize) -> &'a str {
+fn variant_name<'a>(cx: JsonContext<'a>, labels: &[VariantLabels], variant: usize) -> &'a str {
     match labels.get(variant) {
-        Some(label) => telling.names.text(label.name),
+        Some(label) => cx.names.text(label.name),
         None => "",
     }
 }
@@ -183,7 +181,7 @@ fn variant_name<'a>(telling: Telling<'a>, labels: &[VariantLabels], variant: usi
 /// The tag of an enum: where it lies, what it holds, and how it names a variant; null where it has none.
 fn tag_value(
     alloc: Global,
-    telling: Telling<'_>,
+    cx: JsonContext<'_>,
     labels: &[VariantLabels],
     laid: &Laid,
 ) -> Result<Value, AllocError> {
@@ -208,9 +206,9 @@ fn tag_value(
             niche_variants,
             niche_start,
         } => {
-            let untagged = variant_name(telling, labels, untagged_variant.as_usize());
-            let first = variant_name(telling, labels, niche_variants.start.as_usize());
-            let last = variant_name(telling, labels, niche_variants.last.as_usize());
+            let untagged = variant_name(cx, labels, untagged_variant.as_usize());
+            let first = variant_name(cx, labels, niche_variants.start.as_usize());
+            let last = variant_name(cx, labels, niche_variants.last.as_usize());
             let start = format!(in alloc; "{niche_start}")?;
             put_text(alloc, &mut object, "encoding", "niche")?;
             put_text(alloc, &mut object, "untagged", untagged)?;
@@ -263,7 +261,7 @@ fn padding_value(alloc: Global, laid: &Laid) -> Result<Value, AllocError> {
 fn put_parts(
     alloc: Global,
     object: &mut Map<String, Value>,
-    telling: Telling<'_>,
+    cx: JsonContext<'_>,
     shape: &Shape,
     tree: &TypeTree,
     laid: &Laid,
@@ -278,22 +276,17 @@ fn put_parts(
             },
         ) => {
             let offsets = offsets_of(laid.layout());
-            let fields = fields_value(alloc, telling, labels, offsets, fields)?;
-            put(alloc, object, "fields", fields)?;
+            let fields = fields_value(alloc, cx, labels, offsets, fields)?;
+            put_member(alloc, object, "fields", fields)?;
         }
         (Shape::Union(labels), TypeTree::Union { repr: _, fields }) => {
-            let fields = fields_value(alloc, telling, labels, &[], fields)?;
-            put(alloc, object, "fields", fields)?;
+            let fields = fields_value(alloc, cx, labels, &[], fields)?;
+            put_member(alloc, object, "fields", fields)?;
         }
         (Shape::Enum(labels), TypeTree::Enum { repr: _, variants }) => {
-            let all = variants_value(alloc, telling, labels, laid, variants)?;
-            put(alloc, object, "variants", all)?;
-            put(
-                alloc,
-                object,
-                "tag",
-                tag_value(alloc, telling, labels, laid)?,
-            )?;
+            let all = variants_value(alloc, cx, labels, laid, variants)?;
+            put_member(alloc, object, "variants", all)?;
+            put_member(alloc, object, "tag", tag_value(alloc, cx, labels, laid)?)?;
         }
         _ => {}
     }
@@ -304,7 +297,7 @@ fn put_parts(
 /// the largest niche and the padding.
 pub(crate) fn type_value(
     alloc: Global,
-    telling: Telling<'_>,
+    cx: JsonContext<'_>,
     name: &str,
     shape: &Shape,
     tree: &TypeTree,
@@ -318,14 +311,14 @@ pub(crate) fn type_value(
     put_number(alloc, &mut object, "size", layout.size.bytes())?;
     put_number(alloc, &mut object, "align", layout.align.abi.bytes())?;
     if !matches!(shape, Shape::Plain) {
-        put_parts(alloc, &mut object, telling, shape, tree, laid)?;
-        put(
+        put_parts(alloc, &mut object, cx, shape, tree, laid)?;
+        put_member(
             alloc,
             &mut object,
             "niche",
             niche_value(alloc, layout.largest_niche)?,
         )?;
-        put(alloc, &mut object, "padding", padding_value(alloc, laid)?)?;
+        put_member(alloc, &mut object, "padding", padding_value(alloc, laid)?)?;
     }
     Ok(object)
 }

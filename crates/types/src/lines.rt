@@ -101,7 +101,7 @@ fn write_single(
     Ok(())
 }
 
-/// Writes each of the variants that a tag tells apart, the first of which has the index 0.
+/// Writes each of the variants that a tag distinguishes, the first of which has the index 0.
 fn write_several(
     alloc: Global,
     out: &mut String,

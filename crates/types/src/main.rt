@@ -1,4 +1,4 @@
-//! Lays out the types that a Rust source defines, and tells of each by the names of its fields.
+//! Lays out the types that a Rust source defines, and reports on each by the names of its fields.
 #![tactic(auto)]
 
 // What is asked for, and where a fault lies.
@@ -13,7 +13,7 @@ mod lines;
 mod mapped;
 mod notes;
 
-use crate::answer::{Answer, Failure, tell_source};
+use crate::answer::{Answer, Failure, answer_source};
 use crate::options::{Form, OptionFault, Options, command, options_of};
 use crate::place::{Spot, write_fault};
 use serde_json::Value;
@@ -21,23 +21,23 @@ use std::alloc::AllocError;
 use std::process::ExitCode;
 use std::{env, fs, io};
 
-/// The status where types are told of.
-const TOLD: u8 = 0;
+/// The status where types are reported on.
+const PRINTED: u8 = 0;
 /// The status where a layout is refused, and where memory, reading or writing fails.
 const REFUSED: u8 = 1;
 /// The status where the source has a fault, and where the command line can't be carried out.
 const FAULTY: u8 = 2;
 
-/// Tells on standard error that memory is wanting.
-fn tell_memory(rt: &HostRuntime) -> u8 {
+/// Writes on standard error that memory is wanting.
+fn report_memory(rt: &HostRuntime) -> u8 {
     let _ = rt.eprintln("types: out of memory");
     REFUSED
 }
 
-/// Tells on standard error why the command line can't be carried out.
-fn tell_option(rt: &HostRuntime, fault: OptionFault<'_>) -> u8 {
+/// Writes on standard error why the command line can't be carried out.
+fn report_option(rt: &HostRuntime, fault: OptionFault<'_>) -> u8 {
     let _ = match fault {
-        OptionFault::OutOfMemory => return tell_memory(rt),
+        OptionFault::OutOfMemory => return report_memory(rt),
         OptionFault::UnknownTarget(triple) => {
             eprintln!(rt;
                 "types: no target is called '{triple}'; docs/TARGETS.md has those that are known"
@@ -71,30 +71,30 @@ fn fault_text(
     Ok(all)
 }
 
-/// Tells a text on standard error, and answers the status.
-fn tell_text(rt: &HostRuntime, text: Result<String, AllocError>, status: u8) -> u8 {
+/// Writes a text on standard error, and answers the status.
+fn report_text(rt: &HostRuntime, text: Result<String, AllocError>, status: u8) -> u8 {
     match text {
         Ok(text) => {
             let _ = rt.eprint(text.as_str());
             status
         }
-        Err(_) => tell_memory(rt),
+        Err(_) => report_memory(rt),
     }
 }
 
-/// Tells on standard error why nothing is told.
-fn tell_failure(rt: &HostRuntime, options: &Options<'_>, source: &str, failure: &Failure) -> u8 {
+/// Writes on standard error why there is no report.
+fn report_failure(rt: &HostRuntime, options: &Options<'_>, source: &str, failure: &Failure) -> u8 {
     match failure {
-        Failure::OutOfMemory => tell_memory(rt),
+        Failure::OutOfMemory => report_memory(rt),
         Failure::Fault(at, text) => {
-            tell_text(
+            report_text(
                 rt,
                 fault_text(rt, options, source, *at, text.as_str()),
                 FAULTY,
             )
         }
         Failure::Refused(at, text) => {
-            tell_text(
+            report_text(
                 rt,
                 fault_text(rt, options, source, *at, text.as_str()),
                 REFUSED,
@@ -104,7 +104,7 @@ fn tell_failure(rt: &HostRuntime, options: &Options<'_>, source: &str, failure: 
 }
 
 /// Writes the answer on standard output, and the notes on standard error.
-fn tell(rt: &HostRuntime, form: Form, answer: Answer) -> u8 {
+fn print_answer(rt: &HostRuntime, form: Form, answer: Answer) -> u8 {
     let Answer {
         text,
         values,
@@ -114,7 +114,7 @@ fn tell(rt: &HostRuntime, form: Form, answer: Answer) -> u8 {
     let text = if form == Form::Json {
         match Value::Array(values).to_string_pretty(rt.alloc()) {
             Ok(text) => text,
-            Err(_) => return tell_memory(rt),
+            Err(_) => return report_memory(rt),
         }
     } else {
         text
@@ -125,7 +125,7 @@ fn tell(rt: &HostRuntime, form: Form, answer: Answer) -> u8 {
         rt.print(text.as_str())
     };
     match ended {
-        Ok(()) => TOLD,
+        Ok(()) => PRINTED,
         Err(_) => REFUSED,
     }
 }
@@ -141,9 +141,9 @@ fn read_source(rt: &HostRuntime, file: Option<&str>) -> io::Result<String> {
 /// Carries out what the command line asks for.
 fn carry_out(rt: &HostRuntime, options: &Options<'_>) -> u8 {
     match read_source(rt, options.file) {
-        Ok(source) => match tell_source(rt.alloc(), options, source.as_str()) {
-            Ok(answer) => tell(rt, options.form, answer),
-            Err(failure) => tell_failure(rt, options, source.as_str(), &failure),
+        Ok(source) => match answer_source(rt.alloc(), options, source.as_str()) {
+            Ok(answer) => print_answer(rt, options.form, answer),
+            Err(failure) => report_failure(rt, options, source.as_str(), &failure),
         },
         Err(error) => {
             let file = options.file.unwrap_or("standard input");
@@ -156,15 +156,15 @@ fn carry_out(rt: &HostRuntime, options: &Options<'_>) -> u8 {
 /// Reads the command line, and carries it out.
 fn run(rt: &HostRuntime, words: &[String]) -> u8 {
     let Ok(command) = command(rt.alloc()) else {
-        return tell_memory(rt);
+        return report_memory(rt);
     };
     match command.try_get_matches_from(words) {
         Ok(matches) => match options_of(rt.alloc(), &matches) {
             Ok(options) => carry_out(rt, &options),
-            Err(fault) => tell_option(rt, fault),
+            Err(fault) => report_option(rt, fault),
         },
         Err(error) => match error.print(rt) {
-            Ok(()) => if error.use_stderr() { FAULTY } else { TOLD },
+            Ok(()) => if error.use_stderr() { FAULTY } else { PRINTED },
             Err(_) => REFUSED,
         },
     }
@@ -177,7 +177,7 @@ fn main(rt: HostRuntime) -> ExitCode {
     };
     let words: Vec<String> = match words {
         Ok(words) => words,
-        Err(_) => return ExitCode::from(tell_memory(&rt)),
+        Err(_) => return ExitCode::from(report_memory(&rt)),
     };
     ExitCode::from(run(&rt, &words))
 }

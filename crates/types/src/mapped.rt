@@ -17,7 +17,7 @@ pub(crate) struct ByName<'a> {
     pub(crate) names: &'a Names,
     /// The labels of its own fields.
     pub(crate) fields: &'a [Label],
-    /// Those of its variants, where a tag tells them apart.
+    /// Those of its variants, where a tag distinguishes them.
     pub(crate) variants: &'a [VariantLabels],
 }
 

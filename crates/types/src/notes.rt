@@ -1,4 +1,4 @@
-//! What is noted of a source on standard error, beside what is told of its types.
+//! What is noted of a source on standard error, beside the report on its types.
 
 use crate::place::write_fault;
 use abi_rust::{FaultPlace, Sources};
@@ -71,6 +71,8 @@ fn write_attribute(
     source: &str,
     (at, name): (u32, &str),
 ) -> Result<(), AllocError> {
-    let text = format!(in alloc; "the attribute `{name}` isn't known, and may rewrite what it stands at")?;
+    let text = format!(in alloc;
+        "the attribute `{name}` isn't known, and may rewrite what it stands at"
+    )?;
     write_fault(notes, file, source, at as usize, text.as_str())
 }

@@ -4,10 +4,10 @@ use abi_rust::{Target, target_named};
 use clap::{Arg, ArgAction, ArgMatches, Command};
 use std::alloc::{AllocError, Global};
 
-/// The target whose types are told of where none is named.
+/// The target where none is named.
 pub(crate) const DEFAULT_TARGET: &str = "x86_64-unknown-linux-gnu";
 
-/// The form in which types are told of.
+/// The form of the report.
 #[derive(Clone, Copy, PartialEq, Eq)]
 pub(crate) enum Form {
     /// A line for each fact.
