@@ -1,7 +1,7 @@
 -- Lists of copies, one copy more.
 use Rattle.std.proofs.Common.{◌≡◌, ℕ, ◌+◌, ◌<◌, ◌≤◌, List, [], ◌∷◌, ◌++◌, length, map, take, get_or, refl, ap}
 use Rattle.std.proofs.lemmas.List.{map-append, take_all, take_more}
-use Rattle.abi_rust.specs.declared.ty.Given.{Given}
+use Rattle.abi_rust.specs.declared.ty.GenericArg.{GenericArg}
 use Rattle.abi_rust.specs.declared.ty.Ty.{Ty}
 use Rattle.abi_rust.specs.Types.{given_of, ty_of}
 
@@ -18,8 +18,8 @@ tys_more = map_more ty_of
 pub tys_all : (xs : List Ty) (i : ℕ) → length xs ≤ i → map ty_of (take i xs) ≡ map ty_of xs
 tys_all = map_all ty_of
 
-pub given_more : (xs : List Given) (i : ℕ) (x : Given) → i < length xs → x ≡ get_or xs i x → map given_of (take (i + 1) xs) ≡ map given_of (take i xs) ++ given_of x ∷ []
+pub given_more : (xs : List GenericArg) (i : ℕ) (x : GenericArg) → i < length xs → x ≡ get_or xs i x → map given_of (take (i + 1) xs) ≡ map given_of (take i xs) ++ given_of x ∷ []
 given_more = map_more given_of
 
-pub given_all : (xs : List Given) (i : ℕ) → length xs ≤ i → map given_of (take i xs) ≡ map given_of xs
+pub given_all : (xs : List GenericArg) (i : ℕ) → length xs ≤ i → map given_of (take i xs) ≡ map given_of xs
 given_all = map_all given_of

@@ -3,7 +3,8 @@ use Rattle.std.proofs.Common.{◌≡◌, ℕ, zero, suc, ◌+◌, ◌<◌, ◌�
 use Rattle.std.proofs.lemmas.List.{length-drop}
 use Rattle.std.specs.Prelude.{Some, if◌then◌else◌}
 use Rattle.rust_source.specs.declared.syntax.Segment.{Segment}
-use Rattle.abi_rust.specs.Resolving.{given_early, is_given}
+use Rattle.abi_rust.specs.Kinds.{is_given}
+use Rattle.abi_rust.specs.Resolving.{given_early}
 
 early_two : (s : Segment) (ss : List Segment) → 0 < length ss → given_early (s ∷ ss) ≡ (if is_given s then Some s else given_early ss)
 early_two s [] more = absurd (omega (arith, more))

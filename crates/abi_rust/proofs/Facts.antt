@@ -11,7 +11,7 @@ use Rattle.rust_source.specs.declared.syntax.Expr.{Integer, Binary'}
 use Rattle.rust_source.specs.declared.syntax.IntegerKind.TheVariants.{I32, U8, U32}
 use Rattle.abi_rust.specs.declared.fault.FaultKind.TheVariants.{Overflow, WrongType}
 use Rattle.abi_rust.specs.declared.ty.Kind.TheVariants.{Integer as KindInteger}
-use Rattle.abi_rust.specs.declared.work.Context.{Context}
+use Rattle.abi_rust.specs.declared.budget.Context.{Context}
 use Rattle.abi_rust.specs.Evaluating.{binary_value, evaluator, value_with}
 use Rattle.abi_rust.specs.Meaning.{fault_at}
 use Rattle.abi_rust.specs.declared.ways.Glob.{Glob}

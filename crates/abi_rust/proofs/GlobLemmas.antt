@@ -37,16 +37,16 @@ long_lists {A} {S} all = map_long (λ (v : Vec A S). v.items) all
 
 -- a list that no glob was added to
 glob_kept : (gs : List Glob) (g : Glob) (is_new : Bool) → is_new ≡ not (is_in gs g) → is_new ≡ false → with_glob gs g ≡ gs
-glob_kept gs g is_new told none =
+glob_kept gs g is_new report none =
     elim (is_in gs g) as (λ b. is_new ≡ not b → is_new ≡ false → (if b then gs else gs ++ g ∷ []) ≡ gs) [
-      | true ↦ λ told none. refl
-      | false ↦ λ told none. cc
-    ] told none
+      | true ↦ λ report none. refl
+      | false ↦ λ report none. cc
+    ] report none
 
 pub target_kept : {S : Type 0} (all : List (Vec Glob S)) (i : ℕ) (g : Glob) (v w : Vec Glob S) (is_new : Bool) → v ≡ get_or all i v → w.items ≡ with_glob v.items g
     → is_new ≡ not (is_in v.items g) → is_new ≡ false → lists_of (set all i w) ≡ lists_of all
-target_kept {S} all i g v w is_new is one told none =
-    map-set_same (λ (v : Vec Glob S). v.items) all i w v (one ∙ (glob_kept v.items g is_new told none ∙ ap (λ (v : Vec Glob S). v.items) is))
+target_kept {S} all i g v w is_new is one report none =
+    map-set_same (λ (v : Vec Glob S). v.items) all i w v (one ∙ (glob_kept v.items g is_new report none ∙ ap (λ (v : Vec Glob S). v.items) is))
 
 -- what an answer tells, if there is one
 pub of_ok : {B : Type 0} (P Q R : B → Type 0) (r : Result B Stop) → ((b : B) → P b → Q b → R b) → IfOk r P → IfOk r Q → IfOk r R

@@ -3,7 +3,7 @@ use Rattle.std.proofs.Common.{◌≡◌, ℕ, ◌+◌, ◌<◌, ◌≤◌, List,
 use Rattle.rust_source.specs.declared.item.Field.{Field}
 use Rattle.rust_source.specs.declared.item.Variant.{Variant}
 use Rattle.rust_source.specs.declared.place.Place.{Place}
-use Rattle.abi_rust.specs.Told.{label_of, variant_label}
+use Rattle.abi_rust.specs.TypeReport.{label_of, variant_label}
 use Rattle.abi_rust.proofs.Copies.{map_all, map_more}
 
 module _ (file : Place) where

@@ -9,14 +9,14 @@ use Rattle.std.specs.Prelude.{Result, Ok, false}
 use Rattle.rust_source.specs.declared.item.Item.{Item}
 use Rattle.abi_rust.specs.declared.fault.Stop.{Stop}
 use Rattle.abi_rust.specs.declared.tail.Tail.{Tail}
-use Rattle.abi_rust.specs.declared.work.Context.{Context}
+use Rattle.abi_rust.specs.declared.budget.Context.{Context}
 use Rattle.abi_rust.specs.Meaning.{Means}
 use Rattle.abi_rust.specs.Resolving.{inside_item, resolved}
 use Rattle.abi_rust.specs.Tails.{Outer, TailInner, assumed, field_tail, last_of, last_type, stands_in}
-use Rattle.abi_rust.specs.Types.{GivenRead, TyRead, givens, list_given, ty_of, types}
+use Rattle.abi_rust.specs.Types.{GenericArgRead, TyRead, givens, list_given, ty_of, types}
 use Rattle.abi_rust.proofs.Copies.{map_all, map_more}
 
-pub list_given_is : (gs : List GivenRead) → list_given (givens gs) ≡ gs
+pub list_given_is : (gs : List GenericArgRead) → list_given (givens gs) ≡ gs
 list_given_is [] = refl
 list_given_is (g ∷ gs) = ap (λ rest. g ∷ rest) (list_given_is gs)
 
@@ -45,7 +45,7 @@ pub assumed_all : (xs : List Parameter) (i : ℕ) → length xs ≤ i → map as
 assumed_all = map_all assumed
 
 -- the tail of a field whose type is resolved
-pub field_tail_on : (cx : Context) (T : TailInner) (outer inside : Outer) (n : ℕ) (it : Item) (f : Field) (gs : List GivenRead) (t : TyRead) (r : Result Tail Stop)
+pub field_tail_on : (cx : Context) (T : TailInner) (outer inside : Outer) (n : ℕ) (it : Item) (f : Field) (gs : List GenericArgRead) (t : TyRead) (r : Result Tail Stop)
     → stands_in outer n (givens gs) ≡ false → resolved cx (inside_item n it gs) f.ty ≡ Ok t
     → inside ≡ (n, givens gs) ∷ outer → Means (λ tail. tail) (T.tail_of inside t) r
     → Means (λ tail. tail) (field_tail cx T outer n (givens gs) it (Some f)) r

@@ -7,10 +7,10 @@ use Rattle.rust_source.specs.declared.item.Parameter.{Parameter}
 use Rattle.rust_source.specs.declared.syntax.Argument.{Argument}
 use Rattle.rust_source.specs.declared.syntax.Segment.{Segment}
 use Rattle.rust_source.specs.declared.syntax.«Type».{«Type» as Written}
-use Rattle.abi_rust.specs.declared.work.Context.{Context}
+use Rattle.abi_rust.specs.declared.budget.Context.{Context}
 use Rattle.abi_rust.specs.Meaning.{then_meant}
 use Rattle.abi_rust.specs.Resolving.{Inner, first_argument, give_from, one_given, other_arguments, tuple_from}
-use Rattle.abi_rust.specs.Types.{GivenRead, TyRead, Where, tuple, types}
+use Rattle.abi_rust.specs.Types.{GenericArgRead, TyRead, Where, tuple, types}
 
 module _ (cx : Context) (R : Inner) where
   first_at : (all : List Argument) (i : ℕ) → first_argument cx R (drop i all) ≡ slice_get all i
@@ -33,10 +33,10 @@ module _ (cx : Context) (R : Inner) (w : Where) where
   pub tuple_done : (all : List Written) (i : ℕ) (made : List TyRead) → length all ≤ i → tuple_from cx R w made (drop i all) ≡ Ok (tuple (types made))
   tuple_done all i made done = ap (λ rest. tuple_from cx R w made rest) (drop_all i all done)
 
-  pub give_more : (n : ℕ) (it : Item) (s : Segment) (ps : List Parameter) (all : List Argument) (i : ℕ) (p : Parameter) (a : Option Argument) (given : List GivenRead) → i < length ps → p ≡ get_or ps i p → a ≡ slice_get all i
+  pub give_more : (n : ℕ) (it : Item) (s : Segment) (ps : List Parameter) (all : List Argument) (i : ℕ) (p : Parameter) (a : Option Argument) (given : List GenericArgRead) → i < length ps → p ≡ get_or ps i p → a ≡ slice_get all i
       → give_from cx R w n it s given (drop i ps) (drop i all) ≡ then_meant (λ g. give_from cx R w n it s (given ++ g ∷ []) (drop (i + 1) ps) (drop (i + 1) all)) (one_given cx R w n it s given p.kind a)
   give_more n it s ps all i p a given more is at =
       rw (drop-cons ps i p, ← is, add-one i, first_at cx R all i, others_at cx R all i, at) refl
 
-  pub give_done : (n : ℕ) (it : Item) (s : Segment) (ps : List Parameter) (all : List Argument) (i : ℕ) (given : List GivenRead) → length ps ≤ i → give_from cx R w n it s given (drop i ps) all ≡ Ok given
+  pub give_done : (n : ℕ) (it : Item) (s : Segment) (ps : List Parameter) (all : List Argument) (i : ℕ) (given : List GenericArgRead) → length ps ≤ i → give_from cx R w n it s given (drop i ps) all ≡ Ok given
   give_done n it s ps all i given done = ap (λ rest. give_from cx R w n it s given rest all) (drop_all i ps done)

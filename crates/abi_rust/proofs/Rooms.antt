@@ -10,15 +10,15 @@ use Rattle.std.specs.Prelude.{Option}
 use Rattle.abi_rust.specs.declared.ty.Kind.{Kind}
 use Rattle.abi_rust.specs.Kinds.{kind_step, kind_within, type_step, type_within}
 use Rattle.rust_source.specs.declared.syntax.Expr.{Expr}
-use Rattle.abi_rust.specs.declared.work.Context.{Context}
+use Rattle.abi_rust.specs.declared.budget.Context.{Context}
 use Rattle.abi_rust.specs.Evaluating.{evaluator, value_with}
 use Rattle.abi_rust.specs.Meaning.{too_deep}
 use Rattle.rust_source.specs.declared.syntax.Segment.{Segment}
 use Rattle.rust_source.specs.declared.syntax.«Type».{«Type» as Written}
 use Rattle.abi_rust.specs.Resolving.{inner, item_with, resolver, type_with}
 use Rattle.abi_rust.specs.Tails.{Outer, tail_inner, tail_of_item_with, tail_with}
-use Rattle.abi_rust.specs.Types.{GivensRead, TyRead, Where}
-use Rattle.abi_rust.specs.Names.{asking, named_behind, behind_all, first, path_named, root_above, root_within, space_before}
+use Rattle.abi_rust.specs.Types.{GenericArgsRead, TyRead, Where}
+use Rattle.abi_rust.specs.Names.{lookup_of, named_behind, behind_all, first, path_named, root_above, root_within, space_before}
 use Rattle.abi_rust.specs.Visible.{parent}
 
 pub turns : (n i : ℕ) → i < n → n - i ≡ suc (n - (i + 1))
@@ -37,16 +37,16 @@ module _ (items : Items) (scope : Scope) where
   module _ (brought : ℕ → Space → Option Found) (m : ℕ) where
     pub names_step : (left fewer : ℕ) (space : Space) (before : Option Found) (name : Symbol) (names : List Symbol) → fewer + 1 ≡ left
         → behind_all items scope brought left m space before (name ∷ names)
-        ≡ behind_all items scope brought fewer m space (named_behind items scope brought before (asking m name (space_before fewer space) None)) names
+        ≡ behind_all items scope brought fewer m space (named_behind items scope brought before (lookup_of m name (space_before fewer space) None)) names
     names_step zero fewer space before name names is = absurd (omega arith)
     names_step (suc left) fewer space before name names is =
         let e : left ≡ fewer = omega arith in
-        ap (λ n. behind_all items scope brought n m space (named_behind items scope brought before (asking m name (space_before n space) None)) names) e
+        ap (λ n. behind_all items scope brought n m space (named_behind items scope brought before (lookup_of m name (space_before n space) None)) names) e
 
     -- the names of a list, of which one more is looked at
     pub names_on : {X : Type 0} (view : X → Symbol) (all : List X) (d : X) (i left fewer : ℕ) (space : Space) (before : Option Found) → i < length all → fewer + 1 ≡ left
         → behind_all items scope brought left m space before (map view (drop i all))
-        ≡ behind_all items scope brought fewer m space (named_behind items scope brought before (asking m (view (get_or all i d)) (space_before fewer space) None)) (map view (drop (i + 1) all))
+        ≡ behind_all items scope brought fewer m space (named_behind items scope brought before (lookup_of m (view (get_or all i d)) (space_before fewer space) None)) (map view (drop (i + 1) all))
     names_on view all d i left fewer space before more is = rw (drop-cons all i d, add-one i) (names_step left fewer space before (view (get_or all i d)) (map view (drop (suc i) all)) is)
 
     pub names_past : (left : ℕ) (space : Space) (before : Option Found) (names : List Symbol) → left ≡ 0 → behind_all items scope brought left m space before names ≡ before
@@ -62,7 +62,7 @@ module _ (items : Items) (scope : Scope) where
 
     -- what was found when no name is left is what all names name
     pub all_named : {X : Type 0} (view : X → Symbol) (all rest : List X) (begin : X) (count begun left : ℕ) (is_global : Bool) (space : Space) (skipped : Option ℕ) (start found : Option Found) (names : List Symbol)
-        → all ≡ begin ∷ rest → begun + 1 ≡ count → start ≡ first items scope brought (asking m (view begin) (space_before begun space) skipped) is_global
+        → all ≡ begin ∷ rest → begun + 1 ≡ count → start ≡ first items scope brought (lookup_of m (view begin) (space_before begun space) skipped) is_global
         → behind_all items scope brought left m space found names ≡ behind_all items scope brought begun m space start (map view rest)
         → behind_all items scope brought left m space found names ≡ found
         → found ≡ path_named items scope brought count m is_global space skipped (map view all)
@@ -85,52 +85,52 @@ module _ (items : Items) (scope : Scope) (n i : ℕ) where
   kind_done found done = ap (λ k. kind_within items scope k found) (none_left n i done)
 
 module _ (cx : Context) where
-  pub value_less : (room left : ℕ) (w : Where) (e : Expr) (wanted : Option Kind) → left + 1 ≡ room → evaluator cx room w e wanted ≡ value_with cx (evaluator cx left) w e wanted
+  pub value_less : (depth_left left : ℕ) (w : Where) (e : Expr) (wanted : Option Kind) → left + 1 ≡ depth_left → evaluator cx depth_left w e wanted ≡ value_with cx (evaluator cx left) w e wanted
   unfolding evaluator
   value_less zero left w e wanted is = absurd (omega arith)
-  value_less (suc room) left w e wanted is = let q : room ≡ left = omega arith in ap (λ r. value_with cx (evaluator cx r) w e wanted) q
+  value_less (suc depth_left) left w e wanted is = let q : depth_left ≡ left = omega arith in ap (λ r. value_with cx (evaluator cx r) w e wanted) q
 
-  pub value_none : (room : ℕ) (w : Where) (e : Expr) (wanted : Option Kind) → room ≡ 0 → evaluator cx room w e wanted ≡ too_deep
+  pub value_none : (depth_left : ℕ) (w : Where) (e : Expr) (wanted : Option Kind) → depth_left ≡ 0 → evaluator cx depth_left w e wanted ≡ too_deep
   unfolding evaluator
   value_none zero w e wanted is = refl
-  value_none (suc room) w e wanted is = absurd (omega arith)
+  value_none (suc depth_left) w e wanted is = absurd (omega arith)
 
-  pub resolve_less : (room left : ℕ) (w : Where) (t : Written) → left + 1 ≡ room → resolver cx room w t ≡ type_with cx (inner cx left) w t
+  pub resolve_less : (depth_left left : ℕ) (w : Where) (t : Written) → left + 1 ≡ depth_left → resolver cx depth_left w t ≡ type_with cx (inner cx left) w t
   unfolding inner
   resolve_less zero left w t is = absurd (omega arith)
-  resolve_less (suc room) left w t is = let q : room ≡ left = omega arith in ap (λ r. type_with cx (inner cx r) w t) q
+  resolve_less (suc depth_left) left w t is = let q : depth_left ≡ left = omega arith in ap (λ r. type_with cx (inner cx r) w t) q
 
-  pub resolve_none : (room : ℕ) (w : Where) (t : Written) → room ≡ 0 → resolver cx room w t ≡ too_deep
+  pub resolve_none : (depth_left : ℕ) (w : Where) (t : Written) → depth_left ≡ 0 → resolver cx depth_left w t ≡ too_deep
   unfolding inner
   resolve_none zero w t is = refl
-  resolve_none (suc room) w t is = absurd (omega arith)
+  resolve_none (suc depth_left) w t is = absurd (omega arith)
 
-  pub item_less : (room left : ℕ) (w : Where) (n : ℕ) (s : Segment) → left + 1 ≡ room → (inner cx room).item_of w n s ≡ item_with cx (inner cx left) w n s
+  pub item_less : (depth_left left : ℕ) (w : Where) (n : ℕ) (s : Segment) → left + 1 ≡ depth_left → (inner cx depth_left).item_of w n s ≡ item_with cx (inner cx left) w n s
   unfolding inner
   item_less zero left w n s is = absurd (omega arith)
-  item_less (suc room) left w n s is = let q : room ≡ left = omega arith in ap (λ r. item_with cx (inner cx r) w n s) q
+  item_less (suc depth_left) left w n s is = let q : depth_left ≡ left = omega arith in ap (λ r. item_with cx (inner cx r) w n s) q
 
-  pub item_none : (room : ℕ) (w : Where) (n : ℕ) (s : Segment) → room ≡ 0 → (inner cx room).item_of w n s ≡ too_deep
+  pub item_none : (depth_left : ℕ) (w : Where) (n : ℕ) (s : Segment) → depth_left ≡ 0 → (inner cx depth_left).item_of w n s ≡ too_deep
   unfolding inner
   item_none zero w n s is = refl
-  item_none (suc room) w n s is = absurd (omega arith)
+  item_none (suc depth_left) w n s is = absurd (omega arith)
 
-  pub tail_less : (room left : ℕ) (outer : Outer) (t : TyRead) → left + 1 ≡ room → (tail_inner cx room).tail_of outer t ≡ tail_with cx (tail_inner cx left) outer t
+  pub tail_less : (depth_left left : ℕ) (outer : Outer) (t : TyRead) → left + 1 ≡ depth_left → (tail_inner cx depth_left).tail_of outer t ≡ tail_with cx (tail_inner cx left) outer t
   unfolding tail_inner
   tail_less zero left outer t is = absurd (omega arith)
-  tail_less (suc room) left outer t is = let q : room ≡ left = omega arith in ap (λ r. tail_with cx (tail_inner cx r) outer t) q
+  tail_less (suc depth_left) left outer t is = let q : depth_left ≡ left = omega arith in ap (λ r. tail_with cx (tail_inner cx r) outer t) q
 
-  pub tail_none : (room : ℕ) (outer : Outer) (t : TyRead) → room ≡ 0 → (tail_inner cx room).tail_of outer t ≡ too_deep
+  pub tail_none : (depth_left : ℕ) (outer : Outer) (t : TyRead) → depth_left ≡ 0 → (tail_inner cx depth_left).tail_of outer t ≡ too_deep
   unfolding tail_inner
   tail_none zero outer t is = refl
-  tail_none (suc room) outer t is = absurd (omega arith)
+  tail_none (suc depth_left) outer t is = absurd (omega arith)
 
-  pub tail_item_less : (room left : ℕ) (outer : Outer) (n : ℕ) (gs : GivensRead) → left + 1 ≡ room → (tail_inner cx room).tail_of_item outer n gs ≡ tail_of_item_with cx (tail_inner cx left) outer n gs
+  pub tail_item_less : (depth_left left : ℕ) (outer : Outer) (n : ℕ) (gs : GenericArgsRead) → left + 1 ≡ depth_left → (tail_inner cx depth_left).tail_of_item outer n gs ≡ tail_of_item_with cx (tail_inner cx left) outer n gs
   unfolding tail_inner
   tail_item_less zero left outer n gs is = absurd (omega arith)
-  tail_item_less (suc room) left outer n gs is = let q : room ≡ left = omega arith in ap (λ r. tail_of_item_with cx (tail_inner cx r) outer n gs) q
+  tail_item_less (suc depth_left) left outer n gs is = let q : depth_left ≡ left = omega arith in ap (λ r. tail_of_item_with cx (tail_inner cx r) outer n gs) q
 
-  pub tail_item_none : (room : ℕ) (outer : Outer) (n : ℕ) (gs : GivensRead) → room ≡ 0 → (tail_inner cx room).tail_of_item outer n gs ≡ too_deep
+  pub tail_item_none : (depth_left : ℕ) (outer : Outer) (n : ℕ) (gs : GenericArgsRead) → depth_left ≡ 0 → (tail_inner cx depth_left).tail_of_item outer n gs ≡ too_deep
   unfolding tail_inner
   tail_item_none zero outer n gs is = refl
-  tail_item_none (suc room) outer n gs is = absurd (omega arith)
+  tail_item_none (suc depth_left) outer n gs is = absurd (omega arith)

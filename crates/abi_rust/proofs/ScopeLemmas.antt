@@ -13,7 +13,7 @@ use Rattle.abi_rust.specs.declared.ways.Glob.{Glob}
 use Rattle.abi_rust.specs.Globs.{KeepsGlobs, Leads, led_to, lists_of}
 use Rattle.abi_rust.specs.Kinds.{type_named}
 use Rattle.abi_rust.specs.Names.{named_behind, first, found_of, most_uses, own, target_with, targets_on, use_target, use_targets, within}
-use Rattle.abi_rust.specs.OwnConstants.{is_own, last_told, own_at, own_type, own_type_by, type_owning}
+use Rattle.abi_rust.specs.OwnConstants.{is_own, last_known, own_at, own_type, own_type_by, type_owning}
 use Rattle.abi_rust.specs.Scope.{constant_standing, leads_nowhere, module_in, reached_from, same_key, type_standing, use_in}
 use Rattle.abi_rust.specs.ScopeNames.{HasSameNames, KeepsNames, KeepsOwn}
 use Rattle.abi_rust.specs.Standing.{ModuleName, first_so}
@@ -22,8 +22,8 @@ use Rattle.abi_rust.proofs.GlobLemmas.{names_on, reaches}
 
 -- an error that was passed on
 pub passed_on : {B : Type 0} (P : Stop → Type 0) (e : Stop) (r : Result B Stop) → IsErrAnd r (λ stop. stop ≡ e) → P e → IfErr r P
-passed_on P e (Ok b) h told = absurd h
-passed_on P e (Err stop) h told = subst P (sym h) told
+passed_on P e (Ok b) h report = absurd h
+passed_on P e (Err stop) h report = subst P (sym h) report
 
 same_prelude : (old new : Scope) → HasSameNames old new → module_in old old.std_root (symbol_of old.words Prelude) ≡ module_in new new.std_root (symbol_of new.words Prelude)
 unfolding module_in
@@ -68,7 +68,7 @@ pub keeps_own : (items : Items) (scope other : Scope)
     → KeepsOwn items (with_own scope other)
 keeps_own items scope other constants owners = record {
   constants = λ k. constants k ∙ ap (λ (of : Item → Option ℕ). first_so (λ (it : Item). is_own k (of it) it.name) 0 items.items.items) (sym (same_own items scope other));
-  owners = λ n. owners n ∙ ap (λ (of : Item → Option ℕ). last_told of 0 n items.items.items) (sym (same_own items scope other));
+  owners = λ n. owners n ∙ ap (λ (of : Item → Option ℕ). last_known of 0 n items.items.items) (sym (same_own items scope other));
 }
 
 -- nor of where globs lead

@@ -18,32 +18,32 @@ use Rattle.abi_rust.specs.Measure.{Measure, each_meant}
 use Rattle.abi_rust.specs.Resolving.{inside_item}
 use Rattle.abi_rust.specs.Tails.{Outer, stands_in}
 use Rattle.abi_rust.specs.Trees.{TreeInner, field_tree, field_trees, tree_by_item, item_tree, kind_tree, tree_inner, type_tree, variant_as_tree, variant_tree, variant_trees, variants_listed}
-use Rattle.abi_rust.specs.Types.{GivenRead, GivensRead, TyRead, Where, givens, list_of_types, ty_of, types}
+use Rattle.abi_rust.specs.Types.{GenericArgRead, GenericArgsRead, TyRead, Where, givens, list_of_types, ty_of, types}
 use Rattle.abi_rust.specs.declared.fault.Stop.{Stop}
 use Rattle.abi_rust.specs.declared.ty.Ty.{Ty}
-use Rattle.abi_rust.specs.declared.work.Context.{Context}
+use Rattle.abi_rust.specs.declared.budget.Context.{Context}
 use Rattle.abi_rust.proofs.Lasts.{list_given_is}
 
 module _ (cx : Context) (m : Measure) where
-  pub type_less : (room left : ℕ) (outer : Outer) (t : TyRead) → left + 1 ≡ room → (tree_inner cx m room).of_type outer t ≡ type_tree cx m (tree_inner cx m left) outer t
+  pub type_less : (depth_left left : ℕ) (outer : Outer) (t : TyRead) → left + 1 ≡ depth_left → (tree_inner cx m depth_left).of_type outer t ≡ type_tree cx m (tree_inner cx m left) outer t
   unfolding tree_inner
   type_less zero left outer t is = absurd (omega arith)
-  type_less (suc room) left outer t is = let q : room ≡ left = omega arith in ap (λ r. type_tree cx m (tree_inner cx m r) outer t) q
+  type_less (suc depth_left) left outer t is = let q : depth_left ≡ left = omega arith in ap (λ r. type_tree cx m (tree_inner cx m r) outer t) q
 
-  pub type_none : (room : ℕ) (outer : Outer) (t : TyRead) → room ≡ 0 → (tree_inner cx m room).of_type outer t ≡ too_deep
+  pub type_none : (depth_left : ℕ) (outer : Outer) (t : TyRead) → depth_left ≡ 0 → (tree_inner cx m depth_left).of_type outer t ≡ too_deep
   unfolding tree_inner
   type_none zero outer t is = refl
-  type_none (suc room) outer t is = absurd (omega arith)
+  type_none (suc depth_left) outer t is = absurd (omega arith)
 
-  pub item_less : (room left : ℕ) (outer : Outer) (n : ℕ) (gs : GivensRead) → left + 1 ≡ room → (tree_inner cx m room).of_item outer n gs ≡ item_tree cx m (tree_inner cx m left) outer n gs
+  pub item_less : (depth_left left : ℕ) (outer : Outer) (n : ℕ) (gs : GenericArgsRead) → left + 1 ≡ depth_left → (tree_inner cx m depth_left).of_item outer n gs ≡ item_tree cx m (tree_inner cx m left) outer n gs
   unfolding tree_inner
   item_less zero left outer n gs is = absurd (omega arith)
-  item_less (suc room) left outer n gs is = let q : room ≡ left = omega arith in ap (λ r. item_tree cx m (tree_inner cx m r) outer n gs) q
+  item_less (suc depth_left) left outer n gs is = let q : depth_left ≡ left = omega arith in ap (λ r. item_tree cx m (tree_inner cx m r) outer n gs) q
 
-  pub item_none : (room : ℕ) (outer : Outer) (n : ℕ) (gs : GivensRead) → room ≡ 0 → (tree_inner cx m room).of_item outer n gs ≡ too_deep
+  pub item_none : (depth_left : ℕ) (outer : Outer) (n : ℕ) (gs : GenericArgsRead) → depth_left ≡ 0 → (tree_inner cx m depth_left).of_item outer n gs ≡ too_deep
   unfolding tree_inner
   item_none zero outer n gs is = refl
-  item_none (suc room) outer n gs is = absurd (omega arith)
+  item_none (suc depth_left) outer n gs is = absurd (omega arith)
 
 -- ---- lists
 
@@ -130,7 +130,7 @@ tree_of_enum repr all = ap tree_of (sym (rolls-Enum repr all)) ∙ fold-roll-Typ
 -- ---- items
 
 -- the tree of an item that doesn't stand in itself
-pub found_on : (cx : Context) (m : Measure) (T : TreeInner) (outer inside : Outer) (n : ℕ) (it : Item) (gs : List GivenRead) (r : Result TypeTree Stop)
+pub found_on : (cx : Context) (m : Measure) (T : TreeInner) (outer inside : Outer) (n : ℕ) (it : Item) (gs : List GenericArgRead) (r : Result TypeTree Stop)
     → stands_in outer n (givens gs) ≡ false → inside ≡ (n, givens gs) ∷ outer → Means tree_of (kind_tree cx m T inside (inside_item n it gs) n it it.kind) r
     → Means tree_of (tree_by_item cx m T outer n (givens gs) (Some it)) r
 found_on cx m T outer inside n it gs r apart is answers = rw (apart, list_given_is gs) (rw is at answers)

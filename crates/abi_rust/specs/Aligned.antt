@@ -10,7 +10,7 @@ use Rattle.rust_source.specs.declared.syntax.«Type».{«Type» as Written}
 use Rattle.abi_rust.specs.declared.fault.FaultKind.TheVariants.{AlignedInPacked, DiscriminantWithoutRepr}
 use Rattle.abi_rust.specs.declared.paths.Found.{Found}
 use Rattle.abi_rust.specs.declared.paths.Found.TheVariants.{Item as ItemFound}
-use Rattle.abi_rust.specs.declared.work.Context.{Context}
+use Rattle.abi_rust.specs.declared.budget.Context.{Context}
 use Rattle.abi_rust.specs.Kinds.{found_by, is_parameter_of, item_at}
 use Rattle.abi_rust.specs.Meaning.{Meaning, then_meant, fault_at, too_deep}
 use Rattle.abi_rust.specs.Names.{root}
@@ -77,13 +77,13 @@ module _ (cx : Context) where
         else (if nat_eq (root cx.items.now it.«module») cx.scope.now.std_root then Ok false else A.of_fields it fs)
 
   -- the same, where types may need one another so deep
-  unfoldable pub aligning : (room : ℕ) → Aligning
+  unfoldable pub aligning : (depth_left : ℕ) → Aligning
   aligning zero = record { of_fields = λ it fs. too_deep; of_type = λ it t. too_deep; of_item = λ it fs. too_deep }
-  aligning (suc room) = record { of_fields = any_aligned (aligning room); of_type = type_aligned (aligning room); of_item = fields_aligned (aligning room) }
+  aligning (suc depth_left) = record { of_fields = any_aligned (aligning depth_left); of_type = type_aligned (aligning depth_left); of_item = fields_aligned (aligning depth_left) }
 
   -- a packed struct or union has no field whose type has `align`
-  unfoldable pub packed_checked : (room : ℕ) → Item → List Field → Meaning Bool
-  packed_checked room it fs =
+  unfoldable pub packed_checked : (depth_left : ℕ) → Item → List Field → Meaning Bool
+  packed_checked depth_left it fs =
       if is_some it.repr.packed
-      then then_meant (λ is. if is then fault_at (place_of_repr it) AlignedInPacked else Ok true) ((aligning room).of_fields it fs)
+      then then_meant (λ is. if is then fault_at (place_of_repr it) AlignedInPacked else Ok true) ((aligning depth_left).of_fields it fs)
       else Ok true

@@ -27,7 +27,7 @@ use Rattle.abi_rust.specs.declared.paths.Found.TheVariants.{Ambiguous as Ambiguo
 use Rattle.abi_rust.specs.declared.paths.Space.TheVariants.{Types, Values}
 use Rattle.abi_rust.specs.declared.ty.Kind.{Kind}
 use Rattle.abi_rust.specs.declared.ty.Kind.TheVariants.{Bool as BoolKind, Char as CharKind, Integer as KindInteger}
-use Rattle.abi_rust.specs.declared.work.Context.{Context}
+use Rattle.abi_rust.specs.declared.budget.Context.{Context}
 use Rattle.abi_rust.specs.declared.words.Word.TheVariants as word
 use Rattle.abi_rust.specs.Kinds.{constant_named, constant_place, given_named, is_shift, item_at, kind_of_names, kind_of_expr, kind_written, operand_kind, outside, single_name}
 use Rattle.abi_rust.specs.Known.{known_at}
@@ -36,7 +36,7 @@ use Rattle.abi_rust.specs.Names.{found, found_of}
 use Rattle.abi_rust.specs.Operators.{Made, binary_of, bits_of_integer, cast_of, fitted, is_settled, is_signed, is_same_kind, unary_of}
 use Rattle.abi_rust.specs.Places.{last_name, place_of_expr, place_of_path}
 use Rattle.abi_rust.specs.Scope.{module_in}
-use Rattle.abi_rust.specs.Types.{GivenRead, Where, of_value}
+use Rattle.abi_rust.specs.Types.{GenericArgRead, Where, of_value}
 use Rattle.abi_rust.specs.Values.{ValueRead, code, kind_read, number, truth}
 use Rattle.abi_rust.specs.Words.{is_word, is_same_name, symbol_of}
 
@@ -259,7 +259,7 @@ module _ (cx : Context) where
   unfoldable pub variant_named : (inside : ℕ) → Path → Option (Item × ℕ)
   variant_named m p = variant_at_path m p (last_name p)
 
-  abbrev pub value_in : Option GivenRead → Option ValueRead
+  abbrev pub value_in : Option GenericArgRead → Option ValueRead
   value_in (Some (of_value v)) = Some v
   value_in _ = None
 
@@ -383,6 +383,6 @@ module _ (cx : Context) where
     value_with w e wanted = then_meant (typed (place_of_expr e) wanted) (value_by w wanted e)
 
   -- how expressions are evaluated, where constants may need one another so deep
-  unfoldable pub evaluator : (room : ℕ) → Evaluator
+  unfoldable pub evaluator : (depth_left : ℕ) → Evaluator
   evaluator zero w e wanted = too_deep
-  evaluator (suc room) w e wanted = value_with (evaluator room) w e wanted
+  evaluator (suc depth_left) w e wanted = value_with (evaluator depth_left) w e wanted

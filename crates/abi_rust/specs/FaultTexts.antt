@@ -29,5 +29,5 @@ abbrev pub GoesOn : (old new : List ℕ) → Type 0
 GoesOn old new = (more : List ℕ) × (new ≡ old ++ more)
 
 -- behind what stood there stands a text with the name in quotes
-abbrev pub TellsName : Names → Symbol → (old new : List ℕ) → Type 0
-TellsName names n old new = (before after : List ℕ) × (new ≡ (old ++ before ++ in_quotes names n) ++ after)
+abbrev pub QuotesName : Names → Symbol → (old new : List ℕ) → Type 0
+QuotesName names n old new = (before after : List ℕ) × (new ≡ (old ++ before ++ in_quotes names n) ++ after)

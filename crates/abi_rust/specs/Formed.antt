@@ -4,11 +4,11 @@ use Rattle.rust_source.specs.declared.item.Parameter.{Parameter}
 use Rattle.abi_rust.specs.declared.fault.FaultKind.TheVariants.{Unsized}
 use Rattle.abi_rust.specs.declared.fault.Stop.TheVariants.{Fault}
 use Rattle.abi_rust.specs.declared.tail.Tail.{Tail}
-use Rattle.abi_rust.specs.declared.work.Context.{Context}
+use Rattle.abi_rust.specs.declared.budget.Context.{Context}
 use Rattle.abi_rust.specs.Kinds.{item_at, parameters_of}
 use Rattle.abi_rust.specs.Meaning.{Meaning}
 use Rattle.abi_rust.specs.Tails.{has_known_size, pointee_tail}
-use Rattle.abi_rust.specs.Types.{GivenRead, GivensRead, TyRead, TysRead, adt, array, more_given, more_types, no_given, no_types, of_type, of_value, pointer, reference, slice, tuple}
+use Rattle.abi_rust.specs.Types.{GenericArgRead, GenericArgsRead, TyRead, TysRead, adt, array, more_given, more_types, no_given, no_types, of_type, of_value, pointer, reference, slice, tuple}
 
 -- a pointer tells more than an address. Where what it tells can't be found out, the type counts as one that has a size
 abbrev pub tells_more : Meaning Tail → Bool
@@ -21,7 +21,7 @@ module _ (cx : Context) where
   lacks_size t = tells_more (pointee_tail cx t)
 
   -- what a parameter is given has no size of its own
-  abbrev pub given_lacks : GivenRead → Bool
+  abbrev pub given_lacks : GenericArgRead → Bool
   given_lacks (of_type t) = lacks_size t
   given_lacks (of_value v) = false
 
@@ -32,7 +32,7 @@ module _ (cx : Context) where
   sized_but_last (more_types t (more_types u us)) = not (lacks_size t) && sized_but_last (more_types u us)
 
   -- each of these parameters that isn't `?Sized` is given what has a size
-  abbrev pub sizes_given : List Parameter → GivensRead → Bool
+  abbrev pub sizes_given : List Parameter → GenericArgsRead → Bool
   sizes_given [] gs = true
   sizes_given (p ∷ ps) no_given = true
   sizes_given (p ∷ ps) (more_given g gs) = (p.may_be_unsized || not (given_lacks g)) && sizes_given ps gs
@@ -53,11 +53,11 @@ module _ (cx : Context) where
     all_formed no_types = true
     all_formed (more_types t ts) = is_formed t && all_formed ts
 
-    pub given_formed : GivenRead → Bool
+    pub given_formed : GenericArgRead → Bool
     given_formed (of_type t) = is_formed t
     given_formed (of_value v) = true
 
-    pub all_given_formed : GivensRead → Bool
+    pub all_given_formed : GenericArgsRead → Bool
     all_given_formed no_given = true
     all_given_formed (more_given g gs) = given_formed g && all_given_formed gs
 

@@ -1,5 +1,5 @@
 -- The type of a constant expression, found without its value.
-use Rattle.std.specs.Prelude.{ℕ, zero, suc, ◌-◌, nat_eq, is_some, Bool, true, false, List, [], ◌∷◌, length, slice_get, Option, Some, None, if◌then◌else◌}
+use Rattle.std.specs.Prelude.{ℕ, zero, suc, ◌-◌, ◌||◌, nat_eq, nat_lt, not, is_some, Bool, true, false, List, [], ◌∷◌, length, slice_get, Option, Some, None, if◌then◌else◌}
 use Rattle.std.specs.Option.{option_and_then, option_or}
 use Rattle.rust_source.specs.declared.item.Item.{Item}
 use Rattle.rust_source.specs.declared.item.ItemKind.{ItemKind}
@@ -30,7 +30,7 @@ use Rattle.abi_rust.specs.declared.words.Word.TheVariants as word
 use Rattle.abi_rust.specs.Names.{found, found_of, visibility_of_item}
 use Rattle.abi_rust.specs.Places.{last_name}
 use Rattle.abi_rust.specs.Scope.{own_constant, owner_of}
-use Rattle.abi_rust.specs.Types.{GivenRead, Where, of_type, primitive}
+use Rattle.abi_rust.specs.Types.{GenericArgRead, Where, of_type, primitive}
 use Rattle.abi_rust.specs.Visible.{is_visible}
 use Rattle.abi_rust.specs.Words.{is_word, is_same_name}
 
@@ -42,9 +42,13 @@ most_aliases = 64
 abbrev pub outside : (inside : ℕ) → Where
 outside m = record { inside = m; item = None; given = [] }
 
+-- something stands in angle brackets behind a name
+abbrev pub is_given : Segment → Bool
+is_given s = nat_lt 0 (out-Segment s).lifetimes || not (nat_eq (length (out-Segment s).arguments.items) 0)
+
 -- the name that a path is that is one name without arguments
 abbrev pub single_of : (is_global : Bool) → List Segment → Option Symbol
-single_of false (s ∷ []) = if nat_eq (length (out-Segment s).arguments.items) 0 then Some (out-Segment s).name else None
+single_of false (s ∷ []) = if is_given s then None else Some (out-Segment s).name
 single_of _ _ = None
 
 unfoldable pub single_name : Path → Option Symbol
@@ -78,7 +82,7 @@ kind_of_primitive (IntegerType kind) = Some (KindInteger kind)
 kind_of_primitive _ = None
 
 -- the type of constants that a parameter is given
-abbrev pub kind_given : Option GivenRead → Option Kind
+abbrev pub kind_given : Option GenericArgRead → Option Kind
 kind_given (Some (of_type (primitive p))) = kind_of_primitive p
 kind_given _ = None
 
@@ -176,7 +180,7 @@ module _ (items : Items) (scope : Scope) where
   parameter_named item name = number_from 0 name (parameters_of (option_and_then item_at item))
 
   -- what the parameter of this name is given
-  unfoldable pub given_named : Where → Symbol → Option GivenRead
+  unfoldable pub given_named : Where → Symbol → Option GenericArgRead
   given_named w name = option_and_then (slice_get w.given) (parameter_named w.item name)
 
   -- what the parameter of this name is, or else what the names name

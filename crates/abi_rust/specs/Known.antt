@@ -7,11 +7,11 @@ use Rattle.rust_source.specs.declared.place.Place.{Place}
 use Rattle.rust_source.specs.declared.syntax.«Type».{«Type» as Written}
 use Rattle.abi_rust.specs.declared.ty.Primitive.{Primitive}
 use Rattle.abi_rust.specs.declared.ty.Primitive.TheVariants as named
-use Rattle.abi_rust.specs.declared.work.KnownSize.{KnownSize}
-use Rattle.abi_rust.specs.declared.work.Request.{Request}
+use Rattle.abi_rust.specs.declared.budget.KnownSize.{KnownSize}
+use Rattle.abi_rust.specs.declared.budget.Request.{Request}
 use Rattle.abi_rust.specs.Meaning.{Meaning}
 use Rattle.abi_rust.specs.Operators.{same_integer}
-use Rattle.abi_rust.specs.Types.{GivenRead, GivensRead, TyRead, TysRead, Where, adt, all_given, array, dyn, function, givens, more_given, more_types, never, no_given, no_types, of_type, of_value, pointer, primitive, reference, slice, tuple}
+use Rattle.abi_rust.specs.Types.{GenericArgRead, GenericArgsRead, TyRead, TysRead, Where, adt, all_given, array, dyn, function, givens, more_given, more_types, never, no_given, no_types, of_type, of_value, pointer, primitive, reference, slice, tuple}
 use Rattle.abi_rust.specs.Values.{ValueRead, code, number, truth}
 
 -- two truths are one
@@ -64,12 +64,12 @@ abbrev mutual
   same_tys (more_types t ts) (more_types u us) = same_ty t u && same_tys ts us
   same_tys _ _ = false
 
-  pub same_given : GivenRead → GivenRead → Bool
+  pub same_given : GenericArgRead → GenericArgRead → Bool
   same_given (of_type t) (of_type u) = same_ty t u
   same_given (of_value v) (of_value w) = same_value v w
   same_given _ _ = false
 
-  pub same_givens : GivensRead → GivensRead → Bool
+  pub same_givens : GenericArgsRead → GenericArgsRead → Bool
   same_givens no_given no_given = true
   same_givens (more_given g gs) (more_given h hs) = same_given g h && same_givens gs hs
   same_givens _ _ = false

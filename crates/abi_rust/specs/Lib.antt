@@ -23,7 +23,7 @@ pub mod Sources
 pub mod Standing
 pub mod Tails
 pub mod Targets
-pub mod Told
+pub mod TypeReport
 pub mod Trees
 pub mod Types
 pub mod Values

@@ -7,7 +7,7 @@ use Rattle.rust_source.specs.declared.place.Symbol.{Symbol}
 use Rattle.rust_source.specs.declared.place.TheConstants.Symbol.{CRATE, SELF, SUPER}
 use Rattle.rust_source.specs.declared.syntax.Path.{Path, out-Path}
 use Rattle.rust_source.specs.declared.syntax.Segment.{out-Segment}
-use Rattle.abi_rust.specs.declared.paths.Asked.{Asked}
+use Rattle.abi_rust.specs.declared.paths.Lookup.{Lookup}
 use Rattle.abi_rust.specs.declared.paths.Found.{Found}
 use Rattle.abi_rust.specs.declared.paths.Found.TheVariants.{Ambiguous, Hidden, Module, Item as ItemFound, Primitive as PrimitiveFound, Unknown}
 use Rattle.abi_rust.specs.declared.paths.OwnName.{OwnName}
@@ -100,15 +100,15 @@ declared items s m name Types =
     option_or (option_map (own_item items) (type_standing s m name)) (option_map (own_module items) (module_in s m name))
 
 -- what is asked for by a name in a module
-abbrev pub asking : (from : ℕ) → Symbol → Space → (skipped : Option ℕ) → Asked
-asking from name space skipped = record { from = from; name = name; space = space; skipped = skipped }
+abbrev pub lookup_of : (from : ℕ) → Symbol → Space → (skipped : Option ℕ) → Lookup
+lookup_of from name space skipped = record { from = from; name = name; space = space; skipped = skipped }
 
 -- the use counts for nothing
 abbrev pub is_skipped : (skipped : Option ℕ) → (use_number : ℕ) → Bool
 is_skipped None u = false
 is_skipped (Some skipped) u = nat_eq skipped u
 
--- one of several that have the name: whoever asks is told so
+-- one of several that have the name: whoever asks gets this answer
 abbrev pub ambiguous : Symbol → OwnName
 ambiguous name = record { found = Ambiguous name; visible_in = None }
 
@@ -184,85 +184,85 @@ names_in_path p = map (λ s. (out-Segment s).name) (out-Path p).segments.items
 -- a name that a glob may bring into a module, if one leads to nothing that is read: it stands before the names of the
 -- prelude and of the language. At the head of a use it is none of the standard library's own names, since it would be
 -- ambiguous there
-abbrev pub perhaps : Items → Scope → (inside : ℕ) → Asked → Option Found
+abbrev pub perhaps : Items → Scope → (inside : ℕ) → Lookup → Option Found
 perhaps items scope m a =
     if leads_nowhere items scope m a.from && not (is_some a.skipped && is_std scope.words a.name) then Some Unknown else None
 
 module _ (items : Items) (scope : Scope) where
   module _ (brought : (use_number : ℕ) → Space → Option Found) where
     -- what a use brings in, with where it may be used
-    abbrev pub own_import : Asked → (use_number : ℕ) → Option OwnName
+    abbrev pub own_import : Lookup → (use_number : ℕ) → Option OwnName
     own_import a u = option_map (λ found. record { found = found; visible_in = visibility_of_use items u }) (imported brought u a.space)
 
     -- what the use of a name brings in, but for the one that counts for nothing; of several uses it is ambiguous
-    abbrev pub used_by : Asked → Option ℕ → Option OwnName
+    abbrev pub used_by : Lookup → Option ℕ → Option OwnName
     used_by a None = None
     used_by a (Some u) =
         if nat_eq u several then Some (ambiguous a.name) else (if is_skipped a.skipped u then None else own_import a u)
 
     -- what a name names in a module without its globs: what stands there, or else what a use brings in
-    unfoldable pub own : (inside : ℕ) → Asked → Option OwnName
+    unfoldable pub own : (inside : ℕ) → Lookup → Option OwnName
     own m a = standing_or_import a.name (declared items scope m a.name a.space) (used_by a (use_in scope m a.name))
 
     -- each module that a way's globs stand in sees what is visible in that module, and has no such name of its own, which
     -- would stand before
-    abbrev pub is_open : List Way → Asked → Way → (visible_in : Option ℕ) → Bool
+    abbrev pub is_open : List Way → Lookup → Way → (visible_in : Option ℕ) → Bool
     is_open ways a way visible_in =
         all_along (λ w. is_visible items visible_in w.glob.inside && not (is_some (own w.glob.inside a))) ways (Some way)
 
     -- what the way brings that the module at its end has of its own: it may be used where each of its globs may
-    abbrev pub along_open : List Way → Asked → Way → OwnName → Option Seen
+    abbrev pub along_open : List Way → Lookup → Way → OwnName → Option Seen
     along_open ways a way end =
         if is_open ways a way end.visible_in
         then Some (record { found = end.found; is_visible = is_visible items end.visible_in a.from && is_way_visible items ways a.from way })
         else None
 
     -- what a way of globs brings under a name
-    abbrev pub along : List Way → Asked → Way → Option Seen
+    abbrev pub along : List Way → Lookup → Way → Option Seen
     along ways a way = option_and_then (along_open ways a way) (own way.glob.target a)
 
     -- what these of the ways bring under a name, beside what others did: all the same
-    abbrev pub among : List Way → Asked → (before : Option Seen) → (these : List Way) → Option Seen
+    abbrev pub among : List Way → Lookup → (before : Option Seen) → (these : List Way) → Option Seen
     among ways a before [] = before
     among ways a before (way ∷ these) = among ways a (agreed a.name before (along ways a way)) these
 
     -- what a name names in a module: what it has of its own, or else what its globs bring in
-    unfoldable pub within : (inside : ℕ) → Asked → Option Found
+    unfoldable pub within : (inside : ℕ) → Lookup → Option Found
     within m a =
         option_map (shown a.name)
         (option_or (option_map (seen_own items a.from) (own m a)) (among (reached_from scope m) a None (reached_from scope m)))
 
     -- the same, where there is such a module
-    abbrev pub within_some : Option ℕ → Asked → Option Found
+    abbrev pub within_some : Option ℕ → Lookup → Option Found
     within_some None a = None
     within_some (Some m) a = within m a
 
     -- what a name names in the module that asks, or what a glob may bring into it, or else what the prelude has
-    abbrev pub named_near : Asked → Option Found
+    abbrev pub named_near : Lookup → Option Found
     named_near a =
         option_or (within a.from a) (option_or (perhaps items scope a.from a) (within_some scope.prelude a))
 
     -- what a name names that no other stands before: in the module, or else in the prelude, or else everywhere
-    abbrev pub first_named : Asked → (is_global : Bool) → Option Found
+    abbrev pub first_named : Lookup → (is_global : Bool) → Option Found
     first_named a is_global =
         option_or (if is_global then None else named_near a)
         (if is_std scope.words a.name then Some (Module scope.std_root) else option_map PrimitiveFound (primitive_named scope.words a.name))
 
     -- what the first name of a path names in the module that asks
-    unfoldable pub first : Asked → (is_global : Bool) → Option Found
+    unfoldable pub first : Lookup → (is_global : Bool) → Option Found
     first a is_global =
         if is_same_name a.name CRATE then Some (crate_above items a.from)
         else (if is_same_name a.name SELF then Some (Module a.from)
         else (if is_same_name a.name SUPER then option_map Module (parent items a.from)
         else first_named a is_global))
 
-    abbrev pub behind_module : Asked → (inside : ℕ) → Option Found
+    abbrev pub behind_module : Lookup → (inside : ℕ) → Option Found
     behind_module a m =
         if is_same_name a.name SUPER then option_map Module (parent items m)
         else (if is_same_name a.name SELF then Some (Module m)
         else option_or (within m a) (perhaps items scope m a))
 
-    abbrev pub behind_found : Asked → Option Found → Option Found
+    abbrev pub behind_found : Lookup → Option Found → Option Found
     behind_found a (Some (Module m)) = behind_module a m
     behind_found a (Some Unknown) = Some Unknown
     behind_found a (Some (Hidden name)) = Some (Hidden name)
@@ -270,7 +270,7 @@ module _ (items : Items) (scope : Scope) where
     behind_found a _ = None
 
     -- what a name names behind others, which have to name a module; what isn't known has only what isn't
-    unfoldable pub named_behind : Option Found → Asked → Option Found
+    unfoldable pub named_behind : Option Found → Lookup → Option Found
     named_behind before a = behind_found a before
 
     -- what names name behind others, so many of them
@@ -278,14 +278,14 @@ module _ (items : Items) (scope : Scope) where
     behind_all zero m space before names = before
     behind_all (suc count) m space before [] = before
     behind_all (suc count) m space before (name ∷ names) =
-        behind_all count m space (named_behind before (asking m name (space_before count space) None)) names
+        behind_all count m space (named_behind before (lookup_of m name (space_before count space) None)) names
 
     -- what the first names of a path name, so many of them
     abbrev pub path_named : (count : ℕ) → (from : ℕ) → (is_global : Bool) → Space → (skipped : Option ℕ) → List Symbol → Option Found
     path_named zero m is_global space skipped names = None
     path_named (suc count) m is_global space skipped [] = None
     path_named (suc count) m is_global space skipped (name ∷ names) =
-        behind_all count m space (first (asking m name (space_before count space) skipped) is_global) names
+        behind_all count m space (first (lookup_of m name (space_before count space) skipped) is_global) names
 
     -- what a use brings in, by those that its path goes through
     unfoldable pub target_with : (use_number : ℕ) → Use → Space → Option Found

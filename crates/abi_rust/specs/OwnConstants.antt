@@ -13,9 +13,9 @@ use Rattle.abi_rust.specs.Standing.{ModuleName, first_so, is_module_number}
 use Rattle.abi_rust.specs.Scope.{numbered}
 
 -- what the last of these tells that has the number, the first of which stands at this index
-abbrev pub last_told : {A B : Type 0} → (A → Option B) → (index number : ℕ) → List A → Option B
-last_told tell i n [] = None
-last_told tell i n (x ∷ xs) = option_or (last_told tell (i + 1) n xs) (if nat_eq (numbered i) n then tell x else None)
+abbrev pub last_known : {A B : Type 0} → (A → Option B) → (index number : ℕ) → List A → Option B
+last_known report_on i n [] = None
+last_known report_on i n (x ∷ xs) = option_or (last_known report_on (i + 1) n xs) (if nat_eq (numbered i) n then report_on x else None)
 
 -- a constant of this name of the type is the one that is asked for
 abbrev pub is_own : ModuleName → (owner : Option ℕ) → Symbol → Bool
@@ -48,7 +48,7 @@ module _ (items : Items) (scope : Scope) where
 
   -- the type whose own the constant with this number is
   abbrev pub type_owning : (number : ℕ) → Option ℕ
-  type_owning n = last_told own_type 0 n items.items.items
+  type_owning n = last_known own_type 0 n items.items.items
 
   -- a constant of this name is the type's own
   abbrev pub is_own_at : (of_type_and_name : ModuleName) → Item → Bool

@@ -120,7 +120,7 @@ module _ (target : CfgTarget) (is_root : Bool) (text : List ℕ) (old new : Sour
       ⊎ ((library : Having) × (std_root : ℕ) × LibraryRead library std_root × FileReads library (Err stop))
       ⊎ ((std_root : ℕ) × BothRead std_root × ((repeated_of new.items ≡ Some stop) ⊎ IsMemory stop))
 
-  -- nothing is told of types then
+  -- no type is reported on then
   pub record StopsReading (stop : Stop) : Type 0 where
     pub first : FirstFault stop
     pub file : new.file.0 ≡ place_behind 0 library_text

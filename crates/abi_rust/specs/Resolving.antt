@@ -28,17 +28,17 @@ use Rattle.abi_rust.specs.declared.ty.Kind.{Kind}
 use Rattle.abi_rust.specs.declared.ty.Kind.TheVariants.{Integer as KindInteger}
 use Rattle.abi_rust.specs.declared.ty.Primitive.{Primitive}
 use Rattle.abi_rust.specs.declared.ty.Primitive.TheVariants.{Str}
-use Rattle.abi_rust.specs.declared.work.Context.{Context}
+use Rattle.abi_rust.specs.declared.budget.Context.{Context}
 use Rattle.abi_rust.specs.declared.words.Word.{Word}
 use Rattle.abi_rust.specs.declared.words.Word.TheVariants as word
 use Rattle.abi_rust.specs.Evaluating.{evaluator, path_value}
-use Rattle.abi_rust.specs.Kinds.{given_named, item_at, kind_written, outside, parameter_named, single_name}
+use Rattle.abi_rust.specs.Kinds.{given_named, is_given, item_at, kind_written, outside, parameter_named, single_name}
 use Rattle.abi_rust.specs.Meaning.{Meaning, then_meant, fault_at, too_deep}
 use Rattle.abi_rust.specs.Names.{found}
 use Rattle.abi_rust.specs.Operators.{is_same_kind}
 use Rattle.abi_rust.specs.Places.{last_name, place_of_expr, place_of_path}
 use Rattle.abi_rust.specs.Scope.{module_in, type_standing}
-use Rattle.abi_rust.specs.Types.{GivenRead, TyRead, Where, adt, array, dyn, function, givens, never, no_types, of_type, of_value, pointer, primitive, reference, slice, tuple, types}
+use Rattle.abi_rust.specs.Types.{GenericArgRead, TyRead, Where, adt, array, dyn, function, givens, never, no_types, of_type, of_value, pointer, primitive, reference, slice, tuple, types}
 use Rattle.abi_rust.specs.Values.{ValueRead, kind_read, number}
 use Rattle.abi_rust.specs.Words.{is_same_name, symbol_of}
 
@@ -62,7 +62,7 @@ is_wanted None v = false
 is_wanted (Some kind) v = is_same_kind kind (kind_read v)
 
 -- the inside of an item, under what its parameters are given
-abbrev pub inside_item : ℕ → Item → List GivenRead → Where
+abbrev pub inside_item : ℕ → Item → List GenericArgRead → Where
 inside_item n it given = record { inside = it.«module»; item = Some n; given = given }
 
 -- the name of the first segment
@@ -74,10 +74,6 @@ first_name (s ∷ ss) = Some (out-Segment s).name
 abbrev pub is_self_name : Option Symbol → Bool
 is_self_name None = false
 is_self_name (Some name) = is_same_name name SELF_TYPE
-
--- something stands in angle brackets behind a name
-abbrev pub is_given : Segment → Bool
-is_given s = not (nat_eq (length (out-Segment s).arguments.items) 0)
 
 -- the first of these names before the last that is given arguments: it is a module's, which takes none
 abbrev pub given_early : List Segment → Option Segment
@@ -134,7 +130,7 @@ module _ (cx : Context) where
   form_of _ = None
 
   -- what a slice's owned form is given: its element, and an allocator of no bytes
-  abbrev pub form_given : TyRead → List GivenRead
+  abbrev pub form_given : TyRead → List GenericArgRead
   form_given (slice t) = of_type t ∷ of_type (tuple no_types) ∷ []
   form_given _ = []
 
@@ -142,19 +138,19 @@ module _ (cx : Context) where
   owned_form t None = t
   owned_form t (Some n) = adt n (givens (form_given t))
 
-  abbrev pub owned_by : Option GivenRead → Option TyRead
+  abbrev pub owned_by : Option GenericArgRead → Option TyRead
   owned_by (Some (of_type t)) = Some (owned_form t (form_of t))
   owned_by _ = None
 
   -- the owned form of what the parameter is given, where the item is the one that stands for it
-  unfoldable pub owned_of : ℕ → List GivenRead → Option TyRead
+  unfoldable pub owned_of : ℕ → List GenericArgRead → Option TyRead
   owned_of n given = if is_item (item_in word.Borrow word.Owned) n then owned_by (slice_get given 0) else None
 
-  abbrev pub owned_or : ℕ → List GivenRead → Option TyRead → TyRead
+  abbrev pub owned_or : ℕ → List GenericArgRead → Option TyRead → TyRead
   owned_or n given (Some t) = t
   owned_or n given None = adt n (givens given)
 
-  abbrev pub type_in_given : Option GivenRead → Option TyRead
+  abbrev pub type_in_given : Option GenericArgRead → Option TyRead
   type_in_given (Some (of_type t)) = Some t
   type_in_given _ = None
 
@@ -252,42 +248,42 @@ module _ (cx : Context) where
     type_with w t = type_of_layer w (out-Type t)
 
     -- the constant that a path names, of the type that is wanted
-    abbrev pub constant_given : Place → (wanted : Option Kind) → ValueRead → Meaning GivenRead
+    abbrev pub constant_given : Place → (wanted : Option Kind) → ValueRead → Meaning GenericArgRead
     constant_given at wanted v = if is_wanted wanted v then Ok (of_value v) else fault_at at WrongType
 
-    abbrev pub type_as_constant : Where → Place → (wanted : Option Kind) → Written → Meaning GivenRead
+    abbrev pub type_as_constant : Where → Place → (wanted : Option Kind) → Written → Meaning GenericArgRead
     type_as_constant w at wanted (PathType p) =
         if may_be_constant w p then then_meant (constant_given at wanted) (path_value cx (evaluator cx most_deep) w p)
         else fault_at at WrongKindOfArgument
     type_as_constant w at wanted _ = fault_at at WrongKindOfArgument
 
     -- what an argument gives a constant's parameter, evaluated where the argument stands
-    abbrev pub given_constant : Where → Place → (wanted : Option Kind) → Argument-F Argument Expr Written Path Segment → Meaning GivenRead
+    abbrev pub given_constant : Where → Place → (wanted : Option Kind) → Argument-F Argument Expr Written Path Segment → Meaning GenericArgRead
     given_constant w at wanted (layer.«Type» t) = type_as_constant w at wanted t
     given_constant w at wanted (layer.Const e) = then_meant (λ v. Ok (of_value v)) (evaluated w e wanted)
     given_constant w at wanted (layer.Binding place) = fault_at place Binding
 
     -- what an argument gives a type's parameter
-    abbrev pub given_type : Where → Place → Argument-F Argument Expr Written Path Segment → Meaning GivenRead
+    abbrev pub given_type : Where → Place → Argument-F Argument Expr Written Path Segment → Meaning GenericArgRead
     given_type w at (layer.«Type» t) = then_meant (λ r. Ok (of_type r)) (R.type_of w t)
     given_type w at (layer.Const e) = fault_at at WrongKindOfArgument
     given_type w at (layer.Binding place) = fault_at place Binding
 
     -- what an argument gives a parameter of an item of this module
-    abbrev pub argument_given : Where → (inside : ℕ) → Place → Argument → ParameterKind → Meaning GivenRead
+    abbrev pub argument_given : Where → (inside : ℕ) → Place → Argument → ParameterKind → Meaning GenericArgRead
     argument_given w m at a (TypeParameter default) = given_type w at (out-Argument a)
     argument_given w m at a (ConstParameter t default) =
         given_constant w at (kind_written cx.items.now cx.scope.now (outside m) t) (out-Argument a)
 
     -- what a parameter is given where no argument stands: its default, in the item itself
-    abbrev pub default_given : Where → Segment → ParameterKind → Meaning GivenRead
+    abbrev pub default_given : Where → Segment → ParameterKind → Meaning GenericArgRead
     default_given w s (TypeParameter (Some t)) = then_meant (λ r. Ok (of_type r)) (R.type_of w t)
     default_given w s (ConstParameter t (Some e)) =
         then_meant (λ v. Ok (of_value v)) (evaluated w e (kind_written cx.items.now cx.scope.now (outside w.inside) t))
     default_given w s _ = fault_at (out-Segment s).at (WrongArguments (out-Segment s).name)
 
     -- what one more parameter is given: by an argument, or else by default
-    abbrev pub one_given : Where → ℕ → Item → Segment → List GivenRead → ParameterKind → Option Argument → Meaning GivenRead
+    abbrev pub one_given : Where → ℕ → Item → Segment → List GenericArgRead → ParameterKind → Option Argument → Meaning GenericArgRead
     one_given w n it s given kind (Some a) = argument_given w it.«module» (out-Segment s).at a kind
     one_given w n it s given kind None = default_given (inside_item n it given) s kind
 
@@ -300,21 +296,21 @@ module _ (cx : Context) where
     other_arguments (a ∷ more) = more
 
     -- what these parameters are given behind those that are given so much
-    abbrev pub give_from : Where → ℕ → Item → Segment → List GivenRead → List Parameter → List Argument → Meaning (List GivenRead)
+    abbrev pub give_from : Where → ℕ → Item → Segment → List GenericArgRead → List Parameter → List Argument → Meaning (List GenericArgRead)
     give_from w n it s given [] arguments = Ok given
     give_from w n it s given (p ∷ ps) arguments =
         then_meant (λ g. give_from w n it s (given ++ g ∷ []) ps (other_arguments arguments))
         (one_given w n it s given p.kind (first_argument arguments))
 
     -- what an item's parameters are given: arguments, and then defaults
-    unfoldable pub give : Where → ℕ → Item → Segment → Meaning (List GivenRead)
+    unfoldable pub give : Where → ℕ → Item → Segment → Meaning (List GenericArgRead)
     give w n it s =
-        if nat_lt (length it.parameters.items) (length (out-Segment s).arguments.items)
+        if nat_lt it.lifetimes (out-Segment s).lifetimes || nat_lt (length it.parameters.items) (length (out-Segment s).arguments.items)
         then fault_at (out-Segment s).at (WrongArguments (out-Segment s).name)
         else give_from w n it s [] it.parameters.items (out-Segment s).arguments.items
 
     -- the type that an item is under what its parameters are given
-    abbrev pub item_under : ℕ → Item → ItemKind → List GivenRead → Meaning TyRead
+    abbrev pub item_under : ℕ → Item → ItemKind → List GenericArgRead → Meaning TyRead
     item_under n it (AliasItem t) given = R.type_of (inside_item n it given) t
     item_under n it _ given = Ok (owned_or n given (owned_of n given))
 
@@ -327,13 +323,13 @@ module _ (cx : Context) where
     item_with w n s = item_by w n s (item_at cx.items.now cx.scope.now n)
 
   -- how types are resolved that may need one another so deep
-  unfoldable pub inner : (room : ℕ) → Inner
+  unfoldable pub inner : (depth_left : ℕ) → Inner
   inner zero = record { type_of = λ w t. too_deep; item_of = λ w n s. too_deep }
-  inner (suc room) = record { type_of = type_with (inner room); item_of = item_with (inner room) }
+  inner (suc depth_left) = record { type_of = type_with (inner depth_left); item_of = item_with (inner depth_left) }
 
   -- the type that is written where it stands
-  abbrev pub resolver : (room : ℕ) → Where → Written → Meaning TyRead
-  resolver room = (inner room).type_of
+  abbrev pub resolver : (depth_left : ℕ) → Where → Written → Meaning TyRead
+  resolver depth_left = (inner depth_left).type_of
 
   -- the type that is written where it stands, with the most room
   abbrev pub resolved : Where → Written → Meaning TyRead

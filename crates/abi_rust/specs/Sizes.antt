@@ -1,18 +1,18 @@
--- What is told of a type whose tree asks for sizes.
+-- The report on a type whose tree asks for sizes.
 use Rattle.std.specs.Prelude.{◌≡◌, ◌⊎◌, true, List, [], ◌∷◌, ◌++◌, Option, None, Result, Err}
 use Rattle.std.specs.Option.{option_map}
 use Rattle.std.specs.Result.{IsErrAnd}
 use Rattle.rust_source.specs.declared.place.Place.{Place}
 use Rattle.abi_rust.specs.Meaning.{Means, is_beside}
 use Rattle.abi_rust.specs.Measure.{Measure}
-use Rattle.abi_rust.specs.Told.{place_of_request, size_meant, told_read, told_under}
+use Rattle.abi_rust.specs.TypeReport.{place_of_request, size_meant, report_read, report_under}
 use Rattle.abi_rust.specs.declared.fault.FaultKind.TheVariants.{TooDeep}
 use Rattle.abi_rust.specs.declared.fault.Stop.{Stop}
 use Rattle.abi_rust.specs.declared.fault.Stop.TheVariants.{Fault, Size}
-use Rattle.abi_rust.specs.declared.told.Subject.{Subject}
-use Rattle.abi_rust.specs.declared.told.Told.{Told}
-use Rattle.abi_rust.specs.declared.work.Context.{Context}
-use Rattle.abi_rust.specs.declared.work.KnownSize.{KnownSize}
+use Rattle.abi_rust.specs.declared.report.Subject.{Subject}
+use Rattle.abi_rust.specs.declared.report.TypeReport.{TypeReport}
+use Rattle.abi_rust.specs.declared.budget.Context.{Context}
+use Rattle.abi_rust.specs.declared.budget.KnownSize.{KnownSize}
 
 -- the same work, but that these sizes are known
 pub record IsUnder (cx : Context) (known : List KnownSize) (under : Context) : Type 0 where
@@ -36,9 +36,9 @@ pub data AreSizes (cx : Context) (m : Measure) : List KnownSize → Type 0 where
 abbrev pub IsOver : Stop → Type 0
 IsOver e = (e ≡ Fault None TooDeep) ⊎ (is_beside e ≡ true)
 
--- what is told: what is meant under sizes that are right, none that is asked for being left; or else, where one is asked for, that there is no end to it
-abbrev pub IsTold : Context → Measure → Subject → (file : Place) → Result (Option Told) Stop → Type 0
-IsTold cx m s file r =
+-- the report: what is meant under sizes that are right, none that is asked for being left; or else, where one is asked for, that there is no end to it
+abbrev pub IsReported : Context → Measure → Subject → (file : Place) → Result (Option TypeReport) Stop → Type 0
+IsReported cx m s file r =
     ((known : List KnownSize) × (under : Context) × AreSizes cx m known × IsUnder cx known under
-    × Means (option_map told_read) (told_under under m s file) r × (r ≡ Err Size → ⊥))
-    ⊎ ((told_under cx m s file ≡ Err Size) × IsErrAnd r IsOver)
+    × Means (option_map report_read) (report_under under m s file) r × (r ≡ Err Size → ⊥))
+    ⊎ ((report_under cx m s file ≡ Err Size) × IsErrAnd r IsOver)

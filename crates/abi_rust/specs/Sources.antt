@@ -2,21 +2,21 @@
 use Rattle.std.specs.Prelude.{◌≡◌, ◌⊎◌, ℕ, zero, suc, ◌-◌, nat_eq, nat_le, Bool, true, false, ◌&&◌, if◌then◌else◌, codes, List, [], ◌++◌, length, slice_get, Option, Some, None, Result, Ok, Err}
 use Rattle.std.specs.Option.{option_map}
 use Rattle.abi_base.specs.declared.data_layout.TargetDataLayout.{TargetDataLayout}
-use Rattle.abi_rust.specs.declared.fault.Fault.{Fault as FaultTold}
+use Rattle.abi_rust.specs.declared.fault.Fault.{Fault as FaultReported}
 use Rattle.abi_rust.specs.declared.fault.FaultKind.TheVariants.{Source, TooDeep}
 use Rattle.abi_rust.specs.declared.fault.FaultPlace.{FaultPlace}
 use Rattle.abi_rust.specs.declared.fault.FaultPlace.TheVariants.{File, Argument, Nowhere}
 use Rattle.abi_rust.specs.declared.fault.Stop.{Stop}
 use Rattle.abi_rust.specs.declared.fault.Stop.TheVariants.{Fault, Size}
 use Rattle.abi_rust.specs.declared.sources.Sources.{Sources}
-use Rattle.abi_rust.specs.declared.told.Subject.{Subject}
-use Rattle.abi_rust.specs.declared.told.Subject.TheVariants.{Item as ItemSubject, Written as WrittenSubject}
-use Rattle.abi_rust.specs.declared.told.Told.{Told}
-use Rattle.abi_rust.specs.declared.work.Context.{Context}
+use Rattle.abi_rust.specs.declared.report.Subject.{Subject}
+use Rattle.abi_rust.specs.declared.report.Subject.TheVariants.{Item as ItemSubject, Written as WrittenSubject}
+use Rattle.abi_rust.specs.declared.report.TypeReport.{TypeReport}
+use Rattle.abi_rust.specs.declared.budget.Context.{Context}
 use Rattle.abi_rust.specs.Meaning.{Means}
 use Rattle.abi_rust.specs.Measure.{Measure}
-use Rattle.abi_rust.specs.Sizes.{IsTold}
-use Rattle.abi_rust.specs.Told.{told_read, told_under}
+use Rattle.abi_rust.specs.Sizes.{IsReported}
+use Rattle.abi_rust.specs.TypeReport.{report_read, report_under}
 use Rattle.rust_source.specs.Names.{text_of, texts}
 use Rattle.rust_source.specs.Sources.{MeansType}
 use Rattle.rust_source.specs.declared.fault.SourceFault.{SourceFault}
@@ -44,18 +44,18 @@ abbrev pub is_type_alone : Option Item → Bool
 is_type_alone None = false
 is_type_alone (Some it) = is_type it.kind && nat_eq (length it.parameters.items) 0
 
--- an item that is told of by itself: one of the file, which stands behind the standard library's, that is a type by itself
-abbrev pub is_told_of : Sources → (item : ℕ) → Bool
-is_told_of s item = nat_le s.first item && is_type_alone (slice_get (items_read s) item)
+-- an item that is reported on by itself: one of the file, which stands behind the standard library's, that is a type by itself
+abbrev pub is_reported : Sources → (item : ℕ) → Bool
+is_reported s item = nat_le s.first item && is_type_alone (slice_get (items_read s) item)
 
 -- where a place of the sources is: those behind the file's beginning are the file's, and those behind the argument's are the argument's
 abbrev pub place_in_sources : Sources → (at : ℕ) → FaultPlace
 place_in_sources s at = if nat_le s.argument.0 at then Argument (at - s.argument.0) else (if nat_le s.file.0 at then File (at - s.file.0) else Nowhere)
 
 -- of a place that there may be
-abbrev pub place_told : Sources → Option Place → FaultPlace
-place_told s None = Nowhere
-place_told s (Some at) = place_in_sources s at.0
+abbrev pub reported_place : Sources → Option Place → FaultPlace
+reported_place s None = Nowhere
+reported_place s (Some at) = place_in_sources s at.0
 
 -- where the name of an item stands
 abbrev pub place_of_item : Sources → Option Item → FaultPlace
@@ -65,32 +65,32 @@ place_of_item s (Some it) = place_in_sources s it.at.0
 -- where the first attribute of an item stands that isn't known, if it has one
 abbrev pub place_of_attribute : Sources → Option Item → FaultPlace
 place_of_attribute s None = Nowhere
-place_of_attribute s (Some it) = place_told s it.unknown_attribute
+place_of_attribute s (Some it) = reported_place s it.unknown_attribute
 
 -- the name of a module, with `::` behind, and those around it before it; of a root nothing
-abbrev pub module_told : Names → (outer : (inside : ℕ) → List ℕ) → Symbol → (parent : Option ℕ) → List ℕ
-module_told names outer name None = []
-module_told names outer name (Some parent) = outer parent ++ text_of names name.0 ++ codes "::"
+abbrev pub module_path_by : Names → (outer : (inside : ℕ) → List ℕ) → Symbol → (parent : Option ℕ) → List ℕ
+module_path_by names outer name None = []
+module_path_by names outer name (Some parent) = outer parent ++ text_of names name.0 ++ codes "::"
 
 -- of a module that there may be
 abbrev pub modules_before : Names → (outer : (inside : ℕ) → List ℕ) → Option «Module» → List ℕ
 modules_before names outer None = []
-modules_before names outer (Some m) = module_told names outer m.name m.parent
+modules_before names outer (Some m) = module_path_by names outer m.name m.parent
 
 -- the names of the modules that a module is in, outermost first, and its own, each with `::` behind; of so many at most
-unfoldable pub modules_told : Names → Items → (most : ℕ) → (inside : ℕ) → List ℕ
-modules_told names items zero m = []
-modules_told names items (suc most) m = modules_before names (modules_told names items most) (slice_get items.modules.items m)
+unfoldable pub module_path : Names → Items → (most : ℕ) → (inside : ℕ) → List ℕ
+module_path names items zero m = []
+module_path names items (suc most) m = modules_before names (module_path names items most) (slice_get items.modules.items m)
 
 -- the name of an item, behind those of the modules that it is in
-abbrev pub name_told : Sources → Option Item → List ℕ
-name_told s None = []
-name_told s (Some it) = modules_told s.names s.items 256 it.«module» ++ text_of s.names it.name.0
+abbrev pub qualified_name : Sources → Option Item → List ℕ
+qualified_name s None = []
+qualified_name s (Some it) = module_path s.names s.items 256 it.«module» ++ text_of s.names it.name.0
 
--- a fault as it is told
-abbrev pub fault_told : Sources → Stop → FaultTold
-fault_told s (Fault at kind) = record { at = place_told s at; kind = kind }
-fault_told s Size = record { at = place_told s None; kind = TooDeep }
+-- a fault as it is reported
+abbrev pub reported_fault : Sources → Stop → FaultReported
+reported_fault s (Fault at kind) = record { at = reported_place s at; kind = kind }
+reported_fault s Size = record { at = reported_place s None; kind = TooDeep }
 
 -- how many bits `usize` has: 64 where a pointer's index has none of the widths that are known
 abbrev pub pointer_bits : TargetDataLayout → ℕ
@@ -99,7 +99,7 @@ pointer_bits dl =
     if nat_eq bytes 2 then 16 else (if nat_eq bytes 4 then 32 else 64)
 
 -- work over these sources, with no size known
-pub record IsWorkOver (s : Sources) (dl : TargetDataLayout) (cx : Context) : Type 0 where
+pub record IsContextOver (s : Sources) (dl : TargetDataLayout) (cx : Context) : Type 0 where
   pub items : cx.items.now ≡ s.items
   pub scope : s.scope ≡ Some cx.scope.now
   pub layout : cx.dl.now ≡ dl
@@ -107,31 +107,31 @@ pub record IsWorkOver (s : Sources) (dl : TargetDataLayout) (cx : Context) : Typ
   pub knows : cx.known.now ≡ []
 
 -- what is meant, where no size has to be known first, and else under sizes that are right; want of memory and of parts aside
-pub record IsMeant (cx : Context) (m : Measure) (subject : Subject) (file : Place) (r : Result (Option Told) Stop) : Type 0 where
-  pub exact : (told_under cx m subject file ≡ Err Size → ⊥) → Means (option_map told_read) (told_under cx m subject file) r
-  pub told : IsTold cx m subject file r
+pub record IsMeant (cx : Context) (m : Measure) (subject : Subject) (file : Place) (r : Result (Option TypeReport) Stop) : Type 0 where
+  pub exact : (report_under cx m subject file ≡ Err Size → ⊥) → Means (option_map report_read) (report_under cx m subject file) r
+  pub report : IsReported cx m subject file r
 
--- the same of an answer whose fault is told with its place
-abbrev pub IsMeantBy : Sources → Context → Measure → Subject → Result (Option Told) FaultTold → Type 0
+-- the same of an answer whose fault is reported with its place
+abbrev pub IsMeantBy : Sources → Context → Measure → Subject → Result (Option TypeReport) FaultReported → Type 0
 IsMeantBy s cx m subject (Ok found) = IsMeant cx m subject s.file (Ok found)
-IsMeantBy s cx m subject (Err fault) = (stop : Stop) × (fault ≡ fault_told s stop) × IsMeant cx m subject s.file (Err stop)
+IsMeantBy s cx m subject (Err fault) = (stop : Stop) × (fault ≡ reported_fault s stop) × IsMeant cx m subject s.file (Err stop)
 
--- what is told of a subject: nothing before a source was read, and then what is meant
-abbrev pub Tells : Sources → TargetDataLayout → Measure → Subject → Result (Option Told) FaultTold → Type 0
-Tells s dl m subject result =
-    ((s.scope ≡ None) × (result ≡ Ok None)) ⊎ ((cx : Context) × IsWorkOver s dl cx × IsMeantBy s cx m subject result)
+-- the report on a subject: nothing before a source was read, and then what is meant
+abbrev pub Reports : Sources → TargetDataLayout → Measure → Subject → Result (Option TypeReport) FaultReported → Type 0
+Reports s dl m subject result =
+    ((s.scope ≡ None) × (result ≡ Ok None)) ⊎ ((cx : Context) × IsContextOver s dl cx × IsMeantBy s cx m subject result)
 
 -- the subject is the type that is written in a module
 abbrev pub IsWrittenIn : (inside : ℕ) → Written → Subject → Type 0
 IsWrittenIn n t (WrittenSubject m written) = (m ≡ n) × (written.now ≡ t)
 IsWrittenIn n t (ItemSubject item) = ⊥
 
--- what is told of a type that was read, or the fault of reading it
-abbrev pub TellsRead : Sources → TargetDataLayout → Measure → Result (Option Told) FaultTold → Result Written SourceFault → Type 0
-TellsRead s dl m result (Ok t) = (subject : Subject) × IsWrittenIn s.root t subject × Tells s dl m subject result
-TellsRead s dl m result (Err e) = result ≡ Err (fault_told s (Fault (Some e.at) (Source e.kind)))
+-- the report on a type that was read, or the fault of reading it
+abbrev pub ReportsRead : Sources → TargetDataLayout → Measure → Result (Option TypeReport) FaultReported → Result Written SourceFault → Type 0
+ReportsRead s dl m result (Ok t) = (subject : Subject) × IsWrittenIn s.root t subject × Reports s dl m subject result
+ReportsRead s dl m result (Err e) = result ≡ Err (reported_fault s (Fault (Some e.at) (Source e.kind)))
 
--- what is told of the type that a text writes in the file's root
-abbrev pub TellsWritten : (old new : Sources) → TargetDataLayout → Measure → (text : List ℕ) → Result (Option Told) FaultTold → Type 0
-TellsWritten old new dl m text result =
-    (read : Result Written SourceFault) × MeansType text old.argument.0 (texts old.names) (texts new.names) read × TellsRead new dl m result read
+-- the report on the type that a text writes in the file's root
+abbrev pub ReportsWritten : (old new : Sources) → TargetDataLayout → Measure → (text : List ℕ) → Result (Option TypeReport) FaultReported → Type 0
+ReportsWritten old new dl m text result =
+    (read : Result Written SourceFault) × MeansType text old.argument.0 (texts old.names) (texts new.names) read × ReportsRead new dl m result read

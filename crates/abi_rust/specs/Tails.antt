@@ -16,17 +16,17 @@ use Rattle.abi_rust.specs.declared.fault.FaultKind.TheVariants.{Recursive}
 use Rattle.abi_rust.specs.declared.tail.Tail.{Tail}
 use Rattle.abi_rust.specs.declared.tail.Tail.TheVariants.{Sized, Length, Table}
 use Rattle.abi_rust.specs.declared.ty.Primitive.TheVariants.{Str}
-use Rattle.abi_rust.specs.declared.work.Context.{Context}
+use Rattle.abi_rust.specs.declared.budget.Context.{Context}
 use Rattle.abi_rust.specs.Kinds.{item_at}
 use Rattle.abi_rust.specs.Known.{same_givens}
 use Rattle.abi_rust.specs.Meaning.{Meaning, then_meant, fault_at, too_deep}
 use Rattle.abi_rust.specs.Resolving.{inside_item, most_deep, resolved}
-use Rattle.abi_rust.specs.Types.{GivenRead, GivensRead, TyRead, TysRead, adt, all_given, dyn, givens, list_given, more_types, never, no_types, of_type, of_value, primitive, slice, tuple}
+use Rattle.abi_rust.specs.Types.{GenericArgRead, GenericArgsRead, TyRead, TysRead, adt, all_given, dyn, givens, list_given, more_types, never, no_types, of_type, of_value, primitive, slice, tuple}
 use Rattle.abi_rust.specs.Values.{number}
 
 -- the items that a type stands in, the nearest first, and what each is given
 abbrev pub Outer : Type 0
-Outer = List (ℕ × GivensRead)
+Outer = List (ℕ × GenericArgsRead)
 
 -- one layer of the program's list of them
 abbrev pub layer_above : Above-F Outer → Outer
@@ -38,7 +38,7 @@ abbrev pub outer_of : Above → Outer
 outer_of = fold-Above Outer layer_above
 
 -- the item stands in itself under the same arguments
-abbrev pub stands_in : Outer → ℕ → GivensRead → Bool
+abbrev pub stands_in : Outer → ℕ → GenericArgsRead → Bool
 stands_in [] n gs = false
 stands_in (a ∷ more) n gs = (nat_eq a.0 n && same_givens a.1 gs) || stands_in more n gs
 
@@ -63,16 +63,16 @@ tail_field _ = None
 -- how a pointer's tail is found, of a type and of an item
 pub record TailInner : Type 0 where
   pub tail_of : Outer → TyRead → Meaning Tail
-  pub tail_of_item : Outer → ℕ → GivensRead → Meaning Tail
+  pub tail_of_item : Outer → ℕ → GenericArgsRead → Meaning Tail
 
 -- what a parameter is assumed to be given: what has no size where it may have none
-abbrev pub assumed_by : (may_be_unsized : Bool) → ParameterKind → GivenRead
+abbrev pub assumed_by : (may_be_unsized : Bool) → ParameterKind → GenericArgRead
 assumed_by true (TypeParameter default) = of_type dyn
 assumed_by false (TypeParameter default) = of_type never
 assumed_by may (ConstParameter t default) = of_value (number Usize (pos 0))
 
 -- what a parameter is assumed to be given, by its kind and whether it may be without a size
-abbrev pub assumed : Parameter → GivenRead
+abbrev pub assumed : Parameter → GenericArgRead
 assumed p = assumed_by p.may_be_unsized p.kind
 
 -- one of these parameters may be given what has no size
@@ -100,24 +100,24 @@ module _ (cx : Context) where
     tail_with outer (adt n gs) = T.tail_of_item outer n gs
     tail_with outer _ = Ok Sized
 
-    abbrev pub field_tail : Outer → ℕ → GivensRead → Item → Option Field → Meaning Tail
+    abbrev pub field_tail : Outer → ℕ → GenericArgsRead → Item → Option Field → Meaning Tail
     field_tail outer n gs it None = Ok Sized
     field_tail outer n gs it (Some f) =
         if stands_in outer n gs then fault_at it.at (Recursive it.name)
         else then_meant (λ t. T.tail_of ((n, gs) ∷ outer) t) (resolved cx (inside_item n it (list_given gs)) f.ty)
 
-    abbrev pub item_tail : Outer → ℕ → GivensRead → Option Item → Meaning Tail
+    abbrev pub item_tail : Outer → ℕ → GenericArgsRead → Option Item → Meaning Tail
     item_tail outer n gs None = Ok Sized
     item_tail outer n gs (Some it) = field_tail outer n gs it (tail_field it.kind)
 
     -- what a pointer to the type tells that an item is; a fault where that stands in itself
-    unfoldable pub tail_of_item_with : Outer → ℕ → GivensRead → Meaning Tail
+    unfoldable pub tail_of_item_with : Outer → ℕ → GenericArgsRead → Meaning Tail
     tail_of_item_with outer n gs = item_tail outer n gs (item_at cx.items.now cx.scope.now n)
 
   -- how a pointer's tail is found, where types may need one another so deep
-  unfoldable pub tail_inner : (room : ℕ) → TailInner
+  unfoldable pub tail_inner : (depth_left : ℕ) → TailInner
   tail_inner zero = record { tail_of = λ outer t. too_deep; tail_of_item = λ outer n gs. too_deep }
-  tail_inner (suc room) = record { tail_of = tail_with (tail_inner room); tail_of_item = tail_of_item_with (tail_inner room) }
+  tail_inner (suc depth_left) = record { tail_of = tail_with (tail_inner depth_left); tail_of_item = tail_of_item_with (tail_inner depth_left) }
 
   -- what a pointer to the type tells
   unfoldable pub pointee_tail : TyRead → Meaning Tail

@@ -23,20 +23,20 @@ use Rattle.abi_rust.specs.Reprs.{no_repr, repr_of}
 use Rattle.abi_rust.specs.Resolving.{evaluated, inside_item, most_deep, resolved}
 use Rattle.abi_rust.specs.Scalars.{function_tree, limited_tree, named_tree, pointer_tree}
 use Rattle.abi_rust.specs.Tails.{Outer, always_sized, has_known_size, pointee_tail, stands_in}
-use Rattle.abi_rust.specs.Types.{GivensRead, TyRead, Where, adt, array, dyn, function, list_given, list_of_types, never, pointer, primitive, reference, slice, tuple}
+use Rattle.abi_rust.specs.Types.{GenericArgsRead, TyRead, Where, adt, array, dyn, function, list_given, list_of_types, never, pointer, primitive, reference, slice, tuple}
 use Rattle.abi_rust.specs.Values.{ValueRead, number}
 use Rattle.abi_rust.specs.declared.fault.FaultKind.TheVariants.{NotAType, Recursive, Unsized, WrongType}
 use Rattle.abi_rust.specs.declared.fault.Stop.{Stop}
 use Rattle.abi_rust.specs.declared.fault.Stop.TheVariants.{Fault}
 use Rattle.abi_rust.specs.declared.ty.Kind.TheVariants.{Integer as KindInteger}
-use Rattle.abi_rust.specs.declared.work.Context.{Context}
+use Rattle.abi_rust.specs.declared.budget.Context.{Context}
 
 -- how trees are made, of types and of items, each under the items that it stands in
 pub record TreeInner : Type 0 where
   pub of_type : Outer → TyRead → Meaning Tree
-  pub of_item : Outer → (item : ℕ) → GivensRead → Meaning Tree
+  pub of_item : Outer → (item : ℕ) → GenericArgsRead → Meaning Tree
 
--- a fault that has no place, told at this one
+-- a fault that has no place, reported at this one
 abbrev pub stop_in : Place → Stop → Stop
 stop_in at (Fault None kind) = Fault (Some at) kind
 stop_in at stop = stop
@@ -160,14 +160,14 @@ module _ (cx : Context) where
       kind_tree outer w n it (EnumItem all) = enum_tree outer w it all.variants.items
       kind_tree outer w n it _ = fault_at it.at (NotAType it.name)
 
-      abbrev pub tree_by_item : Outer → ℕ → GivensRead → Option Item → Meaning Tree
+      abbrev pub tree_by_item : Outer → ℕ → GenericArgsRead → Option Item → Meaning Tree
       tree_by_item outer n gs None = no_size
       tree_by_item outer n gs (Some it) =
           if stands_in outer n gs then fault_at it.at (Recursive it.name)
           else kind_tree ((n, gs) ∷ outer) (inside_item n it (list_given gs)) n it it.kind
 
       -- the tree of an item under what its parameters are given; a fault where it stands in itself
-      unfoldable pub item_tree : Outer → ℕ → GivensRead → Meaning Tree
+      unfoldable pub item_tree : Outer → ℕ → GenericArgsRead → Meaning Tree
       item_tree outer n gs = tree_by_item outer n gs (item_at cx.items.now cx.scope.now n)
 
       -- the tree of a pointer to a type, which is null only where it may be
@@ -188,9 +188,9 @@ module _ (cx : Context) where
       type_tree outer (adt n gs) = T.of_item outer n gs
 
     -- how trees are made, where types may stand in one another so deep
-    unfoldable pub tree_inner : (room : ℕ) → TreeInner
+    unfoldable pub tree_inner : (depth_left : ℕ) → TreeInner
     tree_inner zero = record { of_type = λ outer t. too_deep; of_item = λ outer n gs. too_deep }
-    tree_inner (suc room) = record { of_type = type_tree (tree_inner room); of_item = item_tree (tree_inner room) }
+    tree_inner (suc depth_left) = record { of_type = type_tree (tree_inner depth_left); of_item = item_tree (tree_inner depth_left) }
 
     -- the tree of a type that stands in no other
     abbrev pub whole_tree : TyRead → Meaning Tree

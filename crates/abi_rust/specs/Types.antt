@@ -1,13 +1,13 @@
 -- Types whose names are resolved, as the definitions see them.
 use Rattle.std.specs.Prelude.{ℕ, List, [], ◌∷◌, map, Option}
-use Rattle.abi_rust.specs.declared.ty.Given.{Given}
-use Rattle.abi_rust.specs.declared.ty.Given.TheFolds.{fold-Given, fold-Ty}
-use Rattle.abi_rust.specs.declared.ty.Given.TheOpen.{Given-F, Ty-F}
-use Rattle.abi_rust.specs.declared.ty.Given.TheOpen as layer
+use Rattle.abi_rust.specs.declared.ty.GenericArg.{GenericArg}
+use Rattle.abi_rust.specs.declared.ty.GenericArg.TheFolds.{fold-GenericArg, fold-Ty}
+use Rattle.abi_rust.specs.declared.ty.GenericArg.TheOpen.{GenericArg-F, Ty-F}
+use Rattle.abi_rust.specs.declared.ty.GenericArg.TheOpen as layer
 use Rattle.abi_rust.specs.declared.ty.Primitive.{Primitive}
 use Rattle.abi_rust.specs.declared.ty.Ty.{Ty}
 use Rattle.abi_rust.specs.Values.{ValueRead, value_as_read}
-use Rattle.abi_rust.specs.declared.work.Setting.{Setting}
+use Rattle.abi_rust.specs.declared.budget.Env.{Env}
 
 mutual
   -- a type
@@ -22,7 +22,7 @@ mutual
     reference : TyRead → TyRead
     pointer : TyRead → TyRead
     -- the struct, enum or union of this number, and what its parameters are given
-    adt : (item : ℕ) → GivensRead → TyRead
+    adt : (item : ℕ) → GenericArgsRead → TyRead
 
   -- a list of types
   pub data TysRead : Type 0 where
@@ -30,14 +30,14 @@ mutual
     more_types : TyRead → TysRead → TysRead
 
   -- what a parameter is given
-  pub data GivenRead : Type 0 where
-    of_type : TyRead → GivenRead
-    of_value : ValueRead → GivenRead
+  pub data GenericArgRead : Type 0 where
+    of_type : TyRead → GenericArgRead
+    of_value : ValueRead → GenericArgRead
 
   -- a list of what parameters are given
-  pub data GivensRead : Type 0 where
-    no_given : GivensRead
-    more_given : GivenRead → GivensRead → GivensRead
+  pub data GenericArgsRead : Type 0 where
+    no_given : GenericArgsRead
+    more_given : GenericArgRead → GenericArgsRead → GenericArgsRead
 
 -- the types of a list
 abbrev pub types : List TyRead → TysRead
@@ -50,22 +50,22 @@ list_of_types no_types = []
 list_of_types (more_types t ts) = t ∷ list_of_types ts
 
 -- what parameters are given, of a list
-abbrev pub givens : List GivenRead → GivensRead
+abbrev pub givens : List GenericArgRead → GenericArgsRead
 givens [] = no_given
 givens (g ∷ gs) = more_given g (givens gs)
 
 -- a list of what parameters are given
-abbrev pub list_given : GivensRead → List GivenRead
+abbrev pub list_given : GenericArgsRead → List GenericArgRead
 list_given no_given = []
 list_given (more_given g gs) = g ∷ list_given gs
 
 -- one layer of the program's types, whose parts are seen so already
-abbrev pub layer_given : Given-F GivenRead TyRead → GivenRead
+abbrev pub layer_given : GenericArg-F GenericArgRead TyRead → GenericArgRead
 layer_given (layer.«Type» t) = of_type t
 layer_given (layer.Value v) = of_value (value_as_read v)
 
 -- one layer of a type
-abbrev pub layer_ty : Ty-F GivenRead TyRead → TyRead
+abbrev pub layer_ty : Ty-F GenericArgRead TyRead → TyRead
 layer_ty layer.Never = never
 layer_ty (layer.Primitive p) = primitive p
 layer_ty layer.Function = function
@@ -79,22 +79,22 @@ layer_ty (layer.Adt item all) = adt item (givens all.items)
 
 -- the program's type as the definitions see it
 abbrev pub ty_of : Ty → TyRead
-ty_of = fold-Ty GivenRead TyRead layer_given layer_ty
+ty_of = fold-Ty GenericArgRead TyRead layer_given layer_ty
 
 -- what the program gives a parameter
-abbrev pub given_of : Given → GivenRead
-given_of = fold-Given GivenRead TyRead layer_given layer_ty
+abbrev pub given_of : GenericArg → GenericArgRead
+given_of = fold-GenericArg GenericArgRead TyRead layer_given layer_ty
 
 -- what the program gives parameters
-abbrev pub all_given : List Given → List GivenRead
+abbrev pub all_given : List GenericArg → List GenericArgRead
 all_given = map given_of
 
 -- where a type or an expression stands: the module, the item whose parameters it may name, and what they are given
 pub record Where : Type 0 where
   pub inside : ℕ
   pub item : Option ℕ
-  pub given : List GivenRead
+  pub given : List GenericArgRead
 
 -- the program's setting as the definitions see it
-abbrev pub where_of : Setting → Where
+abbrev pub where_of : Env → Where
 where_of s = record { inside = s.«module»; item = s.item; given = all_given s.given.now }

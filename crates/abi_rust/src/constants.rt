@@ -4,31 +4,31 @@ ghost use Rattle.std.specs.Prelude.{◌≡◌};
 ghost use Rattle.abi_rust.specs.Kinds.{constant_named, constant_place, if_visible, own_named, owner_named};
 ghost use Rattle.abi_rust.specs.Types.{where_of};
 
+use crate::budget::{Context, Env};
 use crate::kind::{name_alone, parameter_named};
 use crate::paths::{Found, Space, find, type_named, visibility_of_item};
 use crate::visible::is_visible;
-use crate::work::{Context, Setting};
 use rust_source::{Item, Path, Symbol};
 
 /// The constant that a path names: a module's, or a type's own.
 #[tactic(auto, unfolding(crate::specs::Kinds::constant_named))]
-pub(crate) fn constant_named(cx: &Context<'_, '_>, setting: Setting<'_>, path: &Path) -> Option<u32>
-    ensures { result ≡ constant_named cx.now.items.now cx.now.scope.now (where_of setting.entry) path.now }
+pub(crate) fn constant_named(cx: &Context<'_, '_>, env: Env<'_>, path: &Path) -> Option<u32>
+    ensures { result ≡ constant_named cx.now.items.now cx.now.scope.now (where_of env.entry) path.now }
 {
-    match find(cx.items, cx.scope, setting.module, path, Space::Values) {
+    match find(cx.items, cx.scope, env.module, path, Space::Values) {
         Some(Found::Item(number)) => Some(number),
-        _ => own_named(cx, setting, path),
+        _ => own_named(cx, env, path),
     }
 }
 
 /// The constant of a type that a path names, if it may be used where the path stands.
 #[tactic(auto, unfolding(crate::specs::Kinds::own_named))]
-fn own_named(cx: &Context<'_, '_>, setting: Setting<'_>, path: &Path) -> Option<u32>
-    ensures { result ≡ own_named cx.now.items.now cx.now.scope.now (where_of setting.entry) path.now }
+fn own_named(cx: &Context<'_, '_>, env: Env<'_>, path: &Path) -> Option<u32>
+    ensures { result ≡ own_named cx.now.items.now cx.now.scope.now (where_of env.entry) path.now }
 {
-    let owner = owner_named(cx, setting, path, path.segments.len().saturating_sub(1))?;
+    let owner = owner_named(cx, env, path, path.segments.len().saturating_sub(1))?;
     let last = path.segments.last()?;
-    if_visible(cx, setting.module, cx.scope.own_constant(owner, last.name)?)
+    if_visible(cx, env.module, cx.scope.own_constant(owner, last.name)?)
 }
 
 /// The constant of this number, if it may be used in a module.
@@ -44,25 +44,25 @@ fn if_visible(cx: &Context<'_, '_>, module: u32, number: u32) -> Option<u32>
 
 /// The type that the first names of a path name, so many of them, where it may have constants of its own.
 #[tactic(auto, unfolding(crate::specs::Kinds::owner_named))]
-fn owner_named(cx: &Context<'_, '_>, setting: Setting<'_>, path: &Path, count: usize) -> Option<u32>
-    ensures { result ≡ owner_named cx.now.items.now cx.now.scope.now (where_of setting.entry) path.now count }
+fn owner_named(cx: &Context<'_, '_>, env: Env<'_>, path: &Path, count: usize) -> Option<u32>
+    ensures { result ≡ owner_named cx.now.items.now cx.now.scope.now (where_of env.entry) path.now count }
 {
     if let Some(name) = name_alone(path, count) {
         if name == Symbol::SELF_TYPE {
-            return setting.item;
+            return env.item;
         }
-        if parameter_named(cx, setting.item, name).is_some() {
+        if parameter_named(cx, env.item, name).is_some() {
             return None;
         }
     }
-    type_named(cx.items, cx.scope, setting.module, path, count)
+    type_named(cx.items, cx.scope, env.module, path, count)
 }
 
 /// Where the value of the constant of this number stands: in its module, and in the type whose own it is.
-pub(crate) fn inside_constant(cx: &Context<'_, '_>, number: u32, item: &Item) -> Setting<'static>
+pub(crate) fn inside_constant(cx: &Context<'_, '_>, number: u32, item: &Item) -> Env<'static>
     ensures { where_of result ≡ constant_place cx.now.scope.now number item.now }
 {
-    Setting {
+    Env {
         module: item.module,
         item: cx.scope.owner(number),
         given: &[],

@@ -5,10 +5,10 @@ ghost use Rattle.std.specs.Option.{option_copied, option_map};
 ghost use Rattle.abi_rust.specs.Evaluating.{all_fieldless, cast_checked, discriminant_kind, is_castable, is_fieldless, is_integer, is_unit_at, variant_of_item, variant_from, variant_named, written_before, written_from};
 ghost use Rattle.abi_rust.specs.Meaning.{Means};
 
+use crate::budget::Context;
 use crate::fault::{FaultKind, Stop, stop_at};
 use crate::paths::{Found, Space, find_of, item_at};
 use crate::ty::Kind;
-use crate::work::Context;
 use rust_source::{Expr, IntegerKind, Item, ItemKind, Path, Place, Symbol, Variant};
 
 /// The enum and the number of the variant that a path names.

@@ -8,6 +8,7 @@ ghost use Rattle.abi_rust.specs.Meaning.{Means};
 ghost use Rattle.abi_rust.specs.Types.{where_of};
 ghost use Rattle.abi_rust.specs.Values.{IsOfKind, value_as_read};
 
+use crate::budget::{Budget, Context, Env, less};
 use crate::constants::{constant_named, inside_constant};
 use crate::discriminants::{check_cast, discriminant_kind, variant_named, written_before};
 use crate::fault::{FaultKind, Stop, stop_at};
@@ -21,8 +22,7 @@ use crate::operators::{binary, cast, fitting, is_settled, same_kind, unary};
 use crate::paths::item_at;
 use crate::places::{at_place, place_of, place_of_path};
 use crate::sizes::call;
-use crate::ty::{Given, Kind, Value};
-use crate::work::{Context, Setting, Work, less};
+use crate::ty::{GenericArg, Kind, Value};
 use rust_source::{Binary, Expr, Item, ItemKind, Path, Place, Type, Unary, Unevaluated};
 
 /// The value of an expression, of the type that is wanted where one is. `Stop::Size` where a type's size has to be
@@ -31,18 +31,18 @@ use rust_source::{Binary, Expr, Item, ItemKind, Path, Place, Type, Unary, Uneval
 #[tactic(auto, using(crate::proofs::Rooms::value_less, crate::proofs::Rooms::value_none))]
 pub(crate) fn evaluate<'a>(
     cx: &Context<'a, '_>,
-    work: &mut Work<'a>,
-    setting: Setting<'_>,
+    budget: &mut Budget<'a>,
+    env: Env<'_>,
     expr: &'a Expr,
     wanted: Option<Kind>,
-    room: u32,
+    depth_left: u32,
 ) -> Result<Value, Stop>
     ensures kind { IfOk result (λ value. IsOfKind wanted value) }
-    ensures value { Means value_as_read (evaluator cx.now room (where_of setting.entry) expr.now wanted) result }
+    ensures value { Means value_as_read (evaluator cx.now depth_left (where_of env.entry) expr.now wanted) result }
 {
-    work.spend()?;
-    let room = less(room)?;
-    evaluate_typed(cx, work, setting, expr, wanted, room)
+    budget.spend()?;
+    let depth_left = less(depth_left)?;
+    evaluate_typed(cx, budget, env, expr, wanted, depth_left)
 }
 
 /// The value of an expression, of the type that is wanted where one is.
@@ -50,17 +50,17 @@ pub(crate) fn evaluate<'a>(
 #[tactic(auto, unfolding(crate::specs::Evaluating::value_with))]
 fn evaluate_typed<'a>(
     cx: &Context<'a, '_>,
-    work: &mut Work<'a>,
-    setting: Setting<'_>,
+    budget: &mut Budget<'a>,
+    env: Env<'_>,
     expr: &'a Expr,
     wanted: Option<Kind>,
-    room: u32,
+    depth_left: u32,
 ) -> Result<Value, Stop>
     ensures kind { IfOk result (λ value. IsOfKind wanted value) }
     ensures value { Means value_as_read
-        (value_with cx.now (evaluator cx.now room) (where_of setting.entry) expr.now wanted) result }
+        (value_with cx.now (evaluator cx.now depth_left) (where_of env.entry) expr.now wanted) result }
 {
-    let value = evaluate_any(cx, work, setting, expr, wanted, room)?;
+    let value = evaluate_any(cx, budget, env, expr, wanted, depth_left)?;
     typed(value, wanted, place_of(expr))
 }
 
@@ -68,14 +68,14 @@ fn evaluate_typed<'a>(
 #[cycle(evaluating)]
 fn evaluate_any<'a>(
     cx: &Context<'a, '_>,
-    work: &mut Work<'a>,
-    setting: Setting<'_>,
+    budget: &mut Budget<'a>,
+    env: Env<'_>,
     expr: &'a Expr,
     wanted: Option<Kind>,
-    room: u32,
+    depth_left: u32,
 ) -> Result<Value, Stop>
     ensures { Means value_as_read
-        (value_by cx.now (evaluator cx.now room) (where_of setting.entry) wanted expr.now) result }
+        (value_by cx.now (evaluator cx.now depth_left) (where_of env.entry) wanted expr.now) result }
 {
     match expr {
         Expr::Integer(number, suffix, at) => {
@@ -83,24 +83,24 @@ fn evaluate_any<'a>(
         }
         Expr::Char(code, _) => Ok(Value::Char(*code)),
         Expr::Bool(truth, _) => Ok(Value::Bool(*truth)),
-        Expr::Path(path) => evaluate_path(cx, work, setting, path, room),
+        Expr::Path(path) => evaluate_path(cx, budget, env, path, depth_left),
         Expr::Call(path, arguments, at) => {
             if arguments.is_empty() {
-                call(cx, work, setting, path, *at)
+                call(cx, budget, env, path, *at)
             } else {
                 Err(stop_at(*at, FaultKind::Unevaluated(Unevaluated::Expression)))
             }
         }
         Expr::Unary(operator, operand, _) => {
-            evaluate_unary(cx, work, setting, *operator, operand, wanted, room)
+            evaluate_unary(cx, budget, env, *operator, operand, wanted, depth_left)
         }
         Expr::Binary(operator, left, right, _) => {
-            evaluate_binary(cx, work, setting, *operator, left, right, wanted, room)
+            evaluate_binary(cx, budget, env, *operator, left, right, wanted, depth_left)
         }
-        Expr::Cast(operand, ty, at) => evaluate_cast(cx, work, setting, operand, ty, *at, room),
+        Expr::Cast(operand, ty, at) => evaluate_cast(cx, budget, env, operand, ty, *at, depth_left),
         Expr::If(condition, left, right, _) => {
-            let condition = evaluate(cx, work, setting, condition, Some(Kind::Bool), room)?;
-            evaluate_branch(cx, work, setting, condition, left, right, wanted, room)
+            let condition = evaluate(cx, budget, env, condition, Some(Kind::Bool), depth_left)?;
+            evaluate_branch(cx, budget, env, condition, left, right, wanted, depth_left)
         }
         Expr::Unevaluated(what, at) => Err(stop_at(*at, FaultKind::Unevaluated(*what))),
     }
@@ -110,20 +110,20 @@ fn evaluate_any<'a>(
 #[cycle(evaluating)]
 fn evaluate_branch<'a>(
     cx: &Context<'a, '_>,
-    work: &mut Work<'a>,
-    setting: Setting<'_>,
+    budget: &mut Budget<'a>,
+    env: Env<'_>,
     condition: Value,
     left: &'a Expr,
     right: &'a Expr,
     wanted: Option<Kind>,
-    room: u32,
+    depth_left: u32,
 ) -> Result<Value, Stop>
     ensures { Means value_as_read
-        (branch_value cx.now (evaluator cx.now room) (where_of setting.entry) left.now right.now wanted (value_as_read condition)) result }
+        (branch_value cx.now (evaluator cx.now depth_left) (where_of env.entry) left.now right.now wanted (value_as_read condition)) result }
 {
     match condition {
-        Value::Bool(true) => evaluate(cx, work, setting, left, wanted, room),
-        _ => evaluate(cx, work, setting, right, wanted, room),
+        Value::Bool(true) => evaluate(cx, budget, env, left, wanted, depth_left),
+        _ => evaluate(cx, budget, env, right, wanted, depth_left),
     }
 }
 
@@ -149,22 +149,22 @@ fn typed(value: Value, wanted: Option<Kind>, at: Place) -> Result<Value, Stop>
 #[cycle(evaluating)]
 fn evaluate_unary<'a>(
     cx: &Context<'a, '_>,
-    work: &mut Work<'a>,
-    setting: Setting<'_>,
+    budget: &mut Budget<'a>,
+    env: Env<'_>,
     operator: Unary,
     operand: &'a Expr,
     wanted: Option<Kind>,
-    room: u32,
+    depth_left: u32,
 ) -> Result<Value, Stop>
     ensures { Means value_as_read
-        (unary_value cx.now (evaluator cx.now room) (where_of setting.entry) operator operand.now wanted) result }
+        (unary_value cx.now (evaluator cx.now depth_left) (where_of env.entry) operator operand.now wanted) result }
 {
     match (operator, operand) {
         (Unary::Minus, Expr::Integer(number, suffix, at)) => {
             literal(cx, Int::new(true, *number), *suffix, wanted, *at)
         }
         _ => {
-            let value = evaluate(cx, work, setting, operand, wanted, room)?;
+            let value = evaluate(cx, budget, env, operand, wanted, depth_left)?;
             at_place(place_of(operand), unary(operator, value, cx.pointer_bits))
         }
     }
@@ -175,42 +175,42 @@ fn evaluate_unary<'a>(
 #[tactic(auto, unfolding(crate::specs::Evaluating::binary_value))]
 fn evaluate_binary<'a>(
     cx: &Context<'a, '_>,
-    work: &mut Work<'a>,
-    setting: Setting<'_>,
+    budget: &mut Budget<'a>,
+    env: Env<'_>,
     operator: Binary,
     left: &'a Expr,
     right: &'a Expr,
     wanted: Option<Kind>,
-    room: u32,
+    depth_left: u32,
 ) -> Result<Value, Stop>
     ensures { Means value_as_read
-        (binary_value cx.now (evaluator cx.now room) (where_of setting.entry) operator left.now right.now wanted) result }
+        (binary_value cx.now (evaluator cx.now depth_left) (where_of env.entry) operator left.now right.now wanted) result }
 {
-    let kind = operand_kind(cx, setting, operator, left, right, wanted);
-    let first = evaluate(cx, work, setting, left, kind, room)?;
-    evaluate_second(cx, work, setting, operator, first, left, right, room)
+    let kind = operand_kind(cx, env, operator, left, right, wanted);
+    let first = evaluate(cx, budget, env, left, kind, depth_left)?;
+    evaluate_second(cx, budget, env, operator, first, left, right, depth_left)
 }
 
 /// The value of an operator between its operands, of which the first has this value.
 #[cycle(evaluating)]
 fn evaluate_second<'a>(
     cx: &Context<'a, '_>,
-    work: &mut Work<'a>,
-    setting: Setting<'_>,
+    budget: &mut Budget<'a>,
+    env: Env<'_>,
     operator: Binary,
     first: Value,
     left: &'a Expr,
     right: &'a Expr,
-    room: u32,
+    depth_left: u32,
 ) -> Result<Value, Stop>
     ensures { Means value_as_read
-        (second_value cx.now (evaluator cx.now room) (where_of setting.entry) operator left.now right.now (value_as_read first)) result }
+        (second_value cx.now (evaluator cx.now depth_left) (where_of env.entry) operator left.now right.now (value_as_read first)) result }
 {
     if is_settled(operator, first) {
         return Ok(first);
     }
-    let kind = right_kind(cx, setting, operator, first, right);
-    let second = evaluate(cx, work, setting, right, kind, room)?;
+    let kind = right_kind(cx, env, operator, first, right);
+    let second = evaluate(cx, budget, env, right, kind, depth_left)?;
     at_place(
         place_of(left),
         binary(operator, first, second, cx.pointer_bits),
@@ -220,15 +220,15 @@ fn evaluate_second<'a>(
 /// The type that an operator's right operand has to have: the left one's, but for a shift.
 fn right_kind(
     cx: &Context<'_, '_>,
-    setting: Setting<'_>,
+    env: Env<'_>,
     operator: Binary,
     first: Value,
     right: &Expr,
 ) -> Option<Kind>
-    ensures { result ≡ right_kind cx.now (where_of setting.entry) operator (value_as_read first) right.now }
+    ensures { result ≡ right_kind cx.now (where_of env.entry) operator (value_as_read first) right.now }
 {
     if is_shift(operator) {
-        kind_of(cx, setting, right)
+        kind_of(cx, env, right)
     } else {
         Some(first.kind())
     }
@@ -239,20 +239,20 @@ fn right_kind(
 #[tactic(auto, unfolding(crate::specs::Evaluating::cast_value))]
 fn evaluate_cast<'a>(
     cx: &Context<'a, '_>,
-    work: &mut Work<'a>,
-    setting: Setting<'_>,
+    budget: &mut Budget<'a>,
+    env: Env<'_>,
     operand: &'a Expr,
     ty: &Type,
     at: Place,
-    room: u32,
+    depth_left: u32,
 ) -> Result<Value, Stop>
     ensures { Means value_as_read
-        (cast_value cx.now (evaluator cx.now room) (where_of setting.entry) operand.now ty.now at) result }
+        (cast_value cx.now (evaluator cx.now depth_left) (where_of env.entry) operand.now ty.now at) result }
 {
-    let Some(kind) = kind_written(cx, setting, ty) else {
+    let Some(kind) = kind_written(cx, env, ty) else {
         return Err(stop_at(at, FaultKind::Unevaluated(Unevaluated::Expression)));
     };
-    let value = evaluate_operand(cx, work, setting, operand, kind, room)?;
+    let value = evaluate_operand(cx, budget, env, operand, kind, depth_left)?;
     at_place(at, cast(value, kind, cx.pointer_bits))
 }
 
@@ -260,27 +260,27 @@ fn evaluate_cast<'a>(
 #[cycle(evaluating)]
 fn evaluate_operand<'a>(
     cx: &Context<'a, '_>,
-    work: &mut Work<'a>,
-    setting: Setting<'_>,
+    budget: &mut Budget<'a>,
+    env: Env<'_>,
     operand: &'a Expr,
     kind: Kind,
-    room: u32,
+    depth_left: u32,
 ) -> Result<Value, Stop>
     ensures { Means value_as_read
-        (operand_value cx.now (evaluator cx.now room) (where_of setting.entry) operand.now kind
-        (cast_variant cx.now setting.entry.«module» operand.now)) result }
+        (operand_value cx.now (evaluator cx.now depth_left) (where_of env.entry) operand.now kind
+        (cast_variant cx.now env.entry.«module» operand.now)) result }
 {
-    if let Some((item, index)) = cast_variant(cx, setting.module, operand) {
+    if let Some((item, index)) = cast_variant(cx, env.module, operand) {
         check_cast(item, index, kind, place_of(operand))?;
-        return discriminant(cx, work, item, index, room);
+        return discriminant(cx, budget, item, index, depth_left);
     }
-    let known = kind_of(cx, setting, operand);
+    let known = kind_of(cx, env, operand);
     let wanted = if known.is_some() {
         known
     } else {
         inner_kind(operand, kind)
     };
-    evaluate(cx, work, setting, operand, wanted, room)
+    evaluate(cx, budget, env, operand, wanted, depth_left)
 }
 
 /// The enum and the number of the variant that an operand of a cast names.
@@ -298,18 +298,18 @@ fn cast_variant<'a>(cx: &Context<'a, '_>, module: u32, operand: &Expr) -> Option
 #[tactic(auto, unfolding(crate::specs::Evaluating::discriminant))]
 fn discriminant<'a>(
     cx: &Context<'a, '_>,
-    work: &mut Work<'a>,
+    budget: &mut Budget<'a>,
     item: &'a Item,
     index: usize,
-    room: u32,
+    depth_left: u32,
 ) -> Result<Value, Stop>
-    ensures { Means value_as_read (discriminant cx.now (evaluator cx.now room) item.now index) result }
+    ensures { Means value_as_read (discriminant cx.now (evaluator cx.now depth_left) item.now index) result }
 {
     let ItemKind::Enum(all) = &item.kind else {
         return Err(stop_at(item.at, FaultKind::WrongType));
     };
     let (behind, written) = written_before(all.variants.as_slice(), index);
-    let start = begun(cx, work, item, written, room)?;
+    let start = begun(cx, budget, item, written, depth_left)?;
     counted(cx, item, behind, start)
 }
 
@@ -317,19 +317,19 @@ fn discriminant<'a>(
 #[cycle(evaluating)]
 fn begun<'a>(
     cx: &Context<'a, '_>,
-    work: &mut Work<'a>,
+    budget: &mut Budget<'a>,
     item: &'a Item,
     written: Option<&'a Expr>,
-    room: u32,
+    depth_left: u32,
 ) -> Result<Value, Stop>
     ensures { Means value_as_read
-        (begun cx.now (evaluator cx.now room) item.now (option_copied written.entry)) result }
+        (begun cx.now (evaluator cx.now depth_left) item.now (option_copied written.entry)) result }
 {
     let kind = discriminant_kind(item);
     match written {
         Some(expr) => {
             let wanted = Some(Kind::Integer(kind));
-            evaluate(cx, work, outside(item.module), expr, wanted, room)
+            evaluate(cx, budget, outside(item.module), expr, wanted, depth_left)
         }
         None => Ok(Value::Integer(kind, Int::positive(0))),
     }
@@ -352,11 +352,11 @@ fn counted(cx: &Context<'_, '_>, item: &Item, behind: usize, start: Value) -> Re
 }
 
 /// The value that the parameter of this name is given, if it is one.
-fn value_given(cx: &Context<'_, '_>, setting: Setting<'_>, path: &Path) -> Option<Value>
-    ensures { option_map value_as_read result ≡ value_given cx.now (where_of setting.entry) path.now }
+fn value_given(cx: &Context<'_, '_>, env: Env<'_>, path: &Path) -> Option<Value>
+    ensures { option_map value_as_read result ≡ value_given cx.now (where_of env.entry) path.now }
 {
-    match given_named(cx, setting, single_name(path)?) {
-        Some(Given::Value(value)) => Some(*value),
+    match given_named(cx, env, single_name(path)?) {
+        Some(GenericArg::Value(value)) => Some(*value),
         _ => None,
     }
 }
@@ -366,20 +366,20 @@ fn value_given(cx: &Context<'_, '_>, setting: Setting<'_>, path: &Path) -> Optio
 #[tactic(auto, unfolding(crate::specs::Evaluating::path_value))]
 pub(crate) fn evaluate_path<'a>(
     cx: &Context<'a, '_>,
-    work: &mut Work<'a>,
-    setting: Setting<'_>,
+    budget: &mut Budget<'a>,
+    env: Env<'_>,
     path: &'a Path,
-    room: u32,
+    depth_left: u32,
 ) -> Result<Value, Stop>
     ensures { Means value_as_read
-        (path_value cx.now (evaluator cx.now room) (where_of setting.entry) path.now) result }
+        (path_value cx.now (evaluator cx.now depth_left) (where_of env.entry) path.now) result }
 {
-    if let Some(value) = value_given(cx, setting, path) {
+    if let Some(value) = value_given(cx, env, path) {
         return Ok(value);
     }
-    match constant_named(cx, setting, path) {
-        Some(number) => constant(cx, work, number, place_of_path(path), room),
-        None => limit(cx, setting, path),
+    match constant_named(cx, env, path) {
+        Some(number) => constant(cx, budget, number, place_of_path(path), depth_left),
+        None => limit(cx, env, path),
     }
 }
 
@@ -388,12 +388,12 @@ pub(crate) fn evaluate_path<'a>(
 #[tactic(auto, unfolding(crate::specs::Evaluating::constant_value))]
 fn constant<'a>(
     cx: &Context<'a, '_>,
-    work: &mut Work<'a>,
+    budget: &mut Budget<'a>,
     number: u32,
     at: Place,
-    room: u32,
+    depth_left: u32,
 ) -> Result<Value, Stop>
-    ensures { Means value_as_read (constant_value cx.now (evaluator cx.now room) number at) result }
+    ensures { Means value_as_read (constant_value cx.now (evaluator cx.now depth_left) number at) result }
 {
     let unevaluated = FaultKind::Unevaluated(Unevaluated::Expression);
     let Some(item) = item_at(cx.items, number) else {
@@ -405,7 +405,7 @@ fn constant<'a>(
     let inside = inside_constant(cx, number, item);
     let kind = kind_written(cx, inside, &constant.ty);
     match (kind, &constant.value) {
-        (Some(_), Some(value)) => evaluate(cx, work, inside, value, kind, room),
+        (Some(_), Some(value)) => evaluate(cx, budget, inside, value, kind, depth_left),
         _ => Err(stop_at(at, unevaluated)),
     }
 }

@@ -2,7 +2,7 @@
 
 ghost use Rattle.std.specs.Prelude.{◌≡◌, ◌++◌, IfOk, Some, string_bytes};
 ghost use Rattle.std.specs.Option.{option_map};
-ghost use Rattle.abi_rust.specs.FaultTexts.{GoesOn, TellsName, in_quotes, name_of_fault};
+ghost use Rattle.abi_rust.specs.FaultTexts.{GoesOn, QuotesName, in_quotes, name_of_fault};
 
 use crate::fault::{Fault, FaultKind};
 use crate::sources::Sources;
@@ -21,7 +21,7 @@ impl Fault {
         sources: &Sources,
     ) -> Result<(), AllocError>
         ensures named { IfOk result (λ _. (name : Symbol) → name_of_fault self.now.kind ≡ Some name →
-            TellsName sources.now.names name (string_bytes out.old) (string_bytes out.new)) }
+            QuotesName sources.now.names name (string_bytes out.old) (string_bytes out.new)) }
     {
         match said_of_name(self.kind) {
             Some((text, name)) => write_named(alloc, out, sources, self.kind, text, name),
@@ -65,7 +65,7 @@ fn write_named(
     name: Symbol,
 ) -> Result<(), AllocError>
     ensures { IfOk result (λ _.
-        TellsName sources.now.names name (string_bytes out.old) (string_bytes out.new)) }
+        QuotesName sources.now.names name (string_bytes out.old) (string_bytes out.new)) }
 {
     quoted(out, text, sources, name)?;
     match kind {
@@ -108,8 +108,7 @@ fn plain_text(kind: FaultKind) -> &'static str {
         FaultKind::TransparentFields =>
             "`transparent` wants one field that takes room, or one variant",
         FaultKind::TransparentUnion => "a union can't be `transparent`",
-        FaultKind::IntegerBesideC =>
-            "`C` doesn't go with an integer where no variant has fields",
+        FaultKind::IntegerBesideC => "`C` doesn't go with an integer where no variant has fields",
         FaultKind::PackedAndAligned => "`packed` doesn't go with `align`",
         FaultKind::PackedApart => "`packed` is asked for with two sizes",
         FaultKind::PackedEnum => "an enum can't be `packed`",

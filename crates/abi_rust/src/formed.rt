@@ -6,22 +6,22 @@ ghost use Rattle.abi_rust.specs.Kinds.{item_at, parameters_of};
 ghost use Rattle.abi_rust.specs.Meaning.{Means, is_beside};
 ghost use Rattle.abi_rust.specs.Types.{all_given, given_of, givens, ty_of, types};
 
+use crate::budget::{Budget, Context};
 use crate::fault::{FaultKind, Stop};
 use crate::paths::item_at;
 use crate::tail::pointee_tail;
-use crate::ty::{Given, Ty};
-use crate::work::{Context, Work};
+use crate::ty::{GenericArg, Ty};
 use rust_source::Parameter;
 
 /// A fault where a part of a type that needs a size has none.
 pub(crate) fn check_formed<'a>(
     cx: &Context<'a, '_>,
-    work: &mut Work<'a>,
+    budget: &mut Budget<'a>,
     ty: &Ty,
 ) -> Result<(), Stop>
     ensures { Means (λ _. true) (formed_checked cx.now (ty_of ty.now)) result }
 {
-    if is_formed(cx, work, ty)? {
+    if is_formed(cx, budget, ty)? {
         return Ok(());
     }
     Err(Stop::Fault(None, FaultKind::Unsized))
@@ -29,37 +29,37 @@ pub(crate) fn check_formed<'a>(
 
 /// Whether the parts of a type that need a size have one.
 #[cycle(forming)]
-fn is_formed<'a>(cx: &Context<'a, '_>, work: &mut Work<'a>, ty: &Ty) -> Result<bool, Stop>
+fn is_formed<'a>(cx: &Context<'a, '_>, budget: &mut Budget<'a>, ty: &Ty) -> Result<bool, Stop>
     ensures ok { IfOk result (λ is. is ≡ is_formed cx.now (ty_of ty.now)) }
     ensures err { IfErr result (λ e. is_beside e ≡ true) }
 {
-    work.spend()?;
+    budget.spend()?;
     match ty {
         Ty::Tuple(parts) => {
-            if !sized_but_last(cx, work, parts)? {
+            if !sized_but_last(cx, budget, parts)? {
                 return Ok(false);
             }
-            all_formed(cx, work, parts)
+            all_formed(cx, budget, parts)
         }
         Ty::Array(element, _) => {
-            if lacks_size(cx, work, element)? {
+            if lacks_size(cx, budget, element)? {
                 return Ok(false);
             }
-            is_formed(cx, work, element)
+            is_formed(cx, budget, element)
         }
         Ty::Slice(element) => {
-            if lacks_size(cx, work, element)? {
+            if lacks_size(cx, budget, element)? {
                 return Ok(false);
             }
-            is_formed(cx, work, element)
+            is_formed(cx, budget, element)
         }
-        Ty::Reference(pointee) => is_formed(cx, work, pointee),
-        Ty::Pointer(pointee) => is_formed(cx, work, pointee),
+        Ty::Reference(pointee) => is_formed(cx, budget, pointee),
+        Ty::Pointer(pointee) => is_formed(cx, budget, pointee),
         Ty::Adt(number, given) => {
-            if !item_gives_sizes(cx, work, *number, given)? {
+            if !item_gives_sizes(cx, budget, *number, given)? {
                 return Ok(false);
             }
-            all_given_formed(cx, work, given)
+            all_given_formed(cx, budget, given)
         }
         Ty::Never => Ok(true),
         Ty::Primitive(_) => Ok(true),
@@ -71,12 +71,12 @@ fn is_formed<'a>(cx: &Context<'a, '_>, work: &mut Work<'a>, ty: &Ty) -> Result<b
 /// Whether the parts of each of these types have a size that need one.
 #[cycle(forming)]
 #[tactic(auto, using(crate::proofs::FormedLists::formed_on, crate::proofs::FormedLists::formed_end))]
-fn all_formed<'a>(cx: &Context<'a, '_>, work: &mut Work<'a>, parts: &[Ty]) -> Result<bool, Stop>
+fn all_formed<'a>(cx: &Context<'a, '_>, budget: &mut Budget<'a>, parts: &[Ty]) -> Result<bool, Stop>
     ensures ok { IfOk result (λ is. is ≡ all_formed cx.now (types (map ty_of parts.now))) }
     ensures err { IfErr result (λ e. is_beside e ≡ true) }
 {
     for part in parts {
-        if !is_formed(cx, work, part)? {
+        if !is_formed(cx, budget, part)? {
             return Ok(false);
         }
     }
@@ -85,13 +85,17 @@ fn all_formed<'a>(cx: &Context<'a, '_>, work: &mut Work<'a>, parts: &[Ty]) -> Re
 
 /// The same of what a parameter is given.
 #[cycle(forming)]
-fn given_formed<'a>(cx: &Context<'a, '_>, work: &mut Work<'a>, given: &Given) -> Result<bool, Stop>
+fn given_formed<'a>(
+    cx: &Context<'a, '_>,
+    budget: &mut Budget<'a>,
+    given: &GenericArg,
+) -> Result<bool, Stop>
     ensures ok { IfOk result (λ is. is ≡ given_formed cx.now (given_of given.now)) }
     ensures err { IfErr result (λ e. is_beside e ≡ true) }
 {
     match given {
-        Given::Type(ty) => is_formed(cx, work, ty),
-        Given::Value(_) => Ok(true),
+        GenericArg::Type(ty) => is_formed(cx, budget, ty),
+        GenericArg::Value(_) => Ok(true),
     }
 }
 
@@ -100,14 +104,14 @@ fn given_formed<'a>(cx: &Context<'a, '_>, work: &mut Work<'a>, given: &Given) ->
 #[tactic(auto, using(crate::proofs::FormedLists::given_on, crate::proofs::FormedLists::given_end))]
 fn all_given_formed<'a>(
     cx: &Context<'a, '_>,
-    work: &mut Work<'a>,
-    given: &[Given],
+    budget: &mut Budget<'a>,
+    given: &[GenericArg],
 ) -> Result<bool, Stop>
     ensures ok { IfOk result (λ is. is ≡ all_given_formed cx.now (givens (all_given given.now))) }
     ensures err { IfErr result (λ e. is_beside e ≡ true) }
 {
     for one in given {
-        if !given_formed(cx, work, one)? {
+        if !given_formed(cx, budget, one)? {
             return Ok(false);
         }
     }
@@ -116,11 +120,11 @@ fn all_given_formed<'a>(
 
 /// Whether a type has no size of its own. Where that can't be found out, it counts as one that has.
 #[tactic(auto, unfolding(crate::specs::Formed::lacks_size))]
-fn lacks_size<'a>(cx: &Context<'a, '_>, work: &mut Work<'a>, ty: &Ty) -> Result<bool, Stop>
+fn lacks_size<'a>(cx: &Context<'a, '_>, budget: &mut Budget<'a>, ty: &Ty) -> Result<bool, Stop>
     ensures ok { IfOk result (λ is. is ≡ lacks_size cx.now (ty_of ty.now)) }
     ensures err { IfErr result (λ e. is_beside e ≡ true) }
 {
-    match pointee_tail(cx, work, ty) {
+    match pointee_tail(cx, budget, ty) {
         Ok(tail) => Ok(!tail.is_sized()),
         Err(stop) => {
             if stop.is_beside() {
@@ -133,30 +137,34 @@ fn lacks_size<'a>(cx: &Context<'a, '_>, work: &mut Work<'a>, ty: &Ty) -> Result<
 }
 
 /// Whether a type has a size of its own, or it can't be found out.
-fn has_size<'a>(cx: &Context<'a, '_>, work: &mut Work<'a>, ty: &Ty) -> Result<bool, Stop>
+fn has_size<'a>(cx: &Context<'a, '_>, budget: &mut Budget<'a>, ty: &Ty) -> Result<bool, Stop>
     ensures ok { IfOk result (λ is. is ≡ not (lacks_size cx.now (ty_of ty.now))) }
     ensures err { IfErr result (λ e. is_beside e ≡ true) }
 {
-    Ok(!lacks_size(cx, work, ty)?)
+    Ok(!lacks_size(cx, budget, ty)?)
 }
 
 /// Whether what a parameter is given has no size of its own.
-fn given_lacks<'a>(cx: &Context<'a, '_>, work: &mut Work<'a>, given: &Given) -> Result<bool, Stop>
+fn given_lacks<'a>(
+    cx: &Context<'a, '_>,
+    budget: &mut Budget<'a>,
+    given: &GenericArg,
+) -> Result<bool, Stop>
     ensures ok { IfOk result (λ is. is ≡ given_lacks cx.now (given_of given.now)) }
     ensures err { IfErr result (λ e. is_beside e ≡ true) }
 {
     match given {
-        Given::Type(ty) => lacks_size(cx, work, ty),
-        Given::Value(_) => Ok(false),
+        GenericArg::Type(ty) => lacks_size(cx, budget, ty),
+        GenericArg::Value(_) => Ok(false),
     }
 }
 
 /// Whether a parameter is `?Sized`, or is given what has a size.
 fn gives_size<'a>(
     cx: &Context<'a, '_>,
-    work: &mut Work<'a>,
+    budget: &mut Budget<'a>,
     parameter: &Parameter,
-    given: &Given,
+    given: &GenericArg,
 ) -> Result<bool, Stop>
     ensures ok { IfOk result (λ is. is
         ≡ (parameter.now.may_be_unsized || not (given_lacks cx.now (given_of given.now)))) }
@@ -165,12 +173,16 @@ fn gives_size<'a>(
     if parameter.may_be_unsized {
         return Ok(true);
     }
-    Ok(!given_lacks(cx, work, given)?)
+    Ok(!given_lacks(cx, budget, given)?)
 }
 
 /// Whether each of these types but the last has a size.
 #[tactic(auto, using(crate::proofs::FormedLists::sized_on, crate::proofs::FormedLists::sized_last, crate::proofs::FormedLists::sized_end))]
-fn sized_but_last<'a>(cx: &Context<'a, '_>, work: &mut Work<'a>, parts: &[Ty]) -> Result<bool, Stop>
+fn sized_but_last<'a>(
+    cx: &Context<'a, '_>,
+    budget: &mut Budget<'a>,
+    parts: &[Ty],
+) -> Result<bool, Stop>
     ensures ok { IfOk result (λ is. is ≡ sized_but_last cx.now (types (map ty_of parts.now))) }
     ensures err { IfErr result (λ e. is_beside e ≡ true) }
 {
@@ -178,7 +190,7 @@ fn sized_but_last<'a>(cx: &Context<'a, '_>, work: &mut Work<'a>, parts: &[Ty]) -
         if index + 1 >= parts.len() {
             return Ok(true);
         }
-        if !has_size(cx, work, part)? {
+        if !has_size(cx, budget, part)? {
             return Ok(false);
         }
     }
@@ -188,9 +200,9 @@ fn sized_but_last<'a>(cx: &Context<'a, '_>, work: &mut Work<'a>, parts: &[Ty]) -
 /// Whether each parameter of an item that isn't `?Sized` is given what has a size.
 fn item_gives_sizes<'a>(
     cx: &Context<'a, '_>,
-    work: &mut Work<'a>,
+    budget: &mut Budget<'a>,
     number: u32,
-    given: &[Given],
+    given: &[GenericArg],
 ) -> Result<bool, Stop>
     ensures ok { IfOk result (λ is. is ≡ sizes_given cx.now
         (parameters_of cx.now.items.now cx.now.scope.now (item_at cx.now.items.now cx.now.scope.now number))
@@ -198,7 +210,7 @@ fn item_gives_sizes<'a>(
     ensures err { IfErr result (λ e. is_beside e ≡ true) }
 {
     match item_at(cx.items, number) {
-        Some(item) => sizes_given(cx, work, item.parameters.as_slice(), given),
+        Some(item) => sizes_given(cx, budget, item.parameters.as_slice(), given),
         None => Ok(true),
     }
 }
@@ -207,9 +219,9 @@ fn item_gives_sizes<'a>(
 #[tactic(auto, using(crate::proofs::FormedLists::sizes_on, crate::proofs::FormedLists::sizes_past, crate::proofs::FormedLists::sizes_end))]
 fn sizes_given<'a>(
     cx: &Context<'a, '_>,
-    work: &mut Work<'a>,
+    budget: &mut Budget<'a>,
     parameters: &[Parameter],
-    given: &[Given],
+    given: &[GenericArg],
 ) -> Result<bool, Stop>
     ensures ok { IfOk result
         (λ is. is ≡ sizes_given cx.now parameters.now (givens (all_given given.now))) }
@@ -219,7 +231,7 @@ fn sizes_given<'a>(
         let Some(one) = given.get(index) else {
             return Ok(true);
         };
-        if !gives_size(cx, work, parameter, one)? {
+        if !gives_size(cx, budget, parameter, one)? {
             return Ok(false);
         }
     }

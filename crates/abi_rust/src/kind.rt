@@ -3,18 +3,26 @@
 ghost use Rattle.std.specs.Prelude.{◌≡◌, IfSome, slice_get};
 ghost use Rattle.std.specs.Option.{option_and_then, option_copied, option_map};
 ghost use Rattle.rust_source.specs.declared.syntax.Path.{out-Path};
-ghost use Rattle.abi_rust.specs.Kinds.{constant_type, given_named, is_parameter_of, is_shift, is_test, kind_of_names, kind_found, kind_given, kind_of_expr, kind_of_primitive, kind_written, limit_type, name_alone, number_from, operand_kind, operands_kind, outside, parameter_named, parameter_type, parameters_of, path_kind, single_name};
+ghost use Rattle.abi_rust.specs.Kinds.{constant_type, given_named, is_given, is_parameter_of, is_shift, is_test, kind_of_names, kind_found, kind_given, kind_of_expr, kind_of_primitive, kind_written, limit_type, name_alone, number_from, operand_kind, operands_kind, outside, parameter_named, parameter_type, parameters_of, path_kind, single_name};
 ghost use Rattle.abi_rust.specs.Places.{last_name};
 ghost use Rattle.abi_rust.specs.Types.{given_of, where_of};
 
+use crate::budget::{Context, Env};
 use crate::constants::{constant_named, inside_constant};
 use crate::paths::{Found, Space, find_of, found_by, item_at, most_aliases};
-use crate::ty::{Given, Kind, Primitive, Ty};
+use crate::ty::{GenericArg, Kind, Primitive, Ty};
 use crate::words::Word;
-use crate::work::{Context, Setting};
 use rust_source::{
-    Binary, Expr, IntegerKind, Item, ItemKind, Parameter, ParameterKind, Path, Symbol, Type,
+    Binary, Expr, IntegerKind, Item, ItemKind, Parameter, ParameterKind, Path, Segment, Symbol,
+    Type,
 };
+
+/// Whether something stands in angle brackets behind a name.
+pub(crate) fn is_given(segment: &Segment) -> bool
+    ensures { result ≡ is_given segment.now }
+{
+    segment.lifetimes > 0 || !segment.arguments.is_empty()
+}
 
 /// The name of a path that is one name without arguments.
 #[tactic(auto, unfolding(crate::specs::Kinds::single_name))]
@@ -22,7 +30,7 @@ pub(crate) fn single_name(path: &Path) -> Option<Symbol>
     ensures { result ≡ single_name path.now }
 {
     let segment = path.segments.first()?;
-    if path.is_global || path.segments.len() != 1 || !segment.arguments.is_empty() {
+    if path.is_global || path.segments.len() != 1 || is_given(segment) {
         return None;
     }
     Some(segment.name)
@@ -70,13 +78,13 @@ fn number_named(item: &Item, name: Symbol) -> Option<usize>
 #[tactic(auto, unfolding(crate::specs::Kinds::given_named))]
 pub(crate) fn given_named<'g>(
     cx: &Context<'_, '_>,
-    setting: Setting<'g>,
+    env: Env<'g>,
     name: Symbol,
-) -> Option<&'g Given>
+) -> Option<&'g GenericArg>
     ensures { option_map (λ given. given_of given.now) result
-        ≡ given_named cx.now.items.now cx.now.scope.now (where_of setting.entry) name }
+        ≡ given_named cx.now.items.now cx.now.scope.now (where_of env.entry) name }
 {
-    setting.given.get(parameter_named(cx, setting.item, name)?)
+    env.given.get(parameter_named(cx, env.item, name)?)
 }
 
 /// The type of constants that a primitive type is.
@@ -93,24 +101,24 @@ fn kind_of_primitive(primitive: Primitive) -> Option<Kind>
 }
 
 /// The type of constants that the parameter of this name is given, if it is one.
-fn kind_given(cx: &Context<'_, '_>, setting: Setting<'_>, name: Symbol) -> Option<Kind>
+fn kind_given(cx: &Context<'_, '_>, env: Env<'_>, name: Symbol) -> Option<Kind>
     ensures { result
-        ≡ kind_given (given_named cx.now.items.now cx.now.scope.now (where_of setting.entry) name) }
+        ≡ kind_given (given_named cx.now.items.now cx.now.scope.now (where_of env.entry) name) }
 {
-    match given_named(cx, setting, name)? {
-        Given::Type(Ty::Primitive(primitive)) => kind_of_primitive(*primitive),
+    match given_named(cx, env, name)? {
+        GenericArg::Type(Ty::Primitive(primitive)) => kind_of_primitive(*primitive),
         _ => None,
     }
 }
 
 /// The type of constants that a type is, if it is one.
-pub(crate) fn kind_written(cx: &Context<'_, '_>, setting: Setting<'_>, ty: &Type) -> Option<Kind>
-    ensures { result ≡ kind_written cx.now.items.now cx.now.scope.now (where_of setting.entry) ty.now }
+pub(crate) fn kind_written(cx: &Context<'_, '_>, env: Env<'_>, ty: &Type) -> Option<Kind>
+    ensures { result ≡ kind_written cx.now.items.now cx.now.scope.now (where_of env.entry) ty.now }
 {
     let Type::Path(path) = ty else {
         return None;
     };
-    kind_at(cx, setting, path, path.segments.len())
+    kind_at(cx, env, path, path.segments.len())
 }
 
 /// The name that the first names of a path are, so many of them, where they are one.
@@ -126,29 +134,17 @@ pub(crate) fn name_alone(path: &Path, count: usize) -> Option<Symbol>
 
 /// The type of constants that the first names of a path are, so many of them, if they are one.
 #[tactic(auto, unfolding(crate::specs::Kinds::kind_of_names))]
-pub(crate) fn kind_at(
-    cx: &Context<'_, '_>,
-    setting: Setting<'_>,
-    path: &Path,
-    count: usize,
-) -> Option<Kind>
-    ensures { result ≡ kind_of_names cx.now.items.now cx.now.scope.now (where_of setting.entry) path.now count }
+pub(crate) fn kind_at(cx: &Context<'_, '_>, env: Env<'_>, path: &Path, count: usize) -> Option<Kind>
+    ensures { result ≡ kind_of_names cx.now.items.now cx.now.scope.now (where_of env.entry) path.now count }
 {
     if let Some(name) = name_alone(path, count) {
-        if parameter_named(cx, setting.item, name).is_some() {
-            return kind_given(cx, setting, name);
+        if parameter_named(cx, env.item, name).is_some() {
+            return kind_given(cx, env, name);
         }
     }
     kind_found(
         cx,
-        find_of(
-            cx.items,
-            cx.scope,
-            setting.module,
-            path,
-            count,
-            Space::Types,
-        ),
+        find_of(cx.items, cx.scope, env.module, path, count, Space::Types),
     )
 }
 
@@ -175,33 +171,33 @@ fn kind_found(cx: &Context<'_, '_>, found: Option<Found>) -> Option<Kind>
 }
 
 /// The type of an expression, where its parts tell it.
-pub(crate) fn kind_of(cx: &Context<'_, '_>, setting: Setting<'_>, expr: &Expr) -> Option<Kind>
-    ensures { result ≡ kind_of_expr cx.now.items.now cx.now.scope.now (where_of setting.entry) expr.now }
+pub(crate) fn kind_of(cx: &Context<'_, '_>, env: Env<'_>, expr: &Expr) -> Option<Kind>
+    ensures { result ≡ kind_of_expr cx.now.items.now cx.now.scope.now (where_of env.entry) expr.now }
 {
     match expr {
         Expr::Integer(_, suffix, _) => Some(Kind::Integer((*suffix)?)),
         Expr::Char(_, _) => Some(Kind::Char),
         Expr::Bool(_, _) => Some(Kind::Bool),
-        Expr::Path(path) => kind_of_path(cx, setting, path),
+        Expr::Path(path) => kind_of_path(cx, env, path),
         Expr::Call(_, _, _) => Some(Kind::Integer(IntegerKind::Usize)),
-        Expr::Unary(_, operand, _) => kind_of(cx, setting, operand),
+        Expr::Unary(_, operand, _) => kind_of(cx, env, operand),
         Expr::Binary(operator, left, right, _) => {
             if is_test(*operator) {
                 return Some(Kind::Bool);
             }
-            let kind = kind_of(cx, setting, left);
+            let kind = kind_of(cx, env, left);
             if kind.is_some() || is_shift(*operator) {
                 return kind;
             }
-            kind_of(cx, setting, right)
+            kind_of(cx, env, right)
         }
-        Expr::Cast(_, ty, _) => kind_written(cx, setting, ty),
+        Expr::Cast(_, ty, _) => kind_written(cx, env, ty),
         Expr::If(_, left, right, _) => {
-            let kind = kind_of(cx, setting, left);
+            let kind = kind_of(cx, env, left);
             if kind.is_some() {
                 return kind;
             }
-            kind_of(cx, setting, right)
+            kind_of(cx, env, right)
         }
         Expr::Unevaluated(_, _) => None,
     }
@@ -209,17 +205,17 @@ pub(crate) fn kind_of(cx: &Context<'_, '_>, setting: Setting<'_>, expr: &Expr) -
 
 /// The type of the constant that a path names.
 #[tactic(auto, unfolding(crate::specs::Kinds::path_kind))]
-fn kind_of_path(cx: &Context<'_, '_>, setting: Setting<'_>, path: &Path) -> Option<Kind>
-    ensures { result ≡ path_kind cx.now.items.now cx.now.scope.now (where_of setting.entry) path.now }
+fn kind_of_path(cx: &Context<'_, '_>, env: Env<'_>, path: &Path) -> Option<Kind>
+    ensures { result ≡ path_kind cx.now.items.now cx.now.scope.now (where_of env.entry) path.now }
 {
     if let Some(name) = single_name(path) {
-        if let Some(index) = parameter_named(cx, setting.item, name) {
-            return kind_of_parameter(cx, setting.item, index);
+        if let Some(index) = parameter_named(cx, env.item, name) {
+            return kind_of_parameter(cx, env.item, index);
         }
     }
-    match constant_named(cx, setting, path) {
+    match constant_named(cx, env, path) {
         Some(number) => kind_of_constant(cx, number),
-        None => kind_of_limit(cx, setting, path),
+        None => kind_of_limit(cx, env, path),
     }
 }
 
@@ -238,15 +234,15 @@ pub(crate) fn kind_of_constant(cx: &Context<'_, '_>, number: u32) -> Option<Kind
 }
 
 /// The type of a limit that a path names, as `T::BITS`.
-fn kind_of_limit(cx: &Context<'_, '_>, setting: Setting<'_>, path: &Path) -> Option<Kind>
+fn kind_of_limit(cx: &Context<'_, '_>, env: Env<'_>, path: &Path) -> Option<Kind>
     ensures { result
-        ≡ limit_type cx.now.items.now cx.now.scope.now (where_of setting.entry) path.now (last_name path.now) }
+        ≡ limit_type cx.now.items.now cx.now.scope.now (where_of env.entry) path.now (last_name path.now) }
 {
     let last = path.segments.last()?;
     if cx.scope.words.is(last.name, Word::Bits) {
         return Some(Kind::Integer(IntegerKind::U32));
     }
-    kind_at(cx, setting, path, path.segments.len().saturating_sub(1))
+    kind_at(cx, env, path, path.segments.len().saturating_sub(1))
 }
 
 /// The type of an item's constant parameter.
@@ -270,10 +266,10 @@ fn parameter_at(item: &Item, index: usize) -> Option<&Parameter>
 }
 
 /// A module outside of items.
-pub(crate) fn outside(module: u32) -> Setting<'static>
+pub(crate) fn outside(module: u32) -> Env<'static>
     ensures { where_of result ≡ outside «module» }
 {
-    Setting {
+    Env {
         module,
         item: None,
         given: &[],
@@ -305,21 +301,21 @@ pub(crate) fn is_shift(operator: Binary) -> bool
 /// The type that an operator's first operand has to have, where one is known.
 pub(crate) fn operand_kind(
     cx: &Context<'_, '_>,
-    setting: Setting<'_>,
+    env: Env<'_>,
     operator: Binary,
     left: &Expr,
     right: &Expr,
     wanted: Option<Kind>,
 ) -> Option<Kind>
     ensures { result
-        ≡ operand_kind cx.now.items.now cx.now.scope.now (where_of setting.entry) operator left.now right.now wanted }
+        ≡ operand_kind cx.now.items.now cx.now.scope.now (where_of env.entry) operator left.now right.now wanted }
 {
     if !is_test(operator) && wanted.is_some() {
         return wanted;
     }
-    let kind = kind_of(cx, setting, left);
+    let kind = kind_of(cx, env, left);
     if kind.is_some() || is_shift(operator) {
         return kind;
     }
-    kind_of(cx, setting, right)
+    kind_of(cx, env, right)
 }

@@ -6,9 +6,9 @@
 // What is asked, and what is answered.
 mod fault;
 mod fault_text;
+mod report;
 mod sources;
 mod targets;
-mod told;
 
 // The standard library's types.
 mod std_source;
@@ -24,13 +24,13 @@ mod ways;
 mod words;
 
 // Types whose names are resolved.
+mod budget;
 mod formed;
 mod kind;
 mod owned;
 mod resolve;
 mod tail;
 mod ty;
-mod work;
 
 // Constants.
 mod constants;
@@ -51,6 +51,6 @@ mod scalars;
 mod tree;
 
 pub use fault::{Fault, FaultKind, FaultPlace};
+pub use report::{Label, Shape, TypeReport, VariantLabels};
 pub use sources::Sources;
 pub use targets::{Target, data_layout_of, target_named};
-pub use told::{Label, Shape, Told, VariantLabels};

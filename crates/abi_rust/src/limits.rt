@@ -9,36 +9,33 @@ ghost use Rattle.abi_rust.specs.Meaning.{Means};
 ghost use Rattle.abi_rust.specs.Types.{where_of};
 ghost use Rattle.abi_rust.specs.Values.{value_as_read};
 
+use crate::budget::{Context, Env};
 use crate::fault::{FaultKind, Stop, stop_at};
 use crate::int::{Int, Width};
 use crate::kind::kind_at;
 use crate::paths::{Found, Space, find, find_of};
 use crate::ty::{Kind, Value};
 use crate::words::Word;
-use crate::work::{Context, Setting};
 use rust_source::{IntegerKind, Path, Symbol, Unevaluated};
 
 /// `T::MAX`, `T::MIN` or `T::BITS` of an integer type.
 #[tactic(auto, unfolding(crate::specs::Evaluating::limit))]
-pub(crate) fn limit(cx: &Context<'_, '_>, setting: Setting<'_>, path: &Path) -> Result<Value, Stop>
-    ensures { Means value_as_read (limit cx.now (where_of setting.entry) path.now) result }
+pub(crate) fn limit(cx: &Context<'_, '_>, env: Env<'_>, path: &Path) -> Result<Value, Stop>
+    ensures { Means value_as_read (limit cx.now (where_of env.entry) path.now) result }
 {
     let count = path.segments.len().saturating_sub(1);
     let Some(last) = path.segments.last() else {
         return Err(Stop::Fault(None, FaultKind::Unevaluated(Unevaluated::Expression)));
     };
-    if let Some(kind) = barred(cx, setting.module, path) {
+    if let Some(kind) = barred(cx, env.module, path) {
         return Err(stop_at(last.at, kind));
     }
     if count == 0 {
         return Err(stop_at(last.at, FaultKind::UnknownConstant(last.name)));
     }
-    match limit_of(cx, kind_at(cx, setting, path, count), last.name) {
+    match limit_of(cx, kind_at(cx, env, path, count), last.name) {
         Some(value) => Ok(value),
-        None => Err(stop_at(
-            last.at,
-            unknown_of(cx, setting.module, path, count, last.name),
-        )),
+        None => Err(stop_at(last.at, unknown_of(cx, env.module, path, count, last.name))),
     }
 }
 

@@ -6,12 +6,12 @@ ghost use Rattle.abi_rust.specs.Int.{number_of_int};
 ghost use Rattle.abi_rust.specs.Meaning.{Means};
 ghost use Rattle.abi_rust.specs.Values.{value_as_read};
 
+use crate::budget::Context;
 use crate::fault::{FaultKind, Stop, stop_at};
 use crate::int::{Int, Width};
 use crate::operators::fitting;
 use crate::places::at_place;
 use crate::ty::{Kind, Value};
-use crate::work::Context;
 use rust_source::{Expr, IntegerKind, Place};
 
 /// The type of a literal: of its suffix, the one that is wanted, or an `i32`.

@@ -6,19 +6,19 @@ ghost use Rattle.abi_rust.specs.Meaning.{is_beside};
 ghost use Rattle.abi_rust.specs.Resolving.{form_given, form_of, form_of_item, is_item, item_in, owned_form, owned_of};
 ghost use Rattle.abi_rust.specs.Types.{all_given, ty_of};
 
+use crate::budget::{Budget, Context, copy_of, push_given};
 use crate::fault::Stop;
-use crate::ty::{Given, Primitive, Ty};
+use crate::ty::{GenericArg, Primitive, Ty};
 use crate::words::Word;
-use crate::work::{Context, Work, copy_of, push_given};
 
 /// The owned form of what the parameter is given, where the item is the one that stands for it: of `str` a `String`, of
 /// `[T]` a `Vec<T>`, of `CStr`, `OsStr` and `Path` what is named after them, and else the type itself.
 #[tactic(auto, unfolding(crate::specs::Resolving::owned_of))]
 pub(crate) fn owned_of(
     cx: &Context<'_, '_>,
-    work: &mut Work<'_>,
+    budget: &mut Budget<'_>,
     number: u32,
-    given: &[Given],
+    given: &[GenericArg],
 ) -> Result<Option<Ty>, Stop>
     ensures ok { IfOk result (λ owned. option_map ty_of owned
         ≡ owned_of cx.now number (all_given given.now)) }
@@ -28,34 +28,38 @@ pub(crate) fn owned_of(
         return Ok(None);
     }
     match given.first() {
-        Some(Given::Type(borrowed)) => Ok(Some(owned_form(cx, work, borrowed)?)),
+        Some(GenericArg::Type(borrowed)) => Ok(Some(owned_form(cx, budget, borrowed)?)),
         _ => Ok(None),
     }
 }
 
 /// The owned form of a type.
-fn owned_form(cx: &Context<'_, '_>, work: &mut Work<'_>, borrowed: &Ty) -> Result<Ty, Stop>
+fn owned_form(cx: &Context<'_, '_>, budget: &mut Budget<'_>, borrowed: &Ty) -> Result<Ty, Stop>
     ensures ok { IfOk result (λ owned. ty_of owned
         ≡ owned_form cx.now (ty_of borrowed.now) (form_of cx.now (ty_of borrowed.now))) }
     ensures err { IfErr result (λ e. is_beside e ≡ true) }
 {
     match form_of(cx, borrowed) {
-        Some(form) => Ok(Ty::Adt(form, form_given(cx, work, borrowed)?)),
-        None => copy_of(cx.alloc, work, borrowed),
+        Some(form) => Ok(Ty::Adt(form, form_given(cx, budget, borrowed)?)),
+        None => copy_of(cx.alloc, budget, borrowed),
     }
 }
 
 /// What an owned form is given: a slice's element, and an allocator of no bytes.
-fn form_given(cx: &Context<'_, '_>, work: &mut Work<'_>, borrowed: &Ty) -> Result<Vec<Given>, Stop>
+fn form_given(
+    cx: &Context<'_, '_>,
+    budget: &mut Budget<'_>,
+    borrowed: &Ty,
+) -> Result<Vec<GenericArg>, Stop>
     ensures ok { IfOk result (λ given. all_given given.items ≡ form_given cx.now (ty_of borrowed.now)) }
     ensures err { IfErr result (λ e. is_beside e ≡ true) }
 {
     match borrowed {
         Ty::Slice(element) => {
-            let element = copy_of(cx.alloc, work, element)?;
+            let element = copy_of(cx.alloc, budget, element)?;
             let mut given = Vec::new(cx.alloc);
-            push_given(&mut given, Given::Type(element))?;
-            push_given(&mut given, Given::Type(Ty::Tuple(Vec::new(cx.alloc))))?;
+            push_given(&mut given, GenericArg::Type(element))?;
+            push_given(&mut given, GenericArg::Type(Ty::Tuple(Vec::new(cx.alloc))))?;
             Ok(given)
         }
         _ => Ok(Vec::new(cx.alloc)),

@@ -4,7 +4,7 @@ ghost use Rattle.std.specs.Prelude.{◌≡◌, None, slice_get};
 ghost use Rattle.std.specs.Option.{option_copied};
 ghost use Rattle.rust_source.specs.declared.syntax.Path.{out-Path};
 ghost use Rattle.abi_rust.specs.Kinds.{found_by, most_aliases, type_named};
-ghost use Rattle.abi_rust.specs.Names.{agreed, along, ambiguous, among, asking, behind_module, beside_module, crate_above, declared, first, found, found_of, imported, is_open, is_usable, named_behind, names_in_path, one_of, other_space, own, own_item, own_module, path_named, perhaps, root, seen_own, shown, space_before, standing_or_import, target_in, target_with, used_by, visibility_of_item, visibility_of_module, visibility_of_use, within};
+ghost use Rattle.abi_rust.specs.Names.{agreed, along, ambiguous, among, lookup_of, behind_module, beside_module, crate_above, declared, first, found, found_of, imported, is_open, is_usable, named_behind, names_in_path, one_of, other_space, own, own_item, own_module, path_named, perhaps, root, seen_own, shown, space_before, standing_or_import, target_in, target_with, used_by, visibility_of_item, visibility_of_module, visibility_of_use, within};
 
 use crate::scope::Scope;
 use crate::standing::SEVERAL;
@@ -42,7 +42,7 @@ pub(crate) enum Space {
 
 /// What is asked for.
 #[derive(Clone, Copy)]
-pub(crate) struct Asked {
+pub(crate) struct Lookup {
     /// The module that asks, by its number: the one that the path stands in.
     from: u32,
     name: Symbol,
@@ -145,15 +145,15 @@ fn names_named(
     let mut left = count.checked_sub(1)?;
     let (begin, rest) = path.segments.as_slice().split_first()?;
     let first_space = space_before(left, space);
-    let begins = asking(module, begin.name, first_space, None);
+    let begins = lookup_of(module, begin.name, first_space, None);
     let mut found = first(items, scope, targets, begins, path.is_global);
     for segment in rest {
         let Some(fewer) = left.checked_sub(1) else {
             break;
         };
         left = fewer;
-        let asked = asking(module, segment.name, space_before(left, space), None);
-        found = behind(items, scope, targets, found, asked);
+        let lookup = lookup_of(module, segment.name, space_before(left, space), None);
+        found = behind(items, scope, targets, found, lookup);
     }
     found
 }
@@ -255,24 +255,24 @@ pub(crate) fn target_of(
     let mut left = used.path.len().checked_sub(1)?;
     let (begin, rest) = used.path.as_slice().split_first()?;
     let first_space = space_before(left, space);
-    let begins = asking(used.module, begin.name, first_space, Some(number));
+    let begins = lookup_of(used.module, begin.name, first_space, Some(number));
     let mut found = first(items, scope, targets, begins, used.is_global);
     for name in rest {
         let Some(fewer) = left.checked_sub(1) else {
             break;
         };
         left = fewer;
-        let asked = asking(used.module, name.name, space_before(left, space), None);
-        found = behind(items, scope, targets, found, asked);
+        let lookup = lookup_of(used.module, name.name, space_before(left, space), None);
+        found = behind(items, scope, targets, found, lookup);
     }
     found
 }
 
 /// What is asked for by a name in a module.
-fn asking(from: u32, name: Symbol, space: Space, skipped: Option<u32>) -> Asked
-    ensures { result ≡ asking from name space skipped }
+fn lookup_of(from: u32, name: Symbol, space: Space, skipped: Option<u32>) -> Lookup
+    ensures { result ≡ lookup_of from name space skipped }
 {
-    Asked {
+    Lookup {
         from,
         name,
         space,
@@ -282,35 +282,41 @@ fn asking(from: u32, name: Symbol, space: Space, skipped: Option<u32>) -> Asked
 
 /// What a path's first name names in the module that asks.
 #[tactic(auto, unfolding(crate::specs::Names::first))]
-fn first(items: &Items, scope: &Scope, targets: &[UseTarget], asked: Asked, is_global: bool) -> Option<Found>
-    ensures { result ≡ first items.now scope.now (target_in targets.now) asked is_global }
+fn first(
+    items: &Items,
+    scope: &Scope,
+    targets: &[UseTarget],
+    lookup: Lookup,
+    is_global: bool,
+) -> Option<Found>
+    ensures { result ≡ first items.now scope.now (target_in targets.now) lookup is_global }
 {
-    if asked.name == Symbol::CRATE {
-        return Some(crate_above(items, asked.from));
+    if lookup.name == Symbol::CRATE {
+        return Some(crate_above(items, lookup.from));
     }
-    if asked.name == Symbol::SELF {
-        return Some(Found::Module(asked.from));
+    if lookup.name == Symbol::SELF {
+        return Some(Found::Module(lookup.from));
     }
-    if asked.name == Symbol::SUPER {
-        return Some(Found::Module(parent_of(items, asked.from)?));
+    if lookup.name == Symbol::SUPER {
+        return Some(Found::Module(parent_of(items, lookup.from)?));
     }
     if !is_global {
-        if let Some(found) = within(items, scope, targets, asked.from, asked) {
+        if let Some(found) = within(items, scope, targets, lookup.from, lookup) {
             return Some(found);
         }
-        if let Some(found) = perhaps(items, scope, asked.from, asked) {
+        if let Some(found) = perhaps(items, scope, lookup.from, lookup) {
             return Some(found);
         }
         if let Some(prelude) = scope.prelude() {
-            if let Some(found) = within(items, scope, targets, prelude, asked) {
+            if let Some(found) = within(items, scope, targets, prelude, lookup) {
                 return Some(found);
             }
         }
     }
-    if scope.words.is_std(asked.name) {
+    if scope.words.is_std(lookup.name) {
         return Some(Found::Module(scope.std_root));
     }
-    Some(Found::Primitive(scope.words.primitive(asked.name)?))
+    Some(Found::Primitive(scope.words.primitive(lookup.name)?))
 }
 
 /// What a name behind another names.
@@ -320,12 +326,12 @@ fn behind(
     scope: &Scope,
     targets: &[UseTarget],
     before: Option<Found>,
-    asked: Asked,
+    lookup: Lookup,
 ) -> Option<Found>
-    ensures { result ≡ named_behind items.now scope.now (target_in targets.now) before asked }
+    ensures { result ≡ named_behind items.now scope.now (target_in targets.now) before lookup }
 {
     match before {
-        Some(Found::Module(module)) => behind_module(items, scope, targets, module, asked),
+        Some(Found::Module(module)) => behind_module(items, scope, targets, module, lookup),
         Some(Found::Unknown) => before,
         Some(Found::Hidden(_)) => before,
         Some(Found::Ambiguous(_)) => before,
@@ -339,28 +345,28 @@ fn behind_module(
     scope: &Scope,
     targets: &[UseTarget],
     module: u32,
-    asked: Asked,
+    lookup: Lookup,
 ) -> Option<Found>
-    ensures { result ≡ behind_module items.now scope.now (target_in targets.now) asked «module» }
+    ensures { result ≡ behind_module items.now scope.now (target_in targets.now) lookup «module» }
 {
-    if asked.name == Symbol::SUPER {
+    if lookup.name == Symbol::SUPER {
         return Some(Found::Module(parent_of(items, module)?));
     }
-    if asked.name == Symbol::SELF {
+    if lookup.name == Symbol::SELF {
         return Some(Found::Module(module));
     }
-    match within(items, scope, targets, module, asked) {
+    match within(items, scope, targets, module, lookup) {
         Some(found) => Some(found),
-        None => perhaps(items, scope, module, asked),
+        None => perhaps(items, scope, module, lookup),
     }
 }
 
 /// What a glob may bring into a module under a name that leads to nothing that is read.
-fn perhaps(items: &Items, scope: &Scope, module: u32, asked: Asked) -> Option<Found>
-    ensures { result ≡ perhaps items.now scope.now «module» asked }
+fn perhaps(items: &Items, scope: &Scope, module: u32, lookup: Lookup) -> Option<Found>
+    ensures { result ≡ perhaps items.now scope.now «module» lookup }
 {
-    let is_at_head = asked.skipped.is_some() && scope.words.is_std(asked.name);
-    if scope.leads_nowhere(items, module, asked.from) && !is_at_head {
+    let is_at_head = lookup.skipped.is_some() && scope.words.is_std(lookup.name);
+    if scope.leads_nowhere(items, module, lookup.from) && !is_at_head {
         Some(Found::Unknown)
     } else {
         None
@@ -369,14 +375,20 @@ fn perhaps(items: &Items, scope: &Scope, module: u32, asked: Asked) -> Option<Fo
 
 /// What a name names in a module: what it has of its own, or else what its globs bring in.
 #[tactic(auto, unfolding(crate::specs::Names::within))]
-fn within(items: &Items, scope: &Scope, targets: &[UseTarget], module: u32, asked: Asked) -> Option<Found>
-    ensures { result ≡ within items.now scope.now (target_in targets.now) «module» asked }
+fn within(
+    items: &Items,
+    scope: &Scope,
+    targets: &[UseTarget],
+    module: u32,
+    lookup: Lookup,
+) -> Option<Found>
+    ensures { result ≡ within items.now scope.now (target_in targets.now) «module» lookup }
 {
-    let seen = match own(items, scope, targets, module, asked) {
-        Some(own) => seen_own(items, own, asked.from),
-        None => among(items, scope, targets, scope.reached(module), asked)?,
+    let seen = match own(items, scope, targets, module, lookup) {
+        Some(own) => seen_own(items, own, lookup.from),
+        None => among(items, scope, targets, scope.reached(module), lookup)?,
     };
-    Some(shown(asked.name, seen))
+    Some(shown(lookup.name, seen))
 }
 
 /// What a module has of its own, as another one sees it.
@@ -401,14 +413,20 @@ fn shown(name: Symbol, seen: Seen) -> Found
 }
 
 /// What a name names by the ways of a module's globs, together.
-fn among(items: &Items, scope: &Scope, targets: &[UseTarget], ways: &[Way], asked: Asked) -> Option<Seen>
+fn among(
+    items: &Items,
+    scope: &Scope,
+    targets: &[UseTarget],
+    ways: &[Way],
+    lookup: Lookup,
+) -> Option<Seen>
     ensures { result
-        ≡ among items.now scope.now (target_in targets.now) ways.now asked None ways.now }
+        ≡ among items.now scope.now (target_in targets.now) ways.now lookup None ways.now }
 {
     let mut all = None;
     for way in ways {
-        let seen = along(items, scope, targets, ways, *way, asked);
-        all = agreed(asked.name, all, seen);
+        let seen = along(items, scope, targets, ways, *way, lookup);
+        all = agreed(lookup.name, all, seen);
     }
     all
 }
@@ -450,18 +468,18 @@ fn along(
     targets: &[UseTarget],
     ways: &[Way],
     way: Way,
-    asked: Asked,
+    lookup: Lookup,
 ) -> Option<Seen>
-    ensures { result ≡ along items.now scope.now (target_in targets.now) ways.now asked way }
+    ensures { result ≡ along items.now scope.now (target_in targets.now) ways.now lookup way }
 {
-    let own = own(items, scope, targets, way.glob.target, asked)?;
-    if !is_open(items, scope, targets, ways, way, own.visible_in, asked) {
+    let own = own(items, scope, targets, way.glob.target, lookup)?;
+    if !is_open(items, scope, targets, ways, way, own.visible_in, lookup) {
         return None;
     }
     Some(Seen {
         found: own.found,
-        is_visible: is_visible(items, own.visible_in, asked.from)
-            && is_way_visible(items, ways, way, asked.from),
+        is_visible: is_visible(items, own.visible_in, lookup.from)
+            && is_way_visible(items, ways, way, lookup.from),
     })
 }
 
@@ -474,10 +492,10 @@ fn is_open(
     ways: &[Way],
     way: Way,
     visible_in: Option<u32>,
-    asked: Asked,
+    lookup: Lookup,
 ) -> bool
     ensures { result
-        ≡ is_open items.now scope.now (target_in targets.now) ways.now asked way visible_in }
+        ≡ is_open items.now scope.now (target_in targets.now) ways.now lookup way visible_in }
 {
     let mut last = Some(way);
     for turn in 0..ways.len() {
@@ -487,7 +505,7 @@ fn is_open(
         if !is_visible(items, visible_in, way.glob.inside) {
             return false;
         }
-        if own(items, scope, targets, way.glob.inside, asked).is_some() {
+        if own(items, scope, targets, way.glob.inside, lookup).is_some() {
             return false;
         }
         last = way_at(ways, way.before);
@@ -497,15 +515,21 @@ fn is_open(
 
 /// What a name names in a module without its globs.
 #[tactic(auto, unfolding(crate::specs::Names::own))]
-fn own(items: &Items, scope: &Scope, targets: &[UseTarget], module: u32, asked: Asked) -> Option<OwnName>
-    ensures { result ≡ own items.now scope.now (target_in targets.now) «module» asked }
+fn own(
+    items: &Items,
+    scope: &Scope,
+    targets: &[UseTarget],
+    module: u32,
+    lookup: Lookup,
+) -> Option<OwnName>
+    ensures { result ≡ own items.now scope.now (target_in targets.now) «module» lookup }
 {
-    let standing = declared(items, scope, module, asked.name, asked.space);
-    let number = scope.used(module, asked.name);
+    let standing = declared(items, scope, module, lookup.name, lookup.space);
+    let number = scope.used(module, lookup.name);
     standing_or_import(
-        asked.name,
+        lookup.name,
         standing,
-        brought_in(items, scope, targets, number, asked),
+        brought_in(items, scope, targets, number, lookup),
     )
 }
 
@@ -543,18 +567,18 @@ fn brought_in(
     scope: &Scope,
     targets: &[UseTarget],
     number: Option<u32>,
-    asked: Asked,
+    lookup: Lookup,
 ) -> Option<OwnName>
-    ensures { result ≡ used_by items.now scope.now (target_in targets.now) asked number }
+    ensures { result ≡ used_by items.now scope.now (target_in targets.now) lookup number }
 {
     let number = number?;
     if number == SEVERAL {
-        return Some(ambiguous(asked.name));
+        return Some(ambiguous(lookup.name));
     }
-    if asked.skipped == Some(number) {
+    if lookup.skipped == Some(number) {
         return None;
     }
-    let found = imported(targets, number, asked.space)?;
+    let found = imported(targets, number, lookup.space)?;
     Some(OwnName {
         found,
         visible_in: visibility_of_use(items, number),

@@ -6,11 +6,11 @@ ghost use Rattle.abi_rust.specs.Aligned.{aligning, all_units, any_aligned, any_w
 ghost use Rattle.abi_rust.specs.Meaning.{Means, then_meant};
 ghost use Rattle.abi_rust.specs.Measure.{IsMeasure, Measure, room_takers, takes_room, transparent_checked};
 
+use crate::budget::{Budget, Context, less};
 use crate::fault::{FaultKind, Stop, stop_at};
 use crate::kind::is_parameter_of;
 use crate::paths::{Found, found_by, item_at, root_of};
-use crate::told::size_and_align;
-use crate::work::{Context, Work, less};
+use crate::report::size_and_align;
 use abi_laid::TypeTree;
 use rust_source::{Enum, Field, Fields, Item, ItemKind, Place, Type, Variant};
 
@@ -73,17 +73,17 @@ fn place_of(item: &Item) -> Place
 #[tactic(auto, unfolding(crate::specs::Aligned::packed_checked))]
 pub(crate) fn check_packed<'a>(
     cx: &Context<'a, '_>,
-    work: &mut Work<'a>,
+    budget: &mut Budget<'a>,
     item: &Item,
     fields: &Fields,
-    room: u32,
+    depth_left: u32,
 ) -> Result<(), Stop>
-    ensures { Means (λ _. true) (packed_checked cx.now room item.now fields.now.all.items) result }
+    ensures { Means (λ _. true) (packed_checked cx.now depth_left item.now fields.now.all.items) result }
 {
     if item.repr.packed.is_none() {
         return Ok(());
     }
-    if has_aligned(cx, work, item, fields.all.as_slice(), room)? {
+    if has_aligned(cx, budget, item, fields.all.as_slice(), depth_left)? {
         return Err(stop_at(place_of(item), FaultKind::AlignedInPacked));
     }
     Ok(())
@@ -94,15 +94,15 @@ pub(crate) fn check_packed<'a>(
 #[tactic(auto, using(crate::proofs::Aligned::fields_less, crate::proofs::Aligned::fields_none))]
 fn has_aligned<'a>(
     cx: &Context<'a, '_>,
-    work: &mut Work<'a>,
+    budget: &mut Budget<'a>,
     inside: &Item,
     fields: &[Field],
-    room: u32,
+    depth_left: u32,
 ) -> Result<bool, Stop>
-    ensures { Means (λ is. is) ((aligning cx.now room).of_fields inside.now fields.now) result }
+    ensures { Means (λ is. is) ((aligning cx.now depth_left).of_fields inside.now fields.now) result }
 {
-    let room = less(room)?;
-    any_aligned(cx, work, inside, fields, room)
+    let depth_left = less(depth_left)?;
+    any_aligned(cx, budget, inside, fields, depth_left)
 }
 
 /// The same, within less room.
@@ -110,15 +110,15 @@ fn has_aligned<'a>(
 #[tactic(auto, using(crate::proofs::Aligned::aligned_more, crate::proofs::Aligned::aligned_done))]
 fn any_aligned<'a>(
     cx: &Context<'a, '_>,
-    work: &mut Work<'a>,
+    budget: &mut Budget<'a>,
     inside: &Item,
     fields: &[Field],
-    room: u32,
+    depth_left: u32,
 ) -> Result<bool, Stop>
-    ensures { Means (λ is. is) (any_aligned cx.now (aligning cx.now room) inside.now fields.now) result }
+    ensures { Means (λ is. is) (any_aligned cx.now (aligning cx.now depth_left) inside.now fields.now) result }
 {
     for field in fields {
-        if is_aligned(cx, work, inside, &field.ty, room)? {
+        if is_aligned(cx, budget, inside, &field.ty, depth_left)? {
             return Ok(true);
         }
     }
@@ -130,16 +130,16 @@ fn any_aligned<'a>(
 #[tactic(auto, using(crate::proofs::Aligned::type_less, crate::proofs::Aligned::type_none))]
 fn is_aligned<'a>(
     cx: &Context<'a, '_>,
-    work: &mut Work<'a>,
+    budget: &mut Budget<'a>,
     inside: &Item,
     ty: &Type,
-    room: u32,
+    depth_left: u32,
 ) -> Result<bool, Stop>
-    ensures { Means (λ is. is) ((aligning cx.now room).of_type inside.now ty.now) result }
+    ensures { Means (λ is. is) ((aligning cx.now depth_left).of_type inside.now ty.now) result }
 {
-    work.spend()?;
-    let room = less(room)?;
-    is_aligned_with(cx, work, inside, ty, room)
+    budget.spend()?;
+    let depth_left = less(depth_left)?;
+    is_aligned_with(cx, budget, inside, ty, depth_left)
 }
 
 /// The same, within less room.
@@ -147,12 +147,12 @@ fn is_aligned<'a>(
 #[tactic(auto, unfolding(crate::specs::Aligned::type_aligned))]
 fn is_aligned_with<'a>(
     cx: &Context<'a, '_>,
-    work: &mut Work<'a>,
+    budget: &mut Budget<'a>,
     inside: &Item,
     ty: &Type,
-    room: u32,
+    depth_left: u32,
 ) -> Result<bool, Stop>
-    ensures { Means (λ is. is) (type_aligned cx.now (aligning cx.now room) inside.now ty.now) result }
+    ensures { Means (λ is. is) (type_aligned cx.now (aligning cx.now depth_left) inside.now ty.now) result }
 {
     if is_parameter_of(inside, ty) {
         return Ok(false);
@@ -164,9 +164,21 @@ fn is_aligned_with<'a>(
         return Ok(false);
     };
     match &item.kind {
-        ItemKind::Alias(ty) => is_aligned(cx, work, item, ty, room),
-        ItemKind::Struct(fields) => is_item_aligned(cx, work, item, fields.all.as_slice(), room),
-        ItemKind::Union(fields) => is_item_aligned(cx, work, item, fields.all.as_slice(), room),
+        ItemKind::Alias(ty) => is_aligned(cx, budget, item, ty, depth_left),
+        ItemKind::Struct(fields) => is_item_aligned(
+            cx,
+            budget,
+            item,
+            fields.all.as_slice(),
+            depth_left,
+        ),
+        ItemKind::Union(fields) => is_item_aligned(
+            cx,
+            budget,
+            item,
+            fields.all.as_slice(),
+            depth_left,
+        ),
         _ => Ok(false),
     }
 }
@@ -176,15 +188,15 @@ fn is_aligned_with<'a>(
 #[tactic(auto, using(crate::proofs::Aligned::item_less, crate::proofs::Aligned::item_none))]
 fn is_item_aligned<'a>(
     cx: &Context<'a, '_>,
-    work: &mut Work<'a>,
+    budget: &mut Budget<'a>,
     item: &Item,
     fields: &[Field],
-    room: u32,
+    depth_left: u32,
 ) -> Result<bool, Stop>
-    ensures { Means (λ is. is) ((aligning cx.now room).of_item item.now fields.now) result }
+    ensures { Means (λ is. is) ((aligning cx.now depth_left).of_item item.now fields.now) result }
 {
-    let room = less(room)?;
-    is_item_aligned_with(cx, work, item, fields, room)
+    let depth_left = less(depth_left)?;
+    is_item_aligned_with(cx, budget, item, fields, depth_left)
 }
 
 /// The same, within less room.
@@ -192,12 +204,12 @@ fn is_item_aligned<'a>(
 #[tactic(auto, unfolding(crate::specs::Aligned::fields_aligned))]
 fn is_item_aligned_with<'a>(
     cx: &Context<'a, '_>,
-    work: &mut Work<'a>,
+    budget: &mut Budget<'a>,
     item: &Item,
     fields: &[Field],
-    room: u32,
+    depth_left: u32,
 ) -> Result<bool, Stop>
-    ensures { Means (λ is. is) (fields_aligned cx.now (aligning cx.now room) item.now fields.now) result }
+    ensures { Means (λ is. is) (fields_aligned cx.now (aligning cx.now depth_left) item.now fields.now) result }
 {
     if item.repr.align.is_some() {
         return Ok(true);
@@ -205,7 +217,7 @@ fn is_item_aligned_with<'a>(
     if root_of(cx.items, item.module) == cx.scope.std_root {
         return Ok(false);
     }
-    has_aligned(cx, work, item, fields, room)
+    has_aligned(cx, budget, item, fields, depth_left)
 }
 
 /// Whether a discriminant of these variants is written.

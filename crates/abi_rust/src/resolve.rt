@@ -7,22 +7,22 @@ ghost use Rattle.rust_source.specs.declared.syntax.Path.{out-Path};
 ghost use Rattle.rust_source.specs.declared.syntax.Segment.{out-Segment};
 ghost use Rattle.rust_source.specs.declared.syntax.«Type».{out-Type};
 ghost use Rattle.abi_rust.specs.Meaning.{Means};
-ghost use Rattle.abi_rust.specs.Resolving.{argument_given, default_given, first_name, give, given_constant, given_early, given_type, given_wrongly, inner, is_behind_type, is_given, is_other, is_self, is_type_inside, is_wanted, item_under, item_with, length_by, length_of, may_be_constant, type_named_by, named_type, one_given, path_type, primitive_given, resolver, self_by, tuple_from, type_as_constant, type_given, type_of_layer, type_with, unknown};
+ghost use Rattle.abi_rust.specs.Resolving.{argument_given, default_given, first_name, give, given_constant, given_early, given_type, given_wrongly, inner, is_behind_type, is_other, is_self, is_type_inside, is_wanted, item_under, item_with, length_by, length_of, may_be_constant, type_named_by, named_type, one_given, path_type, primitive_given, resolver, self_by, tuple_from, type_as_constant, type_given, type_of_layer, type_with, unknown};
 ghost use Rattle.abi_rust.specs.Resolving.{most_deep};
 ghost use Rattle.abi_rust.specs.Types.{all_given, given_of, ty_of, where_of};
 ghost use Rattle.abi_rust.specs.Values.{value_as_read};
 
+use crate::budget::{
+    Budget, Context, Env, copies_of, copy_of, less, most_deep, push_given, push_ty,
+};
 use crate::evaluate::{evaluate, evaluate_path};
 use crate::fault::{FaultKind, Stop, stop_at};
-use crate::kind::{given_named, kind_written, outside, parameter_named, single_name};
+use crate::kind::{given_named, is_given, kind_written, outside, parameter_named, single_name};
 use crate::operators::same_kind;
 use crate::owned::owned_of;
 use crate::paths::{Found, Space, find, item_at};
 use crate::places::{place_of, place_of_path};
-use crate::ty::{Given, Kind, Primitive, Ty, Value};
-use crate::work::{
-    Context, Setting, Work, copies_of, copy_of, less, most_deep, push_given, push_ty,
-};
+use crate::ty::{GenericArg, Kind, Primitive, Ty, Value};
 use rust_source::{
     Argument, Expr, IntegerKind, Item, ItemKind, Parameter, ParameterKind, Path, Place, Segment,
     Symbol, Type, Unevaluated,
@@ -33,16 +33,16 @@ use rust_source::{
 #[tactic(auto, using(crate::proofs::Rooms::resolve_less, crate::proofs::Rooms::resolve_none))]
 pub(crate) fn resolve<'a>(
     cx: &Context<'a, '_>,
-    work: &mut Work<'a>,
-    setting: Setting<'_>,
+    budget: &mut Budget<'a>,
+    env: Env<'_>,
     ty: &'a Type,
-    room: u32,
+    depth_left: u32,
 ) -> Result<Ty, Stop>
-    ensures { Means ty_of (resolver cx.now room (where_of setting.entry) ty.now) result }
+    ensures { Means ty_of (resolver cx.now depth_left (where_of env.entry) ty.now) result }
 {
-    work.spend()?;
-    let room = less(room)?;
-    resolve_with(cx, work, setting, ty, room)
+    budget.spend()?;
+    let depth_left = less(depth_left)?;
+    resolve_with(cx, budget, env, ty, depth_left)
 }
 
 /// The type that is written in a setting, within less room.
@@ -50,36 +50,36 @@ pub(crate) fn resolve<'a>(
 #[tactic(auto, unfolding(crate::specs::Resolving::type_with))]
 fn resolve_with<'a>(
     cx: &Context<'a, '_>,
-    work: &mut Work<'a>,
-    setting: Setting<'_>,
+    budget: &mut Budget<'a>,
+    env: Env<'_>,
     ty: &'a Type,
-    room: u32,
+    depth_left: u32,
 ) -> Result<Ty, Stop>
-    ensures { Means ty_of (type_with cx.now (inner cx.now room) (where_of setting.entry) ty.now) result }
+    ensures { Means ty_of (type_with cx.now (inner cx.now depth_left) (where_of env.entry) ty.now) result }
 {
     match ty {
         Type::Never => Ok(Ty::Never),
         Type::Function => Ok(Ty::Function),
         Type::Dyn => Ok(Ty::Dyn),
-        Type::Tuple(parts) => resolve_tuple(cx, work, setting, parts, room),
+        Type::Tuple(parts) => resolve_tuple(cx, budget, env, parts, depth_left),
         Type::Array(element, count) => {
-            let count = length(cx, work, setting, count)?;
-            let element = resolve(cx, work, setting, element, room)?;
+            let count = length(cx, budget, env, count)?;
+            let element = resolve(cx, budget, env, element, depth_left)?;
             Ok(Ty::Array(Box::new(cx.alloc, element)?, count))
         }
         Type::Slice(element) => {
-            let element = resolve(cx, work, setting, element, room)?;
+            let element = resolve(cx, budget, env, element, depth_left)?;
             Ok(Ty::Slice(Box::new(cx.alloc, element)?))
         }
         Type::Reference(pointee) => {
-            let pointee = resolve(cx, work, setting, pointee, room)?;
+            let pointee = resolve(cx, budget, env, pointee, depth_left)?;
             Ok(Ty::Reference(Box::new(cx.alloc, pointee)?))
         }
         Type::Pointer(pointee) => {
-            let pointee = resolve(cx, work, setting, pointee, room)?;
+            let pointee = resolve(cx, budget, env, pointee, depth_left)?;
             Ok(Ty::Pointer(Box::new(cx.alloc, pointee)?))
         }
-        Type::Path(path) => resolve_path(cx, work, setting, path, room),
+        Type::Path(path) => resolve_path(cx, budget, env, path, depth_left),
         Type::Unevaluated(what, at) => Err(stop_at(*at, FaultKind::Unevaluated(*what))),
     }
 }
@@ -89,17 +89,17 @@ fn resolve_with<'a>(
 #[tactic(auto, using(crate::proofs::Lists::tuple_more, crate::proofs::Lists::tuple_done))]
 fn resolve_tuple<'a>(
     cx: &Context<'a, '_>,
-    work: &mut Work<'a>,
-    setting: Setting<'_>,
+    budget: &mut Budget<'a>,
+    env: Env<'_>,
     parts: &'a [Type],
-    room: u32,
+    depth_left: u32,
 ) -> Result<Ty, Stop>
     ensures { Means ty_of
-        (tuple_from cx.now (inner cx.now room) (where_of setting.entry) [] parts.now) result }
+        (tuple_from cx.now (inner cx.now depth_left) (where_of env.entry) [] parts.now) result }
 {
     let mut resolved = Vec::new(cx.alloc);
     for part in parts {
-        let one = resolve(cx, work, setting, part, room)?;
+        let one = resolve(cx, budget, env, part, depth_left)?;
         push_ty(&mut resolved, one)?;
     }
     Ok(Ty::Tuple(resolved))
@@ -109,14 +109,14 @@ fn resolve_tuple<'a>(
 #[tactic(auto, unfolding(crate::specs::Resolving::length_of))]
 fn length<'a>(
     cx: &Context<'a, '_>,
-    work: &mut Work<'a>,
-    setting: Setting<'_>,
+    budget: &mut Budget<'a>,
+    env: Env<'_>,
     count: &'a Expr,
 ) -> Result<u64, Stop>
-    ensures { Means (λ n. n) (length_of cx.now (where_of setting.entry) count.now) result }
+    ensures { Means (λ n. n) (length_of cx.now (where_of env.entry) count.now) result }
 {
     let wanted = Some(Kind::Integer(IntegerKind::Usize));
-    let value = evaluate(cx, work, setting, count, wanted, most_deep())?;
+    let value = evaluate(cx, budget, env, count, wanted, most_deep())?;
     length_by(cx, value, count)
 }
 
@@ -134,11 +134,11 @@ fn length_by(cx: &Context<'_, '_>, value: Value, count: &Expr) -> Result<u64, St
 }
 
 /// The type that the parameter is given that a path names.
-fn type_given<'g>(cx: &Context<'_, '_>, setting: Setting<'g>, path: &Path) -> Option<&'g Ty>
-    ensures { option_map (λ ty. ty_of ty.now) result ≡ type_given cx.now (where_of setting.entry) path.now }
+fn type_given<'g>(cx: &Context<'_, '_>, env: Env<'g>, path: &Path) -> Option<&'g Ty>
+    ensures { option_map (λ ty. ty_of ty.now) result ≡ type_given cx.now (where_of env.entry) path.now }
 {
-    match given_named(cx, setting, single_name(path)?) {
-        Some(Given::Type(ty)) => Some(ty),
+    match given_named(cx, env, single_name(path)?) {
+        Some(GenericArg::Type(ty)) => Some(ty),
         _ => None,
     }
 }
@@ -158,20 +158,20 @@ fn is_self(path: &Path) -> bool
 #[tactic(auto, unfolding(crate::specs::Resolving::path_type))]
 fn resolve_path<'a>(
     cx: &Context<'a, '_>,
-    work: &mut Work<'a>,
-    setting: Setting<'_>,
+    budget: &mut Budget<'a>,
+    env: Env<'_>,
     path: &'a Path,
-    room: u32,
+    depth_left: u32,
 ) -> Result<Ty, Stop>
-    ensures { Means ty_of (path_type cx.now (inner cx.now room) (where_of setting.entry) path.now) result }
+    ensures { Means ty_of (path_type cx.now (inner cx.now depth_left) (where_of env.entry) path.now) result }
 {
-    if let Some(ty) = type_given(cx, setting, path) {
-        return copy_of(cx.alloc, work, ty);
+    if let Some(ty) = type_given(cx, env, path) {
+        return copy_of(cx.alloc, budget, ty);
     }
     if is_self(path) {
-        return self_type(cx, work, setting, path);
+        return self_type(cx, budget, env, path);
     }
-    resolve_named(cx, work, setting, path, room)
+    resolve_named(cx, budget, env, path, depth_left)
 }
 
 /// The type that names name.
@@ -179,36 +179,29 @@ fn resolve_path<'a>(
 #[tactic(auto, unfolding(crate::specs::Resolving::named_type))]
 fn resolve_named<'a>(
     cx: &Context<'a, '_>,
-    work: &mut Work<'a>,
-    setting: Setting<'_>,
+    budget: &mut Budget<'a>,
+    env: Env<'_>,
     path: &'a Path,
-    room: u32,
+    depth_left: u32,
 ) -> Result<Ty, Stop>
-    ensures { Means ty_of (named_type cx.now (inner cx.now room) (where_of setting.entry) path.now) result }
+    ensures { Means ty_of (named_type cx.now (inner cx.now depth_left) (where_of env.entry) path.now) result }
 {
     let at = place_of_path(path);
     let Some(last) = path.segments.last() else {
         return Err(stop_at(at, FaultKind::Unevaluated(Unevaluated::Inferred)));
     };
-    if let Some(wrong) = given_wrongly(cx, setting, path) {
+    if let Some(wrong) = given_wrongly(cx, env, path) {
         return Err(stop_at(wrong.at, FaultKind::WrongArguments(wrong.name)));
     }
-    match find(cx.items, cx.scope, setting.module, path, Space::Types) {
+    match find(cx.items, cx.scope, env.module, path, Space::Types) {
         Some(Found::Primitive(primitive)) => primitive_given(primitive, last),
-        Some(Found::Item(number)) => resolve_item(cx, work, setting, number, last, room),
+        Some(Found::Item(number)) => resolve_item(cx, budget, env, number, last, depth_left),
         Some(Found::Module(_)) => Err(stop_at(at, FaultKind::NotAType(last.name))),
         Some(Found::Unknown) => Err(stop_at(at, FaultKind::UnknownOrigin(last.name))),
         Some(Found::Hidden(name)) => Err(stop_at(at, FaultKind::Private(name))),
         Some(Found::Ambiguous(name)) => Err(stop_at(at, FaultKind::Ambiguous(name))),
-        None => Err(stop_at(at, unknown(cx, setting, path, last.name))),
+        None => Err(stop_at(at, unknown(cx, env, path, last.name))),
     }
-}
-
-/// Whether something stands in angle brackets behind a name.
-fn is_given(segment: &Segment) -> bool
-    ensures { result ≡ is_given segment.now }
-{
-    !segment.arguments.is_empty()
 }
 
 /// A primitive type, which takes no arguments.
@@ -235,42 +228,38 @@ fn given_early(segments: &[Segment]) -> Option<&Segment>
 }
 
 /// The first name of a path that is given arguments and takes none: one before the last, or alone a parameter or `Self`.
-fn given_wrongly<'p>(
-    cx: &Context<'_, '_>,
-    setting: Setting<'_>,
-    path: &'p Path,
-) -> Option<&'p Segment>
+fn given_wrongly<'p>(cx: &Context<'_, '_>, env: Env<'_>, path: &'p Path) -> Option<&'p Segment>
     ensures { option_copied result
-        ≡ given_wrongly cx.now (where_of setting.entry) (out-Path path.now).segments.items }
+        ≡ given_wrongly cx.now (where_of env.entry) (out-Path path.now).segments.items }
 {
     let first = path.segments.first()?;
     if path.segments.len() > 1 {
         return given_early(path.segments.as_slice());
     }
-    if is_given(first) && is_type_inside(cx, setting, first.name) {
+    if is_given(first) && is_type_inside(cx, env, first.name) {
         return Some(first);
     }
     None
 }
 
 /// Whether a name is a parameter's, or `Self`.
-fn is_type_inside(cx: &Context<'_, '_>, setting: Setting<'_>, name: Symbol) -> bool
-    ensures { result ≡ is_type_inside cx.now (where_of setting.entry) name }
+fn is_type_inside(cx: &Context<'_, '_>, env: Env<'_>, name: Symbol) -> bool
+    ensures { result ≡ is_type_inside cx.now (where_of env.entry) name }
 {
-    parameter_named(cx, setting.item, name).is_some() || name == Symbol::SELF_TYPE
+    parameter_named(cx, env.item, name).is_some() || name == Symbol::SELF_TYPE
 }
 
 /// The type that the item is, of whose definition `Self` is a part.
 fn self_type(
     cx: &Context<'_, '_>,
-    work: &mut Work<'_>,
-    setting: Setting<'_>,
+    budget: &mut Budget<'_>,
+    env: Env<'_>,
     path: &Path,
 ) -> Result<Ty, Stop>
-    ensures { Means ty_of (self_by cx.now (where_of setting.entry) path.now setting.entry.item) result }
+    ensures { Means ty_of (self_by cx.now (where_of env.entry) path.now env.entry.item) result }
 {
-    match setting.item {
-        Some(item) => Ok(Ty::Adt(item, copies_of(cx.alloc, work, setting.given)?)),
+    match env.item {
+        Some(item) => Ok(Ty::Adt(item, copies_of(cx.alloc, budget, env.given)?)),
         None => Err(stop_at(
             place_of_path(path),
             FaultKind::UnknownType(Symbol::SELF_TYPE),
@@ -279,25 +268,25 @@ fn self_type(
 }
 
 /// Whether a path begins with a parameter's name or `Self`, and goes on.
-fn is_behind_type(cx: &Context<'_, '_>, setting: Setting<'_>, path: &Path) -> bool
+fn is_behind_type(cx: &Context<'_, '_>, env: Env<'_>, path: &Path) -> bool
     ensures { result
-        ≡ is_behind_type cx.now (where_of setting.entry) path.now (first_name (out-Path path.now).segments.items) }
+        ≡ is_behind_type cx.now (where_of env.entry) path.now (first_name (out-Path path.now).segments.items) }
 {
     let Some(first) = path.segments.first() else {
         return false;
     };
-    path.segments.len() > 1 && is_type_inside(cx, setting, first.name)
+    path.segments.len() > 1 && is_type_inside(cx, env, first.name)
 }
 
 /// What is wrong with a path that names no type.
 #[tactic(auto, unfolding(crate::specs::Resolving::unknown))]
-fn unknown(cx: &Context<'_, '_>, setting: Setting<'_>, path: &Path, name: Symbol) -> FaultKind
-    ensures { result ≡ unknown cx.now (where_of setting.entry) path.now name }
+fn unknown(cx: &Context<'_, '_>, env: Env<'_>, path: &Path, name: Symbol) -> FaultKind
+    ensures { result ≡ unknown cx.now (where_of env.entry) path.now name }
 {
-    if is_behind_type(cx, setting, path) {
+    if is_behind_type(cx, env, path) {
         return FaultKind::Unevaluated(Unevaluated::Associated);
     }
-    match find(cx.items, cx.scope, setting.module, path, Space::Values) {
+    match find(cx.items, cx.scope, env.module, path, Space::Values) {
         Some(_) => FaultKind::NotAType(name),
         None => FaultKind::UnknownType(name),
     }
@@ -308,16 +297,16 @@ fn unknown(cx: &Context<'_, '_>, setting: Setting<'_>, path: &Path, name: Symbol
 #[tactic(auto, using(crate::proofs::Rooms::item_less, crate::proofs::Rooms::item_none))]
 fn resolve_item<'a>(
     cx: &Context<'a, '_>,
-    work: &mut Work<'a>,
-    setting: Setting<'_>,
+    budget: &mut Budget<'a>,
+    env: Env<'_>,
     number: u32,
     last: &'a Segment,
-    room: u32,
+    depth_left: u32,
 ) -> Result<Ty, Stop>
-    ensures { Means ty_of ((inner cx.now room).item_of (where_of setting.entry) number last.now) result }
+    ensures { Means ty_of ((inner cx.now depth_left).item_of (where_of env.entry) number last.now) result }
 {
-    let room = less(room)?;
-    resolve_item_with(cx, work, setting, number, last, room)
+    let depth_left = less(depth_left)?;
+    resolve_item_with(cx, budget, env, number, last, depth_left)
 }
 
 /// The type that an item is under what the last name of a path gives it, within less room.
@@ -325,45 +314,45 @@ fn resolve_item<'a>(
 #[tactic(auto, unfolding(crate::specs::Resolving::item_with))]
 fn resolve_item_with<'a>(
     cx: &Context<'a, '_>,
-    work: &mut Work<'a>,
-    setting: Setting<'_>,
+    budget: &mut Budget<'a>,
+    env: Env<'_>,
     number: u32,
     last: &'a Segment,
-    room: u32,
+    depth_left: u32,
 ) -> Result<Ty, Stop>
     ensures { Means ty_of
-        (item_with cx.now (inner cx.now room) (where_of setting.entry) number last.now) result }
+        (item_with cx.now (inner cx.now depth_left) (where_of env.entry) number last.now) result }
 {
     let Some(item) = item_at(cx.items, number) else {
         return Err(stop_at(last.at, FaultKind::UnknownType(last.name)));
     };
-    let given = give(cx, work, setting, number, item, last, room)?;
-    item_under(cx, work, number, item, given, room)
+    let given = give(cx, budget, env, number, item, last, depth_left)?;
+    item_under(cx, budget, number, item, given, depth_left)
 }
 
 /// The type that an item is under what its parameters are given.
 #[cycle(resolving)]
 fn item_under<'a>(
     cx: &Context<'a, '_>,
-    work: &mut Work<'a>,
+    budget: &mut Budget<'a>,
     number: u32,
     item: &'a Item,
-    given: Vec<Given>,
-    room: u32,
+    given: Vec<GenericArg>,
+    depth_left: u32,
 ) -> Result<Ty, Stop>
     ensures { Means ty_of
-        (item_under cx.now (inner cx.now room) number item.now item.now.kind (all_given given.items)) result }
+        (item_under cx.now (inner cx.now depth_left) number item.now item.now.kind (all_given given.items)) result }
 {
     match &item.kind {
         ItemKind::Alias(ty) => {
-            let inside = Setting {
+            let inside = Env {
                 module: item.module,
                 item: Some(number),
                 given: given.as_slice(),
             };
-            resolve(cx, work, inside, ty, room)
+            resolve(cx, budget, inside, ty, depth_left)
         }
-        _ => match owned_of(cx, work, number, given.as_slice())? {
+        _ => match owned_of(cx, budget, number, given.as_slice())? {
             Some(owned) => Ok(owned),
             None => Ok(Ty::Adt(number, given)),
         },
@@ -375,24 +364,24 @@ fn item_under<'a>(
 #[tactic(auto, unfolding(crate::specs::Resolving::give), using(crate::proofs::Lists::give_more, crate::proofs::Lists::give_done))]
 fn give<'a>(
     cx: &Context<'a, '_>,
-    work: &mut Work<'a>,
-    setting: Setting<'_>,
+    budget: &mut Budget<'a>,
+    env: Env<'_>,
     number: u32,
     item: &'a Item,
     last: &'a Segment,
-    room: u32,
-) -> Result<Vec<Given>, Stop>
+    depth_left: u32,
+) -> Result<Vec<GenericArg>, Stop>
     ensures { Means (λ given. all_given given.items)
-        (give cx.now (inner cx.now room) (where_of setting.entry) number item.now last.now) result }
+        (give cx.now (inner cx.now depth_left) (where_of env.entry) number item.now last.now) result }
 {
-    if last.arguments.len() > item.parameters.len() {
+    if last.lifetimes > item.lifetimes || last.arguments.len() > item.parameters.len() {
         return Err(stop_at(last.at, FaultKind::WrongArguments(last.name)));
     }
     let mut given = Vec::new(cx.alloc);
     for (index, parameter) in item.parameters.iter().enumerate() {
         let argument = last.arguments.get(index);
         let one = give_one(
-            cx, work, setting, number, item, last, &given, parameter, argument, room,
+            cx, budget, env, number, item, last, &given, parameter, argument, depth_left,
         )?;
         push_given(&mut given, one)?;
     }
@@ -403,40 +392,40 @@ fn give<'a>(
 #[cycle(resolving)]
 fn give_one<'a>(
     cx: &Context<'a, '_>,
-    work: &mut Work<'a>,
-    setting: Setting<'_>,
+    budget: &mut Budget<'a>,
+    env: Env<'_>,
     number: u32,
     item: &'a Item,
     last: &'a Segment,
-    given: &Vec<Given>,
+    given: &Vec<GenericArg>,
     parameter: &'a Parameter,
     argument: Option<&'a Argument>,
-    room: u32,
-) -> Result<Given, Stop>
+    depth_left: u32,
+) -> Result<GenericArg, Stop>
     ensures { Means given_of
-        (one_given cx.now (inner cx.now room) (where_of setting.entry) number item.now last.now
+        (one_given cx.now (inner cx.now depth_left) (where_of env.entry) number item.now last.now
         (all_given given.now.items) parameter.now.kind (option_copied argument.entry)) result }
 {
     match argument {
         Some(argument) => {
             given_by(
                 cx,
-                work,
-                setting,
+                budget,
+                env,
                 item.module,
                 &parameter.kind,
                 argument,
                 last.at,
-                room,
+                depth_left,
             )
         }
         None => {
-            let inside = Setting {
+            let inside = Env {
                 module: item.module,
                 item: Some(number),
                 given: given.as_slice(),
             };
-            given_by_default(cx, work, inside, &parameter.kind, last, room)
+            given_by_default(cx, budget, inside, &parameter.kind, last, depth_left)
         }
     }
 }
@@ -445,22 +434,22 @@ fn give_one<'a>(
 #[cycle(resolving)]
 fn given_by<'a>(
     cx: &Context<'a, '_>,
-    work: &mut Work<'a>,
-    setting: Setting<'_>,
+    budget: &mut Budget<'a>,
+    env: Env<'_>,
     module: u32,
     kind: &'a ParameterKind,
     argument: &'a Argument,
     at: Place,
-    room: u32,
-) -> Result<Given, Stop>
+    depth_left: u32,
+) -> Result<GenericArg, Stop>
     ensures { Means given_of
-        (argument_given cx.now (inner cx.now room) (where_of setting.entry) «module» at argument.now kind.now) result }
+        (argument_given cx.now (inner cx.now depth_left) (where_of env.entry) «module» at argument.now kind.now) result }
 {
     match kind {
-        ParameterKind::Type(_) => type_given_by(cx, work, setting, argument, at, room),
+        ParameterKind::Type(_) => type_given_by(cx, budget, env, argument, at, depth_left),
         ParameterKind::Const(ty, _) => {
             let wanted = kind_written(cx, outside(module), ty);
-            constant_given_by(cx, work, setting, argument, wanted, at, room)
+            constant_given_by(cx, budget, env, argument, wanted, at, depth_left)
         }
     }
 }
@@ -469,17 +458,17 @@ fn given_by<'a>(
 #[cycle(resolving)]
 fn type_given_by<'a>(
     cx: &Context<'a, '_>,
-    work: &mut Work<'a>,
-    setting: Setting<'_>,
+    budget: &mut Budget<'a>,
+    env: Env<'_>,
     argument: &'a Argument,
     at: Place,
-    room: u32,
-) -> Result<Given, Stop>
+    depth_left: u32,
+) -> Result<GenericArg, Stop>
     ensures { Means given_of
-        (given_type cx.now (inner cx.now room) (where_of setting.entry) at (out-Argument argument.now)) result }
+        (given_type cx.now (inner cx.now depth_left) (where_of env.entry) at (out-Argument argument.now)) result }
 {
     match argument {
-        Argument::Type(ty) => Ok(Given::Type(resolve(cx, work, setting, ty, room)?)),
+        Argument::Type(ty) => Ok(GenericArg::Type(resolve(cx, budget, env, ty, depth_left)?)),
         Argument::Const(_) => Err(stop_at(at, FaultKind::WrongKindOfArgument)),
         Argument::Binding(at) => Err(stop_at(*at, FaultKind::Binding)),
     }
@@ -488,33 +477,33 @@ fn type_given_by<'a>(
 /// What an argument gives a constant's parameter.
 fn constant_given_by<'a>(
     cx: &Context<'a, '_>,
-    work: &mut Work<'a>,
-    setting: Setting<'_>,
+    budget: &mut Budget<'a>,
+    env: Env<'_>,
     argument: &'a Argument,
     wanted: Option<Kind>,
     at: Place,
-    room: u32,
-) -> Result<Given, Stop>
+    depth_left: u32,
+) -> Result<GenericArg, Stop>
     ensures { Means given_of
-        (given_constant cx.now (inner cx.now room) (where_of setting.entry) at wanted (out-Argument argument.now)) result }
+        (given_constant cx.now (inner cx.now depth_left) (where_of env.entry) at wanted (out-Argument argument.now)) result }
 {
     match argument {
-        Argument::Type(ty) => type_as_constant(cx, work, setting, ty, wanted, at, room),
+        Argument::Type(ty) => type_as_constant(cx, budget, env, ty, wanted, at, depth_left),
         Argument::Const(expr) => {
-            let value = evaluate(cx, work, setting, expr, wanted, most_deep())?;
-            Ok(Given::Value(value))
+            let value = evaluate(cx, budget, env, expr, wanted, most_deep())?;
+            Ok(GenericArg::Value(value))
         }
         Argument::Binding(at) => Err(stop_at(*at, FaultKind::Binding)),
     }
 }
 
 /// Whether a path that is read as a type may be a constant's name: it is one name, which no type and no module has.
-fn may_be_constant(cx: &Context<'_, '_>, setting: Setting<'_>, path: &Path) -> bool
-    ensures { result ≡ may_be_constant cx.now (where_of setting.entry) path.now }
+fn may_be_constant(cx: &Context<'_, '_>, env: Env<'_>, path: &Path) -> bool
+    ensures { result ≡ may_be_constant cx.now (where_of env.entry) path.now }
 {
     single_name(path).is_some()
-        && type_given(cx, setting, path).is_none()
-        && !is_other(find(cx.items, cx.scope, setting.module, path, Space::Types))
+        && type_given(cx, env, path).is_none()
+        && !is_other(find(cx.items, cx.scope, env.module, path, Space::Types))
 }
 
 /// Whether what is found among types and modules is one of them for certain.
@@ -532,26 +521,26 @@ fn is_other(found: Option<Found>) -> bool
 /// The constant that a name is that is read as a type.
 fn type_as_constant<'a>(
     cx: &Context<'a, '_>,
-    work: &mut Work<'a>,
-    setting: Setting<'_>,
+    budget: &mut Budget<'a>,
+    env: Env<'_>,
     ty: &'a Type,
     wanted: Option<Kind>,
     at: Place,
-    room: u32,
-) -> Result<Given, Stop>
+    depth_left: u32,
+) -> Result<GenericArg, Stop>
     ensures { Means given_of
-        (type_as_constant cx.now (inner cx.now room) (where_of setting.entry) at wanted ty.now) result }
+        (type_as_constant cx.now (inner cx.now depth_left) (where_of env.entry) at wanted ty.now) result }
 {
     match ty {
         Type::Path(path) => {
-            if !may_be_constant(cx, setting, path) {
+            if !may_be_constant(cx, env, path) {
                 return Err(stop_at(at, FaultKind::WrongKindOfArgument));
             }
-            let value = evaluate_path(cx, work, setting, path, most_deep())?;
+            let value = evaluate_path(cx, budget, env, path, most_deep())?;
             if !is_wanted(wanted, value) {
                 return Err(stop_at(at, FaultKind::WrongType));
             }
-            Ok(Given::Value(value))
+            Ok(GenericArg::Value(value))
         }
         _ => Err(stop_at(at, FaultKind::WrongKindOfArgument)),
     }
@@ -571,21 +560,23 @@ fn is_wanted(wanted: Option<Kind>, value: Value) -> bool
 #[cycle(resolving)]
 fn given_by_default<'a>(
     cx: &Context<'a, '_>,
-    work: &mut Work<'a>,
-    inside: Setting<'_>,
+    budget: &mut Budget<'a>,
+    inside: Env<'_>,
     kind: &'a ParameterKind,
     last: &Segment,
-    room: u32,
-) -> Result<Given, Stop>
+    depth_left: u32,
+) -> Result<GenericArg, Stop>
     ensures { Means given_of
-        (default_given cx.now (inner cx.now room) (where_of inside.entry) last.now kind.now) result }
+        (default_given cx.now (inner cx.now depth_left) (where_of inside.entry) last.now kind.now) result }
 {
     match kind {
-        ParameterKind::Type(Some(ty)) => Ok(Given::Type(resolve(cx, work, inside, ty, room)?)),
+        ParameterKind::Type(Some(ty)) => Ok(GenericArg::Type(resolve(
+            cx, budget, inside, ty, depth_left,
+        )?)),
         ParameterKind::Const(ty, Some(expr)) => {
             let wanted = kind_written(cx, outside(inside.module), ty);
-            let value = evaluate(cx, work, inside, expr, wanted, most_deep())?;
-            Ok(Given::Value(value))
+            let value = evaluate(cx, budget, inside, expr, wanted, most_deep())?;
+            Ok(GenericArg::Value(value))
         }
         _ => Err(stop_at(last.at, FaultKind::WrongArguments(last.name))),
     }

@@ -131,7 +131,8 @@ impl Scope {
     {
         let mut direct = self.follow_rounds(alloc, items)?;
         self.add_lost(items, &mut direct)?;
-        self.keep_ways(alloc, items, &direct)
+        self.keep_ways(alloc, items, &direct)?;
+        Ok(())
     }
 
     /// Keeps where these globs lead, and what uses bring in then.

@@ -10,58 +10,58 @@ ghost use Rattle.abi_rust.specs.Types.{where_of};
 ghost use Rattle.abi_rust.specs.Values.{value_as_read};
 ghost use Rattle.abi_rust.specs.Words.{symbol_of};
 
+use crate::budget::{Budget, Context, Env, Request, copies_of, size_at};
 use crate::fault::{FaultKind, Stop, stop_at};
 use crate::int::Int;
 use crate::paths::{Found, Space, find, item_at};
 use crate::ty::Value;
 use crate::words::Word;
-use crate::work::{Context, Request, Setting, Work, copies_of, size_at};
 use rust_source::{Argument, IntegerKind, Item, Path, Place, Type, Unevaluated};
 
 /// The value of `size_of::<T>()` or `align_of::<T>()`.
 #[tactic(auto, unfolding(crate::specs::Evaluating::call))]
 pub(crate) fn call<'a>(
     cx: &Context<'a, '_>,
-    work: &mut Work<'a>,
-    setting: Setting<'_>,
+    budget: &mut Budget<'a>,
+    env: Env<'_>,
     path: &'a Path,
     at: Place,
 ) -> Result<Value, Stop>
-    ensures { Means value_as_read (call cx.now (where_of setting.entry) path.now at) result }
+    ensures { Means value_as_read (call cx.now (where_of env.entry) path.now at) result }
 {
     let unevaluated = FaultKind::Unevaluated(Unevaluated::Expression);
-    let Some(asks_size) = size_call(cx, setting.module, path) else {
+    let Some(asks_size) = size_call(cx, env.module, path) else {
         return Err(stop_at(at, unevaluated));
     };
     let Some(ty) = only_type(path) else {
         return Err(stop_at(at, unevaluated));
     };
-    match size_at(cx.known, at, setting, ty) {
+    match size_at(cx.known, at, env, ty) {
         Some(Ok((size, align))) => {
             let number = if asks_size { size } else { align };
             Ok(Value::Integer(IntegerKind::Usize, Int::positive(u128::from(number))))
         }
         Some(Err(stop)) => Err(stop),
-        None => await_size(cx, work, setting, ty, at),
+        None => await_size(cx, budget, env, ty, at),
     }
 }
 
 /// Asks for the size of a type.
 fn await_size<'a>(
     cx: &Context<'a, '_>,
-    work: &mut Work<'a>,
-    setting: Setting<'_>,
+    budget: &mut Budget<'a>,
+    env: Env<'_>,
     ty: &'a Type,
     at: Place,
 ) -> Result<Value, Stop>
     ensures { Means value_as_read (Err Stop.Size) result }
 {
-    let given = copies_of(cx.alloc, work, setting.given)?;
-    work.wanted = Some(Request {
+    let given = copies_of(cx.alloc, budget, env.given)?;
+    budget.wanted = Some(Request {
         at,
         ty,
-        module: setting.module,
-        item: setting.item,
+        module: env.module,
+        item: env.item,
         given,
     });
     Err(Stop::Size)

@@ -4,14 +4,14 @@ ghost use Rattle.std.specs.Prelude.{◌≡◌, ◌-◌, ◌<◌, ◌^◌, ◌++�
 ghost use Rattle.rust_source.specs.Growth.{BeginsWith};
 ghost use Rattle.abi_rust.specs.Measure.{IsMeasure, Measure};
 ghost use Rattle.abi_rust.specs.Reading.{AllRead, IsSourceOf, IsUnread, ReadsText, Stops, StopsReading, file_kind, having, is_library, library_text, place_behind, root_name};
-ghost use Rattle.abi_rust.specs.Sources.{IsWorkOver, Tells, TellsWritten, fault_told, is_told_of, items_read, modules_told, name_told, place_of_attribute, place_of_item, place_told, pointer_bits};
+ghost use Rattle.abi_rust.specs.Sources.{IsContextOver, Reports, ReportsWritten, reported_fault, is_reported, items_read, module_path, qualified_name, place_of_attribute, place_of_item, reported_place, pointer_bits};
 
+use crate::budget::Context;
 use crate::fault::{Fault, FaultKind, FaultPlace, Stop, stop_at};
+use crate::report::{Subject, TypeReport, report_on};
 use crate::scope::Scope;
 use crate::std_source::STD_SOURCES;
-use crate::told::{Subject, Told, tell};
 use crate::words::Words;
-use crate::work::Context;
 use abi_base::TargetDataLayout;
 use rust_source::{
     CfgTarget, ItemKind, Items, Names, ParameterKind, Place, Source, Symbol, read_items, read_type,
@@ -78,7 +78,7 @@ impl Sources {
         text: &str,
     ) -> Result<(), Fault>
         ensures ok { IfOk result (λ _. AllRead target.now is_root text.now self.old self.new) }
-        ensures err { IfErr result (λ fault. (stop : Stop) × (fault ≡ fault_told self.new stop) ×
+        ensures err { IfErr result (λ fault. (stop : Stop) × (fault ≡ reported_fault self.new stop) ×
             StopsReading target.now is_root text.now self.old self.new stop) }
     {
         match self.read_both(alloc, target, is_root, text) {
@@ -132,9 +132,9 @@ impl Sources {
         }
     }
 
-    /// A fault as it is told.
+    /// A fault as it is reported.
     fn fault(&self, stop: Stop) -> Fault
-        ensures { result ≡ fault_told self.now stop }
+        ensures { result ≡ reported_fault self.now stop }
     {
         match stop {
             Stop::Fault(at, kind) => Fault {
@@ -150,7 +150,7 @@ impl Sources {
 
     /// Where a place of the sources is.
     fn place(&self, at: Option<Place>) -> FaultPlace
-        ensures { result ≡ place_told self.now at }
+        ensures { result ≡ reported_place self.now at }
     {
         let Some(Place(at)) = at else {
             return FaultPlace::Nowhere;
@@ -171,10 +171,10 @@ impl Sources {
         self.items.items.len()
     }
 
-    /// Whether the item is told of by itself: a struct, an enum, a union or an alias of the file that has no type and
+    /// Whether the item is reported on by itself: a struct, an enum, a union or an alias of the file that has no type and
     /// no constant as a parameter.
-    pub fn is_told(&self, item: usize) -> bool
-        ensures { result ≡ is_told_of self.now item }
+    pub fn is_reported(&self, item: usize) -> bool
+        ensures { result ≡ is_reported self.now item }
     {
         if item < self.first {
             return false;
@@ -215,7 +215,7 @@ impl Sources {
     /// Writes the item's name with the modules of the file that it is in, as `module::Name`.
     pub fn write_name(&self, out: &mut String, item: usize) -> Result<(), AllocError>
         ensures { OnOk result (string_bytes out.new ≡ string_bytes out.old ++
-            name_told self.now (slice_get (items_read self.now) item)) }
+            qualified_name self.now (slice_get (items_read self.now) item)) }
     {
         let Some(found) = self.items.items.get(item) else {
             return Ok(());
@@ -225,11 +225,16 @@ impl Sources {
     }
 
     /// Writes the names of the modules that a module is in, outermost first, and its own, each with `::` behind.
-    fn write_modules(&self, out: &mut String, module: u32, room: u32) -> Result<(), AllocError>
+    fn write_modules(
+        &self,
+        out: &mut String,
+        module: u32,
+        depth_left: u32,
+    ) -> Result<(), AllocError>
         ensures { OnOk result (string_bytes out.new ≡ string_bytes out.old ++
-            modules_told self.now.names self.now.items room «module») }
+            module_path self.now.names self.now.items depth_left «module») }
     {
-        let Some(room) = room.checked_sub(1) else {
+        let Some(depth_left) = depth_left.checked_sub(1) else {
             return Ok(());
         };
         let Some(found) = self.items.modules.get(module as usize) else {
@@ -238,7 +243,7 @@ impl Sources {
         let Some(parent) = found.parent else {
             return Ok(());
         };
-        self.write_modules(out, parent, room)?;
+        self.write_modules(out, parent, depth_left)?;
         out.push_str(self.names.text(found.name))?;
         out.push_str("::")
     }
@@ -276,14 +281,14 @@ impl Sources {
         alloc: Global,
         dl: &TargetDataLayout,
         item: usize,
-    ) -> Result<Option<Told>, Fault>
+    ) -> Result<Option<TypeReport>, Fault>
         ensures { (m : Measure) → IsMeasure dl.now m → item < 2 ^ 32 →
-            Tells self.now dl.now m (Subject.Item item) result }
+            Reports self.now dl.now m (Subject.Item item) result }
     {
         let Ok(number) = u32::try_from(item) else {
             return Ok(None);
         };
-        self.told(alloc, dl, Subject::Item(number))
+        self.report(alloc, dl, Subject::Item(number))
     }
 
     /// The type that a text writes, with the names of the file's root. None where its size isn't known, and before a
@@ -293,8 +298,8 @@ impl Sources {
         alloc: Global,
         dl: &TargetDataLayout,
         text: &str,
-    ) -> Result<Option<Told>, Fault>
-        ensures { (m : Measure) → IsMeasure dl.now m → TellsWritten self.old self.new dl.now m text.now result }
+    ) -> Result<Option<TypeReport>, Fault>
+        ensures { (m : Measure) → IsMeasure dl.now m → ReportsWritten self.old self.new dl.now m text.now result }
     {
         let ty = match read_type(alloc, &mut self.names, text, self.argument) {
             Ok(ty) => ty,
@@ -303,36 +308,36 @@ impl Sources {
                 FaultKind::Source(fault.kind),
             ))),
         };
-        self.told(alloc, dl, Subject::Written(self.root, &ty))
+        self.report(alloc, dl, Subject::Written(self.root, &ty))
     }
 
     /// Tells of a subject.
-    fn told<'a>(
+    fn report<'a>(
         &'a self,
         alloc: Global,
         dl: &'a TargetDataLayout,
         subject: Subject<'a>,
-    ) -> Result<Option<Told>, Fault>
-        ensures { (m : Measure) → IsMeasure dl.now m → Tells self.now dl.now m subject.entry result }
+    ) -> Result<Option<TypeReport>, Fault>
+        ensures { (m : Measure) → IsMeasure dl.now m → Reports self.now dl.now m subject.entry result }
     {
         let Some(scope) = &self.scope else {
             return Ok(None);
         };
-        let cx = self.work_over(alloc, dl, scope);
-        match tell(&cx, subject, self.file) {
+        let cx = self.context_over(alloc, dl, scope);
+        match report_on(&cx, subject, self.file) {
             Ok(found) => Ok(found),
             Err(stop) => Err(self.fault(stop)),
         }
     }
 
     /// Work over these sources, with no size known.
-    fn work_over<'a>(
+    fn context_over<'a>(
         &'a self,
         alloc: Global,
         dl: &'a TargetDataLayout,
         scope: &'a Scope,
     ) -> Context<'a, 'a>
-        ensures { self.now.scope ≡ Some scope.now → IsWorkOver self.now dl.now result }
+        ensures { self.now.scope ≡ Some scope.now → IsContextOver self.now dl.now result }
     {
         Context {
             alloc,

@@ -109,7 +109,7 @@ fn add_item(
     Ok(())
 }
 
-/// Adds the names of types and of modules' constants. The first item is told whose name one before it has, or a module.
+/// Adds the names of types and of modules' constants. The fault is that of the first item whose name one before it has, or a module.
 pub(crate) fn add_items(
     types: &mut IndexMap<Key, u32>,
     constants: &mut IndexMap<Key, u32>,

@@ -7,12 +7,12 @@ ghost use Rattle.abi_rust.specs.Tails.{always_sized, assumed, field_tail, has_kn
 ghost use Rattle.abi_rust.specs.Types.{all_given, given_of, givens, ty_of, types};
 
 use crate::above::{Above, stands_in, within};
+use crate::budget::{Budget, Context, Env, less, most_deep, push_given};
 use crate::fault::{FaultKind, Stop, stop_at};
 use crate::int::Int;
 use crate::paths::item_at;
 use crate::resolve::resolve;
-use crate::ty::{Given, Primitive, Ty, Value};
-use crate::work::{Context, Setting, Work, less, most_deep, push_given};
+use crate::ty::{GenericArg, Primitive, Ty, Value};
 use rust_source::{Field, IntegerKind, Item, ItemKind, Parameter, ParameterKind};
 use std::alloc::Global;
 
@@ -43,12 +43,12 @@ impl Tail {
 #[tactic(auto, unfolding(crate::specs::Tails::pointee_tail))]
 pub(crate) fn pointee_tail<'a>(
     cx: &Context<'a, '_>,
-    work: &mut Work<'a>,
+    budget: &mut Budget<'a>,
     ty: &Ty,
 ) -> Result<Tail, Stop>
     ensures { Means (λ tail. tail) (pointee_tail cx.now (ty_of ty.now)) result }
 {
-    tail_of(cx, work, &Above::Nothing, ty, most_deep())
+    tail_of(cx, budget, &Above::Nothing, ty, most_deep())
 }
 
 /// What a pointer to the type tells, by the type's last field. `Recursive` where that stands in itself.
@@ -56,17 +56,17 @@ pub(crate) fn pointee_tail<'a>(
 #[tactic(auto, using(crate::proofs::Rooms::tail_less, crate::proofs::Rooms::tail_none))]
 fn tail_of<'a>(
     cx: &Context<'a, '_>,
-    work: &mut Work<'a>,
+    budget: &mut Budget<'a>,
     above: &Above<'_>,
     ty: &Ty,
-    room: u32,
+    depth_left: u32,
 ) -> Result<Tail, Stop>
     ensures { Means (λ tail. tail)
-        ((tail_inner cx.now room).tail_of (outer_of above.now) (ty_of ty.now)) result }
+        ((tail_inner cx.now depth_left).tail_of (outer_of above.now) (ty_of ty.now)) result }
 {
-    work.spend()?;
-    let room = less(room)?;
-    tail_with(cx, work, above, ty, room)
+    budget.spend()?;
+    let depth_left = less(depth_left)?;
+    tail_with(cx, budget, above, ty, depth_left)
 }
 
 /// What a pointer to the type tells, within less room.
@@ -74,23 +74,30 @@ fn tail_of<'a>(
 #[tactic(auto, unfolding(crate::specs::Tails::tail_with))]
 fn tail_with<'a>(
     cx: &Context<'a, '_>,
-    work: &mut Work<'a>,
+    budget: &mut Budget<'a>,
     above: &Above<'_>,
     ty: &Ty,
-    room: u32,
+    depth_left: u32,
 ) -> Result<Tail, Stop>
     ensures { Means (λ tail. tail)
-        (tail_with cx.now (tail_inner cx.now room) (outer_of above.now) (ty_of ty.now)) result }
+        (tail_with cx.now (tail_inner cx.now depth_left) (outer_of above.now) (ty_of ty.now)) result }
 {
     match ty {
         Ty::Slice(_) => Ok(Tail::Length),
         Ty::Primitive(Primitive::Str) => Ok(Tail::Length),
         Ty::Dyn => Ok(Tail::Table),
         Ty::Tuple(parts) => match last_part(parts) {
-            Some(last) => tail_of(cx, work, above, last, room),
+            Some(last) => tail_of(cx, budget, above, last, depth_left),
             None => Ok(Tail::Sized),
         },
-        Ty::Adt(number, given) => tail_of_item(cx, work, above, *number, given.as_slice(), room),
+        Ty::Adt(number, given) => tail_of_item(
+            cx,
+            budget,
+            above,
+            *number,
+            given.as_slice(),
+            depth_left,
+        ),
         _ => Ok(Tail::Sized),
     }
 }
@@ -108,17 +115,17 @@ fn last_part(parts: &[Ty]) -> Option<&Ty>
 #[tactic(auto, using(crate::proofs::Rooms::tail_item_less, crate::proofs::Rooms::tail_item_none))]
 fn tail_of_item<'a>(
     cx: &Context<'a, '_>,
-    work: &mut Work<'a>,
+    budget: &mut Budget<'a>,
     above: &Above<'_>,
     number: u32,
-    given: &[Given],
-    room: u32,
+    given: &[GenericArg],
+    depth_left: u32,
 ) -> Result<Tail, Stop>
     ensures { Means (λ tail. tail)
-        ((tail_inner cx.now room).tail_of_item (outer_of above.now) number (givens (all_given given.now))) result }
+        ((tail_inner cx.now depth_left).tail_of_item (outer_of above.now) number (givens (all_given given.now))) result }
 {
-    let room = less(room)?;
-    tail_of_item_with(cx, work, above, number, given, room)
+    let depth_left = less(depth_left)?;
+    tail_of_item_with(cx, budget, above, number, given, depth_left)
 }
 
 /// What a pointer to the type tells that an item is, within less room.
@@ -126,21 +133,21 @@ fn tail_of_item<'a>(
 #[tactic(auto, unfolding(crate::specs::Tails::tail_of_item_with))]
 fn tail_of_item_with<'a>(
     cx: &Context<'a, '_>,
-    work: &mut Work<'a>,
+    budget: &mut Budget<'a>,
     above: &Above<'_>,
     number: u32,
-    given: &[Given],
-    room: u32,
+    given: &[GenericArg],
+    depth_left: u32,
 ) -> Result<Tail, Stop>
     ensures { Means (λ tail. tail)
-        (tail_of_item_with cx.now (tail_inner cx.now room) (outer_of above.now) number
+        (tail_of_item_with cx.now (tail_inner cx.now depth_left) (outer_of above.now) number
         (givens (all_given given.now))) result }
 {
     let Some(item) = item_at(cx.items, number) else {
         return Ok(Tail::Sized);
     };
     match last_field(item) {
-        Some(last) => tail_of_field(cx, work, above, number, given, item, last, room),
+        Some(last) => tail_of_field(cx, budget, above, number, given, item, last, depth_left),
         None => Ok(Tail::Sized),
     }
 }
@@ -150,28 +157,28 @@ fn tail_of_item_with<'a>(
 #[tactic(auto, using(crate::proofs::Lasts::list_given_is))]
 fn tail_of_field<'a>(
     cx: &Context<'a, '_>,
-    work: &mut Work<'a>,
+    budget: &mut Budget<'a>,
     above: &Above<'_>,
     number: u32,
-    given: &[Given],
+    given: &[GenericArg],
     item: &Item,
     last: &'a Field,
-    room: u32,
+    depth_left: u32,
 ) -> Result<Tail, Stop>
-    ensures { Means (λ tail. tail) (field_tail cx.now (tail_inner cx.now room) (outer_of above.now) number
+    ensures { Means (λ tail. tail) (field_tail cx.now (tail_inner cx.now depth_left) (outer_of above.now) number
         (givens (all_given given.now)) item.now (Some last.now)) result }
 {
     if stands_in(above, number, given) {
         return Err(stop_at(item.at, FaultKind::Recursive(item.name)));
     }
     let own = within(number, &*given, &*above);
-    let inside = Setting {
+    let inside = Env {
         module: item.module,
         item: Some(number),
         given,
     };
-    let ty = resolve(cx, work, inside, &last.ty, most_deep())?;
-    tail_of(cx, work, &own, &ty, room)
+    let ty = resolve(cx, budget, inside, &last.ty, most_deep())?;
+    tail_of(cx, budget, &own, &ty, depth_left)
 }
 
 /// The last field of a struct or a union.
@@ -206,18 +213,18 @@ fn may_any(parameters: &[Parameter]) -> bool
 }
 
 /// What a parameter is assumed to be given: what has no size where it may have none.
-fn assumed(parameter: &Parameter) -> Given
+fn assumed(parameter: &Parameter) -> GenericArg
     ensures { given_of result ≡ assumed parameter.now }
 {
     match parameter.kind {
         ParameterKind::Type(_) => {
             if parameter.may_be_unsized {
-                Given::Type(Ty::Dyn)
+                GenericArg::Type(Ty::Dyn)
             } else {
-                Given::Type(Ty::Never)
+                GenericArg::Type(Ty::Never)
             }
         }
-        ParameterKind::Const(_, _) => Given::Value(Value::Integer(
+        ParameterKind::Const(_, _) => GenericArg::Value(Value::Integer(
             IntegerKind::Usize,
             Int::positive(0),
         )),
@@ -226,7 +233,7 @@ fn assumed(parameter: &Parameter) -> Given
 
 /// What parameters are assumed to be given.
 #[tactic(auto, using(crate::proofs::Lasts::assumed_more, crate::proofs::Lasts::assumed_all))]
-fn all_assumed(alloc: Global, parameters: &[Parameter]) -> Result<Vec<Given>, Stop>
+fn all_assumed(alloc: Global, parameters: &[Parameter]) -> Result<Vec<GenericArg>, Stop>
     ensures ok { IfOk result (λ given. all_given given.items ≡ map assumed parameters.now) }
     ensures err { IfErr result (λ e. is_beside e ≡ true) }
 {
@@ -241,7 +248,7 @@ fn all_assumed(alloc: Global, parameters: &[Parameter]) -> Result<Vec<Given>, St
 #[tactic(auto, unfolding(crate::specs::Tails::always_sized))]
 pub(crate) fn is_always_sized<'a>(
     cx: &Context<'a, '_>,
-    work: &mut Work<'a>,
+    budget: &mut Budget<'a>,
     number: u32,
     item: &Item,
 ) -> Result<bool, Stop>
@@ -252,6 +259,6 @@ pub(crate) fn is_always_sized<'a>(
     }
     let given = all_assumed(cx.alloc, item.parameters.as_slice())?;
     let above = Above::Nothing;
-    let tail = tail_of_item(cx, work, &above, number, given.as_slice(), most_deep())?;
+    let tail = tail_of_item(cx, budget, &above, number, given.as_slice(), most_deep())?;
     Ok(tail.is_sized())
 }

@@ -13,6 +13,7 @@ ghost use Rattle.abi_rust.specs.Types.{all_given, givens, list_of_types, ty_of, 
 ghost use Rattle.abi_rust.specs.Values.{value_as_read};
 
 use crate::above::{Above, stands_in, within};
+use crate::budget::{Budget, Context, Env, less, most_deep};
 use crate::discriminants::discriminant_kind;
 use crate::evaluate::evaluate;
 use crate::fault::{FaultKind, Stop, stop_at};
@@ -27,8 +28,7 @@ use crate::repr_fields::{check_discriminants, check_packed, check_transparent};
 use crate::resolve::resolve;
 use crate::scalars::{function, limited, named, pointer};
 use crate::tail::{is_always_sized, pointee_tail};
-use crate::ty::{Given, Kind, Ty, Value};
-use crate::work::{Context, Setting, Work, less, most_deep};
+use crate::ty::{GenericArg, Kind, Ty, Value};
 use abi_laid::TypeTree;
 use rust_source::{Enum, Expr, Field, Fields, Item, ItemKind, Place, Variant};
 
@@ -37,17 +37,17 @@ use rust_source::{Enum, Expr, Field, Fields, Item, ItemKind, Place, Variant};
 #[tactic(auto, using(crate::proofs::Trees::type_less, crate::proofs::Trees::type_none))]
 pub(crate) fn tree<'a>(
     cx: &Context<'a, '_>,
-    work: &mut Work<'a>,
+    budget: &mut Budget<'a>,
     above: &Above<'_>,
     ty: &Ty,
-    room: u32,
+    depth_left: u32,
 ) -> Result<TypeTree, Stop>
     ensures { (m : Measure) → IsMeasure cx.now.dl.now m → Means tree_of
-        ((tree_inner cx.now m room).of_type (outer_of above.now) (ty_of ty.now)) result }
+        ((tree_inner cx.now m depth_left).of_type (outer_of above.now) (ty_of ty.now)) result }
 {
-    work.spend()?;
-    let room = less(room)?;
-    tree_with(cx, work, above, ty, room)
+    budget.spend()?;
+    let depth_left = less(depth_left)?;
+    tree_with(cx, budget, above, ty, depth_left)
 }
 
 /// The tree of a type, within less room.
@@ -55,13 +55,13 @@ pub(crate) fn tree<'a>(
 #[tactic(auto, unfolding(crate::specs::Trees::type_tree))]
 fn tree_with<'a>(
     cx: &Context<'a, '_>,
-    work: &mut Work<'a>,
+    budget: &mut Budget<'a>,
     above: &Above<'_>,
     ty: &Ty,
-    room: u32,
+    depth_left: u32,
 ) -> Result<TypeTree, Stop>
     ensures { (m : Measure) → IsMeasure cx.now.dl.now m → Means tree_of
-        (type_tree cx.now m (tree_inner cx.now m room) (outer_of above.now) (ty_of ty.now)) result }
+        (type_tree cx.now m (tree_inner cx.now m depth_left) (outer_of above.now) (ty_of ty.now)) result }
 {
     match ty {
         Ty::Never => Ok(TypeTree::Never),
@@ -72,14 +72,21 @@ fn tree_with<'a>(
         },
         Ty::Dyn => Err(Stop::Fault(None, FaultKind::Unsized)),
         Ty::Slice(_) => Err(Stop::Fault(None, FaultKind::Unsized)),
-        Ty::Reference(pointee) => Ok(pointer(cx.dl, pointee_tail(cx, work, pointee)?, false)),
-        Ty::Pointer(pointee) => Ok(pointer(cx.dl, pointee_tail(cx, work, pointee)?, true)),
+        Ty::Reference(pointee) => Ok(pointer(cx.dl, pointee_tail(cx, budget, pointee)?, false)),
+        Ty::Pointer(pointee) => Ok(pointer(cx.dl, pointee_tail(cx, budget, pointee)?, true)),
         Ty::Array(element, count) => {
-            let element = tree(cx, work, above, element, room)?;
+            let element = tree(cx, budget, above, element, depth_left)?;
             Ok(TypeTree::Array(*count, Box::new(cx.alloc, element)?))
         }
-        Ty::Tuple(parts) => tree_of_tuple(cx, work, above, parts, room),
-        Ty::Adt(number, given) => tree_of_item(cx, work, above, *number, given.as_slice(), room),
+        Ty::Tuple(parts) => tree_of_tuple(cx, budget, above, parts, depth_left),
+        Ty::Adt(number, given) => tree_of_item(
+            cx,
+            budget,
+            above,
+            *number,
+            given.as_slice(),
+            depth_left,
+        ),
     }
 }
 
@@ -87,15 +94,15 @@ fn tree_with<'a>(
 #[cycle(trees)]
 fn tree_of_tuple<'a>(
     cx: &Context<'a, '_>,
-    work: &mut Work<'a>,
+    budget: &mut Budget<'a>,
     above: &Above<'_>,
     parts: &[Ty],
-    room: u32,
+    depth_left: u32,
 ) -> Result<TypeTree, Stop>
     ensures { (m : Measure) → IsMeasure cx.now.dl.now m → Means tree_of (tuple_tree cx.now m
-        (tree_inner cx.now m room) (outer_of above.now) (list_of_types (types (map ty_of parts.now)))) result }
+        (tree_inner cx.now m depth_left) (outer_of above.now) (list_of_types (types (map ty_of parts.now)))) result }
 {
-    let fields = trees_of_types(cx, work, above, parts, room)?;
+    let fields = trees_of_types(cx, budget, above, parts, depth_left)?;
     Ok(tuple_of(fields))
 }
 
@@ -127,18 +134,18 @@ fn push_tree(all: &mut Vec<TypeTree>, one: TypeTree) -> Result<(), Stop>
 #[tactic(auto, using(crate::proofs::Trees::types_more, crate::proofs::Trees::types_done, crate::proofs::Trees::behind_none))]
 fn trees_of_types<'a>(
     cx: &Context<'a, '_>,
-    work: &mut Work<'a>,
+    budget: &mut Budget<'a>,
     above: &Above<'_>,
     parts: &[Ty],
-    room: u32,
+    depth_left: u32,
 ) -> Result<Vec<TypeTree>, Stop>
     ensures { (m : Measure) → IsMeasure cx.now.dl.now m → Means (λ all. map tree_of all.items)
-        (each_meant ((tree_inner cx.now m room).of_type (outer_of above.now))
+        (each_meant ((tree_inner cx.now m depth_left).of_type (outer_of above.now))
         (list_of_types (types (map ty_of parts.now)))) result }
 {
     let mut trees = Vec::new(cx.alloc);
     for part in parts {
-        let one = tree(cx, work, above, part, room)?;
+        let one = tree(cx, budget, above, part, depth_left)?;
         push_tree(&mut trees, one)?;
     }
     Ok(trees)
@@ -149,17 +156,17 @@ fn trees_of_types<'a>(
 #[tactic(auto, using(crate::proofs::Trees::item_less, crate::proofs::Trees::item_none))]
 fn tree_of_item<'a>(
     cx: &Context<'a, '_>,
-    work: &mut Work<'a>,
+    budget: &mut Budget<'a>,
     above: &Above<'_>,
     number: u32,
-    given: &[Given],
-    room: u32,
+    given: &[GenericArg],
+    depth_left: u32,
 ) -> Result<TypeTree, Stop>
     ensures { (m : Measure) → IsMeasure cx.now.dl.now m → Means tree_of
-        ((tree_inner cx.now m room).of_item (outer_of above.now) number (givens (all_given given.now))) result }
+        ((tree_inner cx.now m depth_left).of_item (outer_of above.now) number (givens (all_given given.now))) result }
 {
-    let room = less(room)?;
-    tree_of_item_with(cx, work, above, number, given, room)
+    let depth_left = less(depth_left)?;
+    tree_of_item_with(cx, budget, above, number, given, depth_left)
 }
 
 /// The tree of an item under what its parameters are given, within less room.
@@ -167,67 +174,69 @@ fn tree_of_item<'a>(
 #[tactic(auto, unfolding(crate::specs::Trees::item_tree))]
 fn tree_of_item_with<'a>(
     cx: &Context<'a, '_>,
-    work: &mut Work<'a>,
+    budget: &mut Budget<'a>,
     above: &Above<'_>,
     number: u32,
-    given: &[Given],
-    room: u32,
+    given: &[GenericArg],
+    depth_left: u32,
 ) -> Result<TypeTree, Stop>
     ensures { (m : Measure) → IsMeasure cx.now.dl.now m → Means tree_of (item_tree cx.now m
-        (tree_inner cx.now m room) (outer_of above.now) number (givens (all_given given.now))) result }
+        (tree_inner cx.now m depth_left) (outer_of above.now) number (givens (all_given given.now))) result }
 {
     let Some(item) = item_at(cx.items, number) else {
         return Err(Stop::Fault(None, FaultKind::Unsized));
     };
-    tree_of_found(cx, work, above, number, given, item, room)
+    tree_of_found(cx, budget, above, number, given, item, depth_left)
 }
 
 /// The tree of an item that is found. `Recursive` where it stands in itself.
 #[cycle(trees)]
 fn tree_of_found<'a>(
     cx: &Context<'a, '_>,
-    work: &mut Work<'a>,
+    budget: &mut Budget<'a>,
     above: &Above<'_>,
     number: u32,
-    given: &[Given],
+    given: &[GenericArg],
     item: &'a Item,
-    room: u32,
+    depth_left: u32,
 ) -> Result<TypeTree, Stop>
     ensures { (m : Measure) → IsMeasure cx.now.dl.now m → Means tree_of (tree_by_item cx.now m
-        (tree_inner cx.now m room) (outer_of above.now) number (givens (all_given given.now)) (Some item.now)) result }
+        (tree_inner cx.now m depth_left) (outer_of above.now) number (givens (all_given given.now)) (Some item.now)) result }
 {
     if stands_in(above, number, given) {
         return Err(stop_at(item.at, FaultKind::Recursive(item.name)));
     }
     let own = within(number, &*given, &*above);
-    let inside = Setting {
+    let inside = Env {
         module: item.module,
         item: Some(number),
         given,
     };
-    tree_of_kind(cx, work, &own, inside, number, item, room)
+    tree_of_kind(cx, budget, &own, inside, number, item, depth_left)
 }
 
 /// The tree of an item whose parts stand in this.
 #[cycle(trees)]
 fn tree_of_kind<'a>(
     cx: &Context<'a, '_>,
-    work: &mut Work<'a>,
+    budget: &mut Budget<'a>,
     above: &Above<'_>,
-    inside: Setting<'_>,
+    inside: Env<'_>,
     number: u32,
     item: &'a Item,
-    room: u32,
+    depth_left: u32,
 ) -> Result<TypeTree, Stop>
     ensures { (m : Measure) → IsMeasure cx.now.dl.now m → Means tree_of (kind_tree cx.now m
-        (tree_inner cx.now m room) (outer_of above.now) (where_of inside.entry) number item.now item.now.kind) result }
+        (tree_inner cx.now m depth_left) (outer_of above.now) (where_of inside.entry) number item.now item.now.kind) result }
 {
     match &item.kind {
         ItemKind::Struct(fields) => {
-            tree_of_struct(cx, work, above, inside, number, item, fields, room)
+            tree_of_struct(cx, budget, above, inside, number, item, fields, depth_left)
         }
-        ItemKind::Union(fields) => tree_of_union(cx, work, above, inside, item, fields, room),
-        ItemKind::Enum(all) => { tree_of_enum(cx, work, above, inside, item, all, room) }
+        ItemKind::Union(fields) => tree_of_union(
+            cx, budget, above, inside, item, fields, depth_left,
+        ),
+        ItemKind::Enum(all) => { tree_of_enum(cx, budget, above, inside, item, all, depth_left) }
         _ => Err(stop_at(item.at, FaultKind::NotAType(item.name))),
     }
 }
@@ -237,21 +246,21 @@ fn tree_of_kind<'a>(
 #[tactic(auto, unfolding(crate::specs::Trees::struct_tree))]
 fn tree_of_struct<'a>(
     cx: &Context<'a, '_>,
-    work: &mut Work<'a>,
+    budget: &mut Budget<'a>,
     above: &Above<'_>,
-    inside: Setting<'_>,
+    inside: Env<'_>,
     number: u32,
     item: &'a Item,
     fields: &'a Fields,
-    room: u32,
+    depth_left: u32,
 ) -> Result<TypeTree, Stop>
     ensures { (m : Measure) → IsMeasure cx.now.dl.now m → Means tree_of (struct_tree cx.now m
-        (tree_inner cx.now m room) (outer_of above.now) (where_of inside.entry) number item.now
+        (tree_inner cx.now m depth_left) (outer_of above.now) (where_of inside.entry) number item.now
         fields.now.all.items) result }
 {
     let repr = repr_of(item)?;
-    let always_sized = is_always_sized(cx, work, number, item)?;
-    let fields = fields_of_struct(cx, work, above, inside, item, fields, room)?;
+    let always_sized = is_always_sized(cx, budget, number, item)?;
+    let fields = fields_of_struct(cx, budget, above, inside, item, fields, depth_left)?;
     Ok(TypeTree::Struct {
         repr,
         always_sized,
@@ -264,19 +273,27 @@ fn tree_of_struct<'a>(
 #[tactic(auto, unfolding(crate::specs::Trees::struct_fields))]
 fn fields_of_struct<'a>(
     cx: &Context<'a, '_>,
-    work: &mut Work<'a>,
+    budget: &mut Budget<'a>,
     above: &Above<'_>,
-    inside: Setting<'_>,
+    inside: Env<'_>,
     item: &'a Item,
     fields: &'a Fields,
-    room: u32,
+    depth_left: u32,
 ) -> Result<Vec<TypeTree>, Stop>
     ensures { (m : Measure) → IsMeasure cx.now.dl.now m → Means (λ all. map tree_of all.items)
-        (struct_fields cx.now m (tree_inner cx.now m room) (outer_of above.now) (where_of inside.entry) item.now
+        (struct_fields cx.now m (tree_inner cx.now m depth_left) (outer_of above.now) (where_of inside.entry) item.now
         fields.now.all.items) result }
 {
-    check_packed(cx, work, item, fields, most_deep())?;
-    let mut trees = checked_trees(cx, work, above, inside, item, fields.all.as_slice(), room)?;
+    check_packed(cx, budget, item, fields, most_deep())?;
+    let mut trees = checked_trees(
+        cx,
+        budget,
+        above,
+        inside,
+        item,
+        fields.all.as_slice(),
+        depth_left,
+    )?;
     limit_first(cx, &mut trees, item.valid_range);
     Ok(trees)
 }
@@ -299,18 +316,18 @@ fn limit_first(cx: &Context<'_, '_>, trees: &mut Vec<TypeTree>, range: Option<(u
 #[cycle(trees)]
 fn checked_trees<'a>(
     cx: &Context<'a, '_>,
-    work: &mut Work<'a>,
+    budget: &mut Budget<'a>,
     above: &Above<'_>,
-    inside: Setting<'_>,
+    inside: Env<'_>,
     item: &'a Item,
     fields: &'a [Field],
-    room: u32,
+    depth_left: u32,
 ) -> Result<Vec<TypeTree>, Stop>
     ensures { (m : Measure) → IsMeasure cx.now.dl.now m → Means (λ all. map tree_of all.items)
-        (checked_trees cx.now m (tree_inner cx.now m room) (outer_of above.now) (where_of inside.entry) item.now
+        (checked_trees cx.now m (tree_inner cx.now m depth_left) (outer_of above.now) (where_of inside.entry) item.now
         fields.now) result }
 {
-    let trees = trees_of(cx, work, above, inside, fields, room)?;
+    let trees = trees_of(cx, budget, above, inside, fields, depth_left)?;
     check_transparent(cx, item, trees.as_slice())?;
     Ok(trees)
 }
@@ -320,39 +337,39 @@ fn checked_trees<'a>(
 #[tactic(auto, using(crate::proofs::Trees::fields_more, crate::proofs::Trees::fields_done, crate::proofs::Trees::behind_none))]
 fn trees_of<'a>(
     cx: &Context<'a, '_>,
-    work: &mut Work<'a>,
+    budget: &mut Budget<'a>,
     above: &Above<'_>,
-    inside: Setting<'_>,
+    inside: Env<'_>,
     fields: &'a [Field],
-    room: u32,
+    depth_left: u32,
 ) -> Result<Vec<TypeTree>, Stop>
     ensures { (m : Measure) → IsMeasure cx.now.dl.now m → Means (λ all. map tree_of all.items)
-        (field_trees cx.now m (tree_inner cx.now m room) (outer_of above.now) (where_of inside.entry)
+        (field_trees cx.now m (tree_inner cx.now m depth_left) (outer_of above.now) (where_of inside.entry)
         fields.now) result }
 {
     let mut trees = Vec::new(cx.alloc);
     for field in fields {
-        let one = tree_of_field(cx, work, above, inside, field, room)?;
+        let one = tree_of_field(cx, budget, above, inside, field, depth_left)?;
         push_tree(&mut trees, one)?;
     }
     Ok(trees)
 }
 
-/// The tree of a field. A fault that has no place is told where the field's type begins.
+/// The tree of a field. A fault that has no place is reported where the field's type begins.
 #[cycle(trees)]
 fn tree_of_field<'a>(
     cx: &Context<'a, '_>,
-    work: &mut Work<'a>,
+    budget: &mut Budget<'a>,
     above: &Above<'_>,
-    inside: Setting<'_>,
+    inside: Env<'_>,
     field: &'a Field,
-    room: u32,
+    depth_left: u32,
 ) -> Result<TypeTree, Stop>
     ensures { (m : Measure) → IsMeasure cx.now.dl.now m → Means tree_of (field_tree cx.now m
-        (tree_inner cx.now m room) (outer_of above.now) (where_of inside.entry) field.now) result }
+        (tree_inner cx.now m depth_left) (outer_of above.now) (where_of inside.entry) field.now) result }
 {
-    let ty = resolve(cx, work, inside, &field.ty, most_deep())?;
-    match formed_tree(cx, work, above, &ty, room) {
+    let ty = resolve(cx, budget, inside, &field.ty, most_deep())?;
+    match formed_tree(cx, budget, above, &ty, depth_left) {
         Ok(one) => Ok(one),
         Err(stop) => Err(stop_in(field.start, stop)),
     }
@@ -362,19 +379,19 @@ fn tree_of_field<'a>(
 #[cycle(trees)]
 fn formed_tree<'a>(
     cx: &Context<'a, '_>,
-    work: &mut Work<'a>,
+    budget: &mut Budget<'a>,
     above: &Above<'_>,
     ty: &Ty,
-    room: u32,
+    depth_left: u32,
 ) -> Result<TypeTree, Stop>
     ensures { (m : Measure) → IsMeasure cx.now.dl.now m → Means tree_of
-        (formed_tree cx.now m (tree_inner cx.now m room) (outer_of above.now) (ty_of ty.now)) result }
+        (formed_tree cx.now m (tree_inner cx.now m depth_left) (outer_of above.now) (ty_of ty.now)) result }
 {
-    check_formed(cx, work, ty)?;
-    tree(cx, work, above, ty, room)
+    check_formed(cx, budget, ty)?;
+    tree(cx, budget, above, ty, depth_left)
 }
 
-/// A fault that has no place, told at this one.
+/// A fault that has no place, reported at this one.
 fn stop_in(at: Place, stop: Stop) -> Stop
     ensures value { result ≡ stop_in at stop }
     ensures beside { is_beside result ≡ is_beside stop }
@@ -390,19 +407,19 @@ fn stop_in(at: Place, stop: Stop) -> Stop
 #[tactic(auto, unfolding(crate::specs::Trees::union_tree))]
 fn tree_of_union<'a>(
     cx: &Context<'a, '_>,
-    work: &mut Work<'a>,
+    budget: &mut Budget<'a>,
     above: &Above<'_>,
-    inside: Setting<'_>,
+    inside: Env<'_>,
     item: &'a Item,
     fields: &'a Fields,
-    room: u32,
+    depth_left: u32,
 ) -> Result<TypeTree, Stop>
     ensures { (m : Measure) → IsMeasure cx.now.dl.now m → Means tree_of (union_tree cx.now m
-        (tree_inner cx.now m room) (outer_of above.now) (where_of inside.entry) item.now fields.now.all.items) result }
+        (tree_inner cx.now m depth_left) (outer_of above.now) (where_of inside.entry) item.now fields.now.all.items) result }
 {
     let repr = repr_of(item)?;
-    check_packed(cx, work, item, fields, most_deep())?;
-    let fields = trees_of(cx, work, above, inside, fields.all.as_slice(), room)?;
+    check_packed(cx, budget, item, fields, most_deep())?;
+    let fields = trees_of(cx, budget, above, inside, fields.all.as_slice(), depth_left)?;
     Ok(TypeTree::Union { repr, fields })
 }
 
@@ -411,20 +428,20 @@ fn tree_of_union<'a>(
 #[tactic(auto, unfolding(crate::specs::Trees::enum_tree), using(crate::proofs::Trees::tree_of_enum))]
 fn tree_of_enum<'a>(
     cx: &Context<'a, '_>,
-    work: &mut Work<'a>,
+    budget: &mut Budget<'a>,
     above: &Above<'_>,
-    inside: Setting<'_>,
+    inside: Env<'_>,
     item: &'a Item,
     all: &'a Enum,
-    room: u32,
+    depth_left: u32,
 ) -> Result<TypeTree, Stop>
     ensures { (m : Measure) → IsMeasure cx.now.dl.now m → Means tree_of (enum_tree cx.now m
-        (tree_inner cx.now m room) (outer_of above.now) (where_of inside.entry) item.now all.now.variants.items) result }
+        (tree_inner cx.now m depth_left) (outer_of above.now) (where_of inside.entry) item.now all.now.variants.items) result }
 {
     let repr = repr_of(item)?;
     check_discriminants(item, all)?;
     let all = all.variants.as_slice();
-    let variants = trees_of_variants(cx, work, above, inside, item, all, room)?;
+    let variants = trees_of_variants(cx, budget, above, inside, item, all, depth_left)?;
     Ok(TypeTree::Enum { repr, variants })
 }
 
@@ -433,21 +450,23 @@ fn tree_of_enum<'a>(
 #[tactic(auto, using(crate::proofs::Trees::variants_more, crate::proofs::Trees::variants_done, crate::proofs::Trees::behind_none))]
 fn trees_of_variants<'a>(
     cx: &Context<'a, '_>,
-    work: &mut Work<'a>,
+    budget: &mut Budget<'a>,
     above: &Above<'_>,
-    inside: Setting<'_>,
+    inside: Env<'_>,
     item: &'a Item,
     all: &'a [Variant],
-    room: u32,
+    depth_left: u32,
 ) -> Result<Vec<(u128, Vec<TypeTree>)>, Stop>
     ensures { (m : Measure) → IsMeasure cx.now.dl.now m → Means (λ made. map variant_as_tree made.items)
-        (variant_trees cx.now m (tree_inner cx.now m room) (outer_of above.now) (where_of inside.entry) item.now None
+        (variant_trees cx.now m (tree_inner cx.now m depth_left) (outer_of above.now) (where_of inside.entry) item.now None
         all.now) result }
 {
     let mut variants = Vec::new(cx.alloc);
     let mut last = None;
     for variant in all {
-        let (number, fields) = tree_of_variant(cx, work, above, inside, item, variant, last, room)?;
+        let (number, fields) = tree_of_variant(
+            cx, budget, above, inside, item, variant, last, depth_left,
+        )?;
         push_variant(&mut variants, number, fields)?;
         last = Some(number);
     }
@@ -473,21 +492,21 @@ fn push_variant(
 #[tactic(auto, unfolding(crate::specs::Trees::variant_tree))]
 fn tree_of_variant<'a>(
     cx: &Context<'a, '_>,
-    work: &mut Work<'a>,
+    budget: &mut Budget<'a>,
     above: &Above<'_>,
-    inside: Setting<'_>,
+    inside: Env<'_>,
     item: &'a Item,
     variant: &'a Variant,
     last: Option<Int>,
-    room: u32,
+    depth_left: u32,
 ) -> Result<(Int, Vec<TypeTree>), Stop>
     ensures { (m : Measure) → IsMeasure cx.now.dl.now m → Means (λ made. (number_of_int made.0, map tree_of made.1.items))
-        (variant_tree cx.now m (tree_inner cx.now m room) (outer_of above.now) (where_of inside.entry) item.now
+        (variant_tree cx.now m (tree_inner cx.now m depth_left) (outer_of above.now) (where_of inside.entry) item.now
         (option_map number_of_int last) variant.now) result }
 {
-    let number = discriminant_of(cx, work, item, variant, last)?;
+    let number = discriminant_of(cx, budget, item, variant, last)?;
     let fields = variant.fields.all.as_slice();
-    let trees = checked_trees(cx, work, above, inside, item, fields, room)?;
+    let trees = checked_trees(cx, budget, above, inside, item, fields, depth_left)?;
     Ok((number, trees))
 }
 
@@ -495,7 +514,7 @@ fn tree_of_variant<'a>(
 #[tactic(auto, unfolding(crate::specs::Trees::variant_number))]
 fn discriminant_of<'a>(
     cx: &Context<'a, '_>,
-    work: &mut Work<'a>,
+    budget: &mut Budget<'a>,
     item: &'a Item,
     variant: &'a Variant,
     last: Option<Int>,
@@ -504,7 +523,7 @@ fn discriminant_of<'a>(
 {
     let value = discriminant_value(
         cx,
-        work,
+        budget,
         item,
         variant.discriminant.as_ref(),
         last,
@@ -519,7 +538,7 @@ fn discriminant_of<'a>(
 /// The value of a discriminant that may be written.
 fn discriminant_value<'a>(
     cx: &Context<'a, '_>,
-    work: &mut Work<'a>,
+    budget: &mut Budget<'a>,
     item: &'a Item,
     written: Option<&'a Expr>,
     last: Option<Int>,
@@ -531,7 +550,7 @@ fn discriminant_value<'a>(
     match written {
         Some(expr) => {
             let wanted = Some(Kind::Integer(discriminant_kind(item)));
-            evaluate(cx, work, outside(item.module), expr, wanted, most_deep())
+            evaluate(cx, budget, outside(item.module), expr, wanted, most_deep())
         }
         None => number_behind(cx, item, last, at),
     }

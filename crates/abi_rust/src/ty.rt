@@ -38,13 +38,13 @@ pub(crate) enum Ty {
     /// `*const T`
     Pointer(Box<Ty>),
     /// The struct, enum or union of this number, and what its parameters are given.
-    Adt(u32, Vec<Given>),
+    Adt(u32, Vec<GenericArg>),
 }
 
 /// What a parameter is given.
 #[cycle(ty)]
 #[derive(Drop)]
-pub(crate) enum Given {
+pub(crate) enum GenericArg {
     Type(Ty),
     Value(Value),
 }
@@ -165,12 +165,12 @@ fn same_tys(a: &[Ty], b: &[Ty]) -> bool
 
 /// Whether parameters are given the same.
 #[cycle(same)]
-fn same_given(a: &Given, b: &Given) -> bool
+fn same_given(a: &GenericArg, b: &GenericArg) -> bool
     ensures { result ≡ same_given (given_of a.now) (given_of b.now) }
 {
     match (a, b) {
-        (Given::Type(a), Given::Type(b)) => same_ty(a, b),
-        (Given::Value(a), Given::Value(b)) => same_value(*a, *b),
+        (GenericArg::Type(a), GenericArg::Type(b)) => same_ty(a, b),
+        (GenericArg::Value(a), GenericArg::Value(b)) => same_value(*a, *b),
         _ => false,
     }
 }
@@ -178,7 +178,7 @@ fn same_given(a: &Given, b: &Given) -> bool
 /// Whether what two lists give parameters is the same.
 #[cycle(same)]
 #[tactic(auto, using(crate::proofs::Same::givens_on, crate::proofs::Same::givens_past, crate::proofs::Same::givens_over, crate::proofs::Same::givens_end))]
-pub(crate) fn same_givens(a: &[Given], b: &[Given]) -> bool
+pub(crate) fn same_givens(a: &[GenericArg], b: &[GenericArg]) -> bool
     ensures { result ≡ same_givens (givens (all_given a.now)) (givens (all_given b.now)) }
 {
     for (index, one) in a.iter().enumerate() {

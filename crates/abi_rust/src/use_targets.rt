@@ -115,11 +115,18 @@ fn are_same(a: &[UseTarget], b: &[UseTarget]) -> bool
         let Some(other) = b.get(index) else {
             return false;
         };
-        if !is_same(one.types, other.types) || !is_same(one.values, other.values) {
+        if !is_same_target(*one, *other) {
             return false;
         }
     }
     true
+}
+
+/// Whether two uses are found to bring in the same.
+fn is_same_target(a: UseTarget, b: UseTarget) -> bool
+    ensures { result ≡ true → a ≡ b }
+{
+    is_same(a.types, b.types) && is_same(a.values, b.values)
 }
 
 /// Whether two names are found to lead to the same.

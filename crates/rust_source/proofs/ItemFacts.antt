@@ -1,5 +1,5 @@
 -- What the definitions say of some items.
-use Rattle.std.proofs.Common.{◌≡◌, ℕ, ◌+◌, codes, false, List, [], ◌∷◌, length, None, Some, Ok, refl}
+use Rattle.std.proofs.Common.{◌≡◌, ℕ, ◌+◌, codes, false, List, [], ◌∷◌, length, None, Some, Ok, refl, true}
 use Rattle.rust_source.specs.declared.item.FieldName.TheVariants.{Named}
 use Rattle.rust_source.specs.declared.reader.attributes.Rules.{Rules}
 use Rattle.rust_source.specs.declared.reader.cursor.Cursor.{Cursor}
@@ -59,7 +59,7 @@ module _ (rules : Rules) where
         all = record {
           name = Named (record { 0 = 6 });
           at = record { 0 = 4 };
-          ty = named (path false (more_segments (segment 7 (record { 0 = 7 }) no_arguments) no_segments));
+          ty = named (path false (more_segments (segment 7 (record { 0 = 7 }) 0 no_arguments) no_segments));
           start = record { 0 = 7 };
           end = record { 0 = 9 };
         } ∷ [];

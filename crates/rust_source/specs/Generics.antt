@@ -8,6 +8,7 @@ use Rattle.rust_source.specs.declared.tokens.keyword.Keyword.TheVariants as keyw
 use Rattle.rust_source.specs.declared.tokens.token.Bracket.TheVariants as bracket
 use Rattle.rust_source.specs.Cursor.{expected, group_passed, inside, is_lifetime, is_name, is_next, is_nth, is_nth_pair, is_keyword_next, next_kind, passed}
 use Rattle.rust_source.specs.Items.{ParameterKindRead, ParameterRead, for_constant, for_type}
+use Rattle.rust_source.specs.Lifetimes.{hashes_passed}
 use Rattle.rust_source.specs.Passing.{bounds}
 use Rattle.rust_source.specs.Reading.{Reading, read_on, name, read_as}
 use Rattle.rust_source.specs.Repeated.{none_twice, parameter_names}
@@ -65,15 +66,6 @@ type_parameter c names =
     read_on (λ (n : (Symbol × Place) × Cursor) ns.
     read_on (λ (d : Option TypeRead × Cursor) ms. done (parameter n.0 (asked n.1).0 (for_type d.0), d.1) ms) (type_default (asked n.1).1 ns))
     (name c names)
-
--- what follows attributes, of at most so many
-abbrev pub hashes_from : (limit : ℕ) → Cursor → Cursor
-hashes_from zero c = c
-hashes_from (suc limit) c = if is_next c 35 then hashes_from limit (group_passed (passed c 1) (inside (passed c 1) bracket.Square)) else c
-
--- what follows the attributes of a parameter
-unfoldable pub hashes_passed : Cursor → Cursor
-hashes_passed c = hashes_from (c.end - c.at) c
 
 -- the parameters with the one that is next, a lifetime left out
 unfoldable pub parameter_more : List ParameterRead → Reader (List ParameterRead)

@@ -33,6 +33,7 @@ item_of_module standing said w = record {
   at = w.head.at;
   inside = standing.«module»;
   visible_in = standing.visible_in;
+  lifetimes = w.head.lifetimes;
   parameters = w.head.parameters;
   repr = said.repr;
   valid_range = said.valid_range;

@@ -67,6 +67,7 @@ pub record ItemRead : Type 0 where
   pub at : Place
   pub inside : ℕ
   pub visible_in : Option ℕ
+  pub lifetimes : ℕ
   pub parameters : List ParameterRead
   pub repr : Repr
   pub valid_range : Option (ℕ × ℕ)
@@ -135,6 +136,7 @@ item_of i = record {
   at = i.at;
   inside = i.«module»;
   visible_in = i.visible_in;
+  lifetimes = i.lifetimes;
   parameters = map parameter_of i.parameters.items;
   repr = i.repr;
   valid_range = i.valid_range;

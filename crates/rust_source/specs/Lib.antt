@@ -14,6 +14,7 @@ pub mod Slices
 pub mod Syntax
 pub mod Operators
 pub mod Passing
+pub mod Lifetimes
 pub mod Reading
 pub mod Repr
 pub mod Simple

@@ -44,7 +44,7 @@ mutual
     more_segments : SegmentRead → SegmentsRead → SegmentsRead
 
   pub data SegmentRead : Type 0 where
-    segment : (name : ℕ) → Place → ArgumentsRead → SegmentRead
+    segment : (name : ℕ) → Place → (lifetimes : ℕ) → ArgumentsRead → SegmentRead
 
   -- a list of arguments
   pub data ArgumentsRead : Type 0 where
@@ -135,7 +135,7 @@ layer_path p = path p.is_global (segments p.segments.items)
 
 -- of a segment of a path
 abbrev pub layer_segment : Segment-F ArgumentRead ExprRead TypeRead PathRead SegmentRead → SegmentRead
-layer_segment s = segment s.name.0 s.at (arguments s.arguments.items)
+layer_segment s = segment s.name.0 s.at s.lifetimes (arguments s.arguments.items)
 
 -- the program's type as the definitions see it
 abbrev pub type_of : Written → TypeRead

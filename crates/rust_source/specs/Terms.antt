@@ -16,6 +16,7 @@ use Rattle.rust_source.specs.declared.tokens.token.TokenKind.{TokenKind}
 use Rattle.rust_source.specs.declared.tokens.token.TokenKind.TheVariants as kind
 use Rattle.rust_source.specs.Cursor.{behind_group, comma_passed, expected, fault, inside, is_done, is_lifetime, is_next, is_nth, is_nth_pair, is_pair, is_keyword_next, next_kind, passed, place}
 use Rattle.rust_source.specs.Operators.{all_joined, next_operator, operator_put, with_operators}
+use Rattle.rust_source.specs.Lifetimes.{lifetimes_given}
 use Rattle.rust_source.specs.Passing.{bounds}
 use Rattle.rust_source.specs.Reading.{Reading, read_on, path_name, read_as}
 use Rattle.rust_source.specs.Simple.{after_path, begins_path, is_literal, literal_read, most_nested, pointed, pointings, signed_literal, signs, simple}
@@ -151,7 +152,7 @@ module _ (R : Readers) where
   unfoldable pub segment_read : (in_type : Bool) → Reader SegmentRead
   segment_read in_type c names =
       read_on (λ (n : (Symbol × Place) × Cursor) ns.
-      read_on (λ (a : List ArgumentRead × Cursor) ms. done (segment n.0.0.0 n.0.1 (arguments a.0), a.1) ms)
+      read_on (λ (a : List ArgumentRead × Cursor) ms. done (segment n.0.0.0 n.0.1 (lifetimes_given (arguments_begin in_type n.1)) (arguments a.0), a.1) ms)
       (arguments_by n.1 (arguments_begin in_type n.1) ns))
       (path_name c names)
 

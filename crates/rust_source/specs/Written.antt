@@ -14,6 +14,7 @@ use Rattle.rust_source.specs.Cfg.{Noted, Noting}
 use Rattle.rust_source.specs.Cursor.{behind_group, expected, inside, is_constant, is_group, is_named_next, is_keyword_next, passed}
 use Rattle.rust_source.specs.Fields.{by_names, fields_read, value_read, variants_in_braces}
 use Rattle.rust_source.specs.Generics.{asked, parameters_read, where_read}
+use Rattle.rust_source.specs.Lifetimes.{lifetimes_declared}
 use Rattle.rust_source.specs.Items.{FieldsRead, ItemKindRead, ParameterRead, VariantRead, alias_of, const_of, enum_of, item_kind_of, parameter_of, struct_of, union_of}
 use Rattle.rust_source.specs.Reading.{read_on, is_named, name}
 use Rattle.rust_source.specs.Simple.{most_nested}
@@ -24,6 +25,7 @@ use Rattle.rust_source.specs.Terms.{Reader, done, fault_next, type_read}
 pub record HeadRead : Type 0 where
   pub name : Symbol
   pub at : Place
+  pub lifetimes : ℕ
   pub parameters : List ParameterRead
 
 -- an item by itself
@@ -33,7 +35,7 @@ pub record WrittenRead : Type 0 where
 
 -- the name of an item, where it stands, and its parameters
 abbrev pub head_of : Head → HeadRead
-head_of h = record { name = h.name; at = h.at; parameters = map parameter_of h.parameters.items }
+head_of h = record { name = h.name; at = h.at; lifetimes = h.lifetimes; parameters = map parameter_of h.parameters.items }
 
 -- an item by itself, as the program keeps it
 abbrev pub written_of : Written → WrittenRead
@@ -43,7 +45,7 @@ written_of w = record { head = head_of w.head; kind = item_kind_of w.kind }
 unfoldable pub head_read : Reader HeadRead
 head_read c names =
     read_on (λ (n : (Symbol × Place) × Cursor) ns.
-    read_on (λ (p : List ParameterRead × Cursor) ms. done (record { name = n.0.0; at = n.0.1; parameters = p.0 }, p.1) ms) (parameters_read n.1 ns))
+    read_on (λ (p : List ParameterRead × Cursor) ms. done (record { name = n.0.0; at = n.0.1; lifetimes = lifetimes_declared n.1; parameters = p.0 }, p.1) ms) (parameters_read n.1 ns))
     (name c names)
 
 -- with what `where` asks, where it is next

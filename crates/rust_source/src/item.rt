@@ -124,7 +124,9 @@ pub struct Item {
     pub module: u32,
     /// The module in which, with all that stand inside it, its name may be used; none where it may be used everywhere.
     pub visible_in: Option<u32>,
-    /// Its parameters, lifetimes left out.
+    /// How many lifetimes it has as parameters.
+    pub lifetimes: u32,
+    /// Its other parameters.
     pub parameters: Vec<Parameter>,
     pub repr: Repr,
     /// The first and the last number that the scalar of its first field may be, as the standard library's own types

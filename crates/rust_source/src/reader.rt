@@ -10,6 +10,7 @@ mod functions;
 mod generics;
 mod items;
 mod known_attributes;
+mod lifetimes;
 mod literals;
 mod naming;
 mod operators;

@@ -1,4 +1,4 @@
-//! Types, paths and expressions as they are written. Parentheses, lifetimes and comments are gone.
+//! Types, paths and expressions as they are written. Parentheses, names of lifetimes and comments are gone.
 
 use crate::place::{Place, Symbol};
 
@@ -79,7 +79,9 @@ pub struct Segment {
     pub name: Symbol,
     /// Where it stands.
     pub at: Place,
-    /// What stands in angle brackets behind it, lifetimes left out.
+    /// How many lifetimes stand in angle brackets behind it.
+    pub lifetimes: u32,
+    /// What else stands there.
     pub arguments: Vec<Argument>,
 }
 

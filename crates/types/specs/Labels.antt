@@ -3,8 +3,8 @@ use Rattle.std.specs.Prelude.{ℕ, List, [], ◌++◌, codes, Option, None, Some
 use Rattle.std.specs.Fmt.{decimal}
 use Rattle.abi_laid.specs.declared.parts.PartName.{PartName}
 use Rattle.abi_laid.specs.declared.parts.PartName.TheVariants.{Number, Elements, Lanes, Field, Tag, VariantField}
-use Rattle.abi_rust.specs.declared.told.Label.{Label}
-use Rattle.abi_rust.specs.declared.told.VariantLabels.{VariantLabels}
+use Rattle.abi_rust.specs.declared.report.Label.{Label}
+use Rattle.abi_rust.specs.declared.report.VariantLabels.{VariantLabels}
 use Rattle.rust_source.specs.declared.item.FieldName.{FieldName}
 use Rattle.rust_source.specs.declared.item.FieldName.TheVariants.{Named, Numbered}
 use Rattle.rust_source.specs.declared.names.Names.{Names}

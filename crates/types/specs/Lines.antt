@@ -2,10 +2,10 @@
 use Rattle.std.specs.Prelude.{ℕ, ◌+◌, ◌==◌, List, [], ◌∷◌, ◌++◌, codes, get_or, slice_get, Option, None, Some, Bool, false, if◌then◌else◌}
 use Rattle.std.specs.Fmt.{decimal}
 use Rattle.abi_laid.specs.Placed.{Placed, layout_of}
-use Rattle.abi_rust.specs.declared.told.Label.{Label}
-use Rattle.abi_rust.specs.declared.told.Shape.{Shape}
-use Rattle.abi_rust.specs.declared.told.Shape.TheVariants.{Plain, Struct, Union, Enum}
-use Rattle.abi_rust.specs.declared.told.VariantLabels.{VariantLabels}
+use Rattle.abi_rust.specs.declared.report.Label.{Label}
+use Rattle.abi_rust.specs.declared.report.Shape.{Shape}
+use Rattle.abi_rust.specs.declared.report.Shape.TheVariants.{Plain, Struct, Union, Enum}
+use Rattle.abi_rust.specs.declared.report.VariantLabels.{VariantLabels}
 use Rattle.abi_scalar.specs.declared.fields_shape.FieldsShape.{FieldsShape}
 use Rattle.abi_scalar.specs.declared.fields_shape.FieldsShape.TheVariants.{Arbitrary}
 use Rattle.abi_scalar.specs.declared.scalar.Scalar.{Scalar}

@@ -11,7 +11,7 @@ use crate::place::Spot;
 use abi_base::TargetDataLayout;
 use abi_laid::Laid;
 use abi_map::map_of;
-use abi_rust::{Fault, Sources, Target, Told, data_layout_of};
+use abi_rust::{Fault, Sources, Target, TypeReport, data_layout_of};
 use rust_source::Names;
 use rustc_abi::{LayError, lay_out};
 use serde_json::Value;
@@ -94,7 +94,7 @@ fn object_of(
     under: Under<'_>,
     names: &Names,
     name: &str,
-    told: &Told,
+    report: &TypeReport,
     laid: &Laid,
 ) -> Result<Value, LayError>
     requires { IsLaidOut under.dl.now laid.now }
@@ -104,7 +104,7 @@ fn object_of(
         names,
         source: under.source,
     };
-    let mut object = type_value(alloc, cx, name, &told.shape, &told.tree, laid)?;
+    let mut object = type_value(alloc, cx, name, &report.shape, &report.tree, laid)?;
     if let Some(triple) = under.triple {
         put_text(alloc, &mut object, "target", triple)?;
     }
@@ -118,7 +118,7 @@ fn put_laid(
     under: Under<'_>,
     names: &Names,
     name: &str,
-    told: &Told,
+    report: &TypeReport,
     laid: &Laid,
 ) -> Result<(), LayError>
     requires { IsLaidOut under.dl.now laid.now }
@@ -126,15 +126,15 @@ fn put_laid(
     match under.form {
         Form::Lines => {
             write!(answer.text, "type {name}\n")?;
-            write_lines(alloc, &mut answer.text, names, &told.shape, laid)?;
+            write_lines(alloc, &mut answer.text, names, &report.shape, laid)?;
         }
         Form::Map => {
-            let called = by_name(names, &told.shape, laid);
+            let called = by_name(names, &report.shape, laid);
             let map = map_of(alloc, under.dl, &called, laid)?;
             write!(answer.text, "type {name}\n{map}")?;
         }
         Form::Json => {
-            let object = object_of(alloc, under, names, name, told, laid)?;
+            let object = object_of(alloc, under, names, name, report, laid)?;
             answer.values.push(object)?;
         }
     }
@@ -148,10 +148,10 @@ fn put_tree(
     under: Under<'_>,
     names: &Names,
     name: &str,
-    told: &Told,
+    report: &TypeReport,
 ) -> Result<(), LayError> {
-    let laid = lay_out(alloc, under.dl, &told.tree)?;
-    put_laid(alloc, answer, under, names, name, told, &laid)
+    let laid = lay_out(alloc, under.dl, &report.tree)?;
+    put_laid(alloc, answer, under, names, name, report, &laid)
 }
 
 /// Tells of a type that stands here; that it has no size of its own is noted.
@@ -161,16 +161,16 @@ fn add_type(
     under: Under<'_>,
     names: &Names,
     name: &str,
-    told: Option<&Told>,
+    report: Option<&TypeReport>,
     own: Spot,
 ) -> Result<(), Failure> {
-    let Some(told) = told else {
+    let Some(report) = report else {
         return Ok(write!(
             answer.notes,
             "types: {name} has no size of its own, and is passed over\n"
         )?);
     };
-    match put_tree(alloc, answer, under, names, name, told) {
+    match put_tree(alloc, answer, under, names, name, report) {
         Ok(()) => Ok(()),
         Err(error) => Err(refusal_of(alloc, name, own, error)),
     }
@@ -183,13 +183,13 @@ fn add_found(
     under: Under<'_>,
     sources: &Sources,
     name: &str,
-    found: Result<Option<Told>, Fault>,
+    found: Result<Option<TypeReport>, Fault>,
     own: Spot,
 ) -> Result<(), Failure> {
     match found {
-        Ok(told) => {
+        Ok(report) => {
             let names = sources.names();
-            add_type(alloc, answer, under, names, name, told.as_ref(), own)
+            add_type(alloc, answer, under, names, name, report.as_ref(), own)
         }
         Err(fault) => Err(failure_of(alloc, sources, &fault, own)),
     }
@@ -204,7 +204,7 @@ fn add_all(
 ) -> Result<(), Failure> {
     let mut name = String::new(alloc);
     for item in 0..sources.item_count() {
-        if sources.is_told(item) {
+        if sources.is_reported(item) {
             name.clear();
             sources.write_name(&mut name, item)?;
             let found = sources.type_of(alloc, under.dl, item);

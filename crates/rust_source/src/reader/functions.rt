@@ -59,6 +59,7 @@ fn function_named(alloc: Global, name: Symbol, at: Place) -> Written
     let head = Head {
         name,
         at,
+        lifetimes: 0,
         parameters: Vec::new(alloc),
     };
     let kind = ItemKind::Const(Const {

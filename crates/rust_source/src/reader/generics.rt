@@ -2,8 +2,9 @@
 
 ghost use Rattle.std.specs.Prelude.{◌≡◌, ◌∷◌, ◌++◌, [], IfErr, IfOk, map};
 ghost use Rattle.std.specs.Option.{option_map};
-ghost use Rattle.rust_source.specs.Generics.{asked, const_default, const_kind, const_parameter, constant_argument, hashes_passed, is_bounded_name, let_unsized, parameter_more, parameters_in, parameters_read, type_default, type_parameter, where_all, where_one, where_read};
+ghost use Rattle.rust_source.specs.Generics.{asked, const_default, const_kind, const_parameter, constant_argument, is_bounded_name, let_unsized, parameter_more, parameters_in, parameters_read, type_default, type_parameter, where_all, where_one, where_read};
 ghost use Rattle.rust_source.specs.Items.{parameter_kind_of, parameter_of};
+ghost use Rattle.rust_source.specs.Lifetimes.{hashes_passed};
 ghost use Rattle.rust_source.specs.Names.{texts};
 ghost use Rattle.rust_source.specs.Reading.{Reads};
 ghost use Rattle.rust_source.specs.Syntax.{argument_of, expr_of, type_of};
@@ -129,8 +130,8 @@ fn read_type_parameter(names: &mut Names, cursor: &mut Cursor<'_>) -> Result<Par
 }
 
 /// Passes over attributes of a parameter.
-#[tactic(auto, unfolding(crate::specs::Generics::hashes_passed), using(crate::proofs::GenericTurns::hashes_more, crate::proofs::GenericTurns::hashes_done))]
-fn pass_attributes(cursor: &mut Cursor<'_>)
+#[tactic(auto, unfolding(crate::specs::Lifetimes::hashes_passed), using(crate::proofs::GenericTurns::hashes_more, crate::proofs::GenericTurns::hashes_done))]
+pub(crate) fn pass_attributes(cursor: &mut Cursor<'_>)
     ensures { cursor.new ≡ hashes_passed cursor.old }
 {
     let turns = cursor.end.saturating_sub(cursor.at);

@@ -43,6 +43,7 @@ fn item_in(standing: Standing, said: &Attributes, one: Written) -> Item
         at: head.at,
         module: standing.module,
         visible_in: standing.visible_in,
+        lifetimes: head.lifetimes,
         parameters: head.parameters,
         repr: said.repr,
         valid_range: said.valid_range,

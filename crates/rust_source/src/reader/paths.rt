@@ -2,6 +2,7 @@
 
 ghost use Rattle.std.specs.Prelude.{◌≡◌, ◌||◌, [], ◌∷◌, ◌++◌, false, IfErr, IfOk, map, Some, None, if◌then◌else◌};
 ghost use Rattle.rust_source.specs.Cursor.{is_next, passed};
+ghost use Rattle.rust_source.specs.Lifetimes.{lifetimes_given};
 ghost use Rattle.rust_source.specs.Names.{texts};
 ghost use Rattle.rust_source.specs.Reading.{Reads};
 ghost use Rattle.rust_source.specs.Simple.{is_literal};
@@ -17,6 +18,7 @@ use crate::reader::cursor::{
     take_group, take_pair,
 };
 use crate::reader::expressions::{is_literal, read_signed, read_whole};
+use crate::reader::lifetimes::lifetimes_next;
 use crate::reader::naming::take_path_name;
 use crate::reader::passing::pass_bounds;
 use crate::reader::types::read_type;
@@ -95,12 +97,25 @@ fn read_segment(
         (segment_read (readers room) in_type cursor.old (texts names.old)) (texts names.new) result }
 {
     let (name, at) = take_path_name(names, cursor)?;
+    let lifetimes = lifetimes_given(cursor, in_type);
     let arguments = read_name_arguments(names, cursor, in_type, room)?;
     Ok(Segment {
         name,
         at,
+        lifetimes,
         arguments,
     })
+}
+
+/// How many lifetimes a name is given, where arguments are next.
+fn lifetimes_given(cursor: &Cursor<'_>, in_type: bool) -> u32
+    ensures { result ≡ lifetimes_given (arguments_begin in_type cursor.now) }
+{
+    let mut inside = *cursor;
+    if takes_arguments(&mut inside, in_type) {
+        return lifetimes_next(&inside);
+    }
+    0
 }
 
 /// The arguments of a name, where they are next.

@@ -19,6 +19,7 @@ use crate::reader::cursor::{
 use crate::reader::fields::{read_fields, read_value, read_variants};
 use crate::reader::generics::{pass_asked, read_parameters, read_where};
 use crate::reader::naming::{is_named, take_name};
+use crate::reader::lifetimes::lifetimes_declared;
 use crate::reader::room::most_nested;
 use crate::reader::types::read_type;
 use crate::tokens::keyword::Keyword;
@@ -29,6 +30,7 @@ use crate::tokens::token::Bracket;
 pub(crate) struct Head {
     pub name: Symbol,
     pub at: Place,
+    pub lifetimes: u32,
     pub parameters: Vec<Parameter>,
 }
 
@@ -46,10 +48,12 @@ fn read_head(names: &mut Names, cursor: &mut Cursor<'_>) -> Result<Head, SourceF
         (texts names.new) result }
 {
     let (name, at) = take_name(names, cursor)?;
+    let lifetimes = lifetimes_declared(cursor);
     let parameters = read_parameters(names, cursor)?;
     Ok(Head {
         name,
         at,
+        lifetimes,
         parameters,
     })
 }

@@ -3,7 +3,7 @@ use Rattle.std.proofs.Common.{◌∙◌, ◌<◌, None, Some, ap, length, rules,
 use Rattle.std.specs.Prelude.{nat_eq, if◌then◌else◌}
 use Rattle.std.specs.Option.{option_or}
 use Rattle.rust_source.specs.declared.item.Item.{Item}
-use Rattle.abi_rust.specs.OwnConstants.{is_own_at, last_told, own_type}
+use Rattle.abi_rust.specs.OwnConstants.{is_own_at, last_known, own_type}
 use Rattle.abi_rust.specs.Standing.{first_so}
 use Rattle.abi_rust.specs.Scope.{numbered}
 use Rattle.abi_rust.proofs.OwnLemmas.{told_more}
@@ -22,7 +22,7 @@ loop-number-preserved c =
     record {
       owners = λ n. c.in_ok-add_own.ensures.owners n
           ∙ rw (c.numbered.ensures, c.own_type-owner.ensures, c.loop-number.invariant.owners n)
-          (ap (λ (it : Item). option_or (if nat_eq (numbered i) n then own_type items scope it else None) (last_told (own_type items scope) 0 n (take i all))) is
+          (ap (λ (it : Item). option_or (if nat_eq (numbered i) n then own_type items scope it else None) (last_known (own_type items scope) 0 n (take i all))) is
           ∙ sym (told_more (own_type items scope) all n i item within));
       own = λ k. c.in_ok-add_own.ensures.own k
           ∙ rw (c.numbered.ensures, c.own_type-owner.ensures, c.loop-number.invariant.own k)

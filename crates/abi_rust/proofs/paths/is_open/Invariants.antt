@@ -9,5 +9,5 @@ use Rattle.abi_rust.proofs.paths.is_open.Given as goal
 -- the globs that are left are open where all of them are
 abbrev pub invariant-loop-turn : goal.invariant-loop-turn
 invariant-loop-turn l =
-    let is : Way → Bool = λ w. is_visible l.items l.visible_in w.glob.inside && not (is_some (own l.items l.scope (target_in l.targets) w.glob.inside l.asked)) in
+    let is : Way → Bool = λ w. is_visible l.items l.visible_in w.glob.inside && not (is_some (own l.items l.scope (target_in l.targets) w.glob.inside l.lookup)) in
     all_on is (length l.ways - l.turn) l.ways l.last ≡ all_on is (length l.ways) l.ways l.initial.last

@@ -12,7 +12,7 @@ returns-in-Some-get_mut-clause-added c =
     let within : g.inside < length all = omega (arith, c.in-Some-get_mut.ensures.variant.0 refl) in
     of_ok (λ (b : Bool). w.items ≡ with_glob v.items g) (λ (b : Bool). b ≡ not (is_in v.items g))
     (λ (b : Bool). lists_of (set all g.inside w) ≡ with_target (lists_of all) c.args.target) c.add_glob.result
-    (λ is_new one told. target_at all g v w within c.in-Some-get_mut.ensures.value one ∙ ap (with_target (lists_of all)) (sym c.in-Some.is))
+    (λ is_new one report. target_at all g v w within c.in-Some-get_mut.ensures.value one ∙ ap (with_target (lists_of all)) (sym c.in-Some.is))
     c.add_glob.ensures.added c.add_glob.ensures.is_new
 
 pub returns-in-Some-get_mut-clause-none : goal.returns-in-Some-get_mut-clause-none
@@ -23,5 +23,5 @@ returns-in-Some-get_mut-clause-none c =
     let w = c.add_glob.new.known in
     of_ok (λ (b : Bool). w.items ≡ with_glob v.items g) (λ (b : Bool). b ≡ not (is_in v.items g))
     (λ (b : Bool). b ≡ false → lists_of (set all g.inside w) ≡ lists_of all) c.add_glob.result
-    (λ is_new one told none. target_kept all g.inside g v w is_new c.in-Some-get_mut.ensures.value one told none)
+    (λ is_new one report none. target_kept all g.inside g v w is_new c.in-Some-get_mut.ensures.value one report none)
     c.add_glob.ensures.added c.add_glob.ensures.is_new

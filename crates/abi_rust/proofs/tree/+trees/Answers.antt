@@ -8,5 +8,5 @@ use Rattle.abi_rust.proofs.tree.+trees.Goals as goal
 
 pub tree_of_found-returns : goal.tree_of_found-returns
 tree_of_found-returns t c = λ m is.
-    found_on c.args.cx.now m (tree_inner c.args.cx.now m c.args.room) (outer_of c.args.above.now) (outer_of c.within-own.result) c.args.number c.args.item.now (all_given c.args.given.now) c.tree_of_kind.result
+    found_on c.args.cx.now m (tree_inner c.args.cx.now m c.args.depth_left) (outer_of c.args.above.now) (outer_of c.within-own.result) c.args.number c.args.item.now (all_given c.args.given.now) c.tree_of_kind.result
     (sym c.stands_in.ensures ∙ c.if-stands_in.false) c.within-own.ensures (c.tree_of_kind.ensures m is)

@@ -5,6 +5,6 @@ use Rattle.abi_rust.proofs.scope.Scope.add_globs.Given as goal
 
 abbrev pub invariant-loop-number : goal.invariant-loop-number
 invariant-loop-number l =
-    (with_globs (glob_target l.items l.self) l.number (drop l.number l.items.uses.items) (lists_of l.direct.items)
+    (with_globs (glob_target l.self) l.number (drop l.number l.items.uses.items) (lists_of l.direct.items)
     ≡ globs_added l.items l.self (lists_of l.initial.direct.items))
     × (l.is_new ≡ false → lists_of l.direct.items ≡ lists_of l.initial.direct.items)

@@ -23,7 +23,7 @@ returns-in-Err-clause-err c =
     let same : (k : ModuleName) → modules k ≡ module_at c.args.items.now.modules.items k =
     λ k. c.in_ok-add_modules.ensures.ok k ∙ ap (λ ms. module_at ms k) c.deref.ensures.value in
     elim c.in-Err.ensures.err [
-      | inl told ↦ inl (sym (repeated_told modules (module_at c.args.items.now.modules.items) [] c.args.items.now.items.items same)
-          ∙ ap (λ is. first_repeated modules [] is) (sym c.deref-2.ensures.value) ∙ told)
+      | inl report ↦ inl (sym (repeated_told modules (module_at c.args.items.now.modules.items) [] c.args.items.now.items.items same)
+          ∙ ap (λ is. first_repeated modules [] is) (sym c.deref-2.ensures.value) ∙ report)
       | inr memory ↦ inr memory
     ]

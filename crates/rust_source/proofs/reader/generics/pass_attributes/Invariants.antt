@@ -1,6 +1,6 @@
 -- What is passed over so far.
 use Rattle.std.proofs.Common.{◌≡◌, ◌-◌}
-use Rattle.rust_source.specs.Generics.{hashes_from, hashes_passed}
+use Rattle.rust_source.specs.Lifetimes.{hashes_from, hashes_passed}
 use Rattle.rust_source.proofs.reader.generics.pass_attributes.Given as goal
 
 abbrev pub invariant-loop-turn : goal.invariant-loop-turn
