@@ -20,6 +20,7 @@ use std::alloc::{AllocError, Global};
 /// The report on types, and what is noted beside.
 #[derive(Drop)]
 pub(crate) struct Answer {
+    alloc: Global,
     /// The lines, where the report is lines.
     pub(crate) text: String,
     /// The types, where the report is JSON.
@@ -32,6 +33,7 @@ impl Answer {
     /// Nothing yet.
     pub(crate) fn new(alloc: Global) -> Answer {
         Answer {
+            alloc,
             text: String::new(alloc),
             values: Vec::new(alloc),
             notes: String::new(alloc),
@@ -80,7 +82,7 @@ fn refusal_of(alloc: Global, name: &str, own: Spot, error: LayError) -> Failure 
 
 /// What the reports on all types under one target have in common.
 #[derive(Clone, Copy)]
-struct Under<'a> {
+struct ReportContext<'a> {
     form: Form,
     dl: &'a TargetDataLayout,
     source: &'a str,
@@ -88,228 +90,213 @@ struct Under<'a> {
     triple: Option<&'static str>,
 }
 
+/// A type that is reported on, and its name.
+#[derive(Clone, Copy)]
+struct NamedType<'a> {
+    names: &'a Names,
+    name: &'a str,
+    report: &'a TypeReport,
+}
+
+/// A name under which a type is reported on, and where that stands.
+#[derive(Clone, Copy)]
+struct NamePlace<'a> {
+    name: &'a str,
+    own: Spot,
+}
+
 /// A laid-out type as a JSON object, with its target where several are asked for.
 fn object_of(
     alloc: Global,
-    under: Under<'_>,
-    names: &Names,
-    name: &str,
-    report: &TypeReport,
+    cx: ReportContext<'_>,
+    ty: NamedType<'_>,
     laid: &Laid,
 ) -> Result<Value, LayError>
-    requires { IsLaidOut under.dl.now laid.now }
+    requires { IsLaidOut cx.dl.now laid.now }
 {
-    let cx = JsonContext {
-        dl: under.dl,
-        names,
-        source: under.source,
+    let json = JsonContext {
+        alloc,
+        dl: cx.dl,
+        names: ty.names,
+        source: cx.source,
     };
-    let mut object = type_value(alloc, cx, name, &report.shape, &report.tree, laid)?;
-    if let Some(triple) = under.triple {
+    let mut object = type_value(json, ty.name, &ty.report.shape, &ty.report.tree, laid)?;
+    if let Some(triple) = cx.triple {
         put_text(alloc, &mut object, "target", triple)?;
     }
     Ok(Value::Object(object))
 }
 
-/// Puts the report on a laid-out type behind the others, in the form that is asked for.
-fn put_laid(
-    alloc: Global,
-    answer: &mut Answer,
-    under: Under<'_>,
-    names: &Names,
-    name: &str,
-    report: &TypeReport,
-    laid: &Laid,
-) -> Result<(), LayError>
-    requires { IsLaidOut under.dl.now laid.now }
-{
-    match under.form {
-        Form::Lines => {
-            write!(answer.text, "type {name}\n")?;
-            write_lines(alloc, &mut answer.text, names, &report.shape, laid)?;
+impl Answer {
+    /// Puts the report on a laid-out type behind the others, in the form that is asked for.
+    fn put_laid(
+        &mut self,
+        cx: ReportContext<'_>,
+        ty: NamedType<'_>,
+        laid: &Laid,
+    ) -> Result<(), LayError>
+        requires { IsLaidOut cx.dl.now laid.now }
+    {
+        let name = ty.name;
+        match cx.form {
+            Form::Lines => {
+                write!(self.text, "type {name}\n")?;
+                write_lines(self.alloc, &mut self.text, ty.names, &ty.report.shape, laid)?;
+            }
+            Form::Map => {
+                let called = by_name(ty.names, &ty.report.shape, laid);
+                let map = map_of(self.alloc, cx.dl, &called, laid)?;
+                write!(self.text, "type {name}\n{map}")?;
+            }
+            Form::Json => {
+                let object = object_of(self.alloc, cx, ty, laid)?;
+                self.values.push(object)?;
+            }
         }
-        Form::Map => {
-            let called = by_name(names, &report.shape, laid);
-            let map = map_of(alloc, under.dl, &called, laid)?;
-            write!(answer.text, "type {name}\n{map}")?;
-        }
-        Form::Json => {
-            let object = object_of(alloc, under, names, name, report, laid)?;
-            answer.values.push(object)?;
-        }
+        Ok(())
     }
-    Ok(())
-}
 
-/// Lays out a type, and puts the report on it behind the others.
-fn put_tree(
-    alloc: Global,
-    answer: &mut Answer,
-    under: Under<'_>,
-    names: &Names,
-    name: &str,
-    report: &TypeReport,
-) -> Result<(), LayError> {
-    let laid = lay_out(alloc, under.dl, &report.tree)?;
-    put_laid(alloc, answer, under, names, name, report, &laid)
-}
+    /// Lays out a type, and puts the report on it behind the others.
+    fn put_tree(&mut self, cx: ReportContext<'_>, ty: NamedType<'_>) -> Result<(), LayError> {
+        let laid = lay_out(self.alloc, cx.dl, &ty.report.tree)?;
+        self.put_laid(cx, ty, &laid)
+    }
 
-/// Tells of a type that stands here; that it has no size of its own is noted.
-fn add_type(
-    alloc: Global,
-    answer: &mut Answer,
-    under: Under<'_>,
-    names: &Names,
-    name: &str,
-    report: Option<&TypeReport>,
-    own: Spot,
-) -> Result<(), Failure> {
-    let Some(report) = report else {
-        return Ok(write!(
-            answer.notes,
+    /// Notes that a type has no size of its own.
+    fn note_unsized(&mut self, name: &str) -> Result<(), Failure> {
+        Ok(write!(
+            self.notes,
             "types: {name} has no size of its own, and is passed over\n"
-        )?);
-    };
-    match put_tree(alloc, answer, under, names, name, report) {
-        Ok(()) => Ok(()),
-        Err(error) => Err(refusal_of(alloc, name, own, error)),
+        )?)
     }
-}
 
-/// Tells of what a type that stands here was read as, or of its fault.
-fn add_found(
-    alloc: Global,
-    answer: &mut Answer,
-    under: Under<'_>,
-    sources: &Sources,
-    name: &str,
-    found: Result<Option<TypeReport>, Fault>,
-    own: Spot,
-) -> Result<(), Failure> {
-    match found {
-        Ok(report) => {
-            let names = sources.names();
-            add_type(alloc, answer, under, names, name, report.as_ref(), own)
-        }
-        Err(fault) => Err(failure_of(alloc, sources, &fault, own)),
-    }
-}
-
-/// Tells of each type of the source.
-fn add_all(
-    alloc: Global,
-    answer: &mut Answer,
-    under: Under<'_>,
-    sources: &Sources,
-) -> Result<(), Failure> {
-    let mut name = String::new(alloc);
-    for item in 0..sources.item_count() {
-        if sources.is_reported(item) {
-            name.clear();
-            sources.write_name(&mut name, item)?;
-            let found = sources.type_of(alloc, under.dl, item);
-            let own = Spot::Nowhere.of(sources.place_of(item));
-            add_found(alloc, answer, under, sources, name.as_str(), found, own)?;
+    /// Reports on what a type was read as, or fails by its fault.
+    fn add_found(
+        &mut self,
+        cx: ReportContext<'_>,
+        sources: &Sources,
+        place: NamePlace<'_>,
+        found: Result<Option<TypeReport>, Fault>,
+    ) -> Result<(), Failure> {
+        let report = match found {
+            Ok(Some(report)) => report,
+            Ok(None) => return self.note_unsized(place.name),
+            Err(fault) => return Err(failure_of(self.alloc, sources, &fault, place.own)),
+        };
+        let ty = NamedType {
+            names: sources.names(),
+            name: place.name,
+            report: &report,
+        };
+        match self.put_tree(cx, ty) {
+            Ok(()) => Ok(()),
+            Err(error) => Err(refusal_of(self.alloc, place.name, place.own, error)),
         }
     }
-    Ok(())
-}
 
-/// Tells of the types that are asked for.
-fn add_asked(
-    alloc: Global,
-    answer: &mut Answer,
-    under: Under<'_>,
-    sources: &mut Sources,
-    types: &[&str],
-) -> Result<(), Failure> {
-    for (before, name) in types.iter().enumerate() {
-        let found = sources.type_written(alloc, under.dl, name);
-        let own = Spot::Asked(before, 0);
-        add_found(alloc, answer, under, sources, name, found, own)?;
+    /// Reports on each type of the source.
+    fn add_all(&mut self, cx: ReportContext<'_>, sources: &Sources) -> Result<(), Failure> {
+        let mut name = String::new(self.alloc);
+        for item in 0..sources.item_count() {
+            if sources.is_reported(item) {
+                name.clear();
+                sources.write_name(&mut name, item)?;
+                let found = sources.type_of(self.alloc, cx.dl, item);
+                let place = NamePlace {
+                    name: name.as_str(),
+                    own: Spot::Nowhere.of(sources.place_of(item)),
+                };
+                self.add_found(cx, sources, place, found)?;
+            }
+        }
+        Ok(())
     }
-    Ok(())
-}
 
-/// Reads the source, and reports on its types.
-fn answer_read(
-    alloc: Global,
-    answer: &mut Answer,
-    options: &Options<'_>,
-    under: Under<'_>,
-    target: &Target,
-    sources: &mut Sources,
-) -> Result<(), Failure> {
-    if let Err(fault) = sources.read(alloc, &target.cfg, options.is_root, under.source) {
-        return Err(failure_of(alloc, sources, &fault, Spot::Nowhere));
+    /// Reports on the types that are asked for.
+    fn add_asked(
+        &mut self,
+        cx: ReportContext<'_>,
+        sources: &mut Sources,
+        types: &[&str],
+    ) -> Result<(), Failure> {
+        for (before, name) in types.iter().enumerate() {
+            let found = sources.type_written(self.alloc, cx.dl, name);
+            let place = NamePlace {
+                name,
+                own: Spot::Asked(before, 0),
+            };
+            self.add_found(cx, sources, place, found)?;
+        }
+        Ok(())
     }
-    write_notes(
-        alloc,
-        &mut answer.notes,
-        sources,
-        options.file,
-        under.source,
-    )?;
-    if options.types.is_empty() {
-        add_all(alloc, answer, under, sources)
-    } else {
-        add_asked(alloc, answer, under, sources, &options.types)
-    }
-}
 
-/// Reports on types under a target, whose name is printed where several are asked for.
-fn answer_under(
-    alloc: Global,
-    answer: &mut Answer,
-    options: &Options<'_>,
-    target: &Target,
-    dl: &TargetDataLayout,
-    source: &str,
-) -> Result<(), Failure> {
-    let is_one = options.targets.len() == 1;
-    let triple = if is_one { None } else { Some(target.triple) };
-    if let Some(triple) = triple {
-        write!(answer.text, "target {triple}\n")?;
-    }
-    let under = Under {
-        form: options.form,
-        dl,
-        source,
-        triple,
-    };
-    let mut sources = Sources::new(alloc)?;
-    answer_read(alloc, answer, options, under, target, &mut sources)
-}
-
-/// Tells of types under each target that is asked for.
-fn answer_targets(
-    alloc: Global,
-    answer: &mut Answer,
-    options: &Options<'_>,
-    source: &str,
-) -> Result<(), Failure> {
-    if !options.names_target {
-        answer.notes.push_str(
-            "types: laid out for x86_64-unknown-linux-gnu; --target names another target\n",
-        )?;
-    }
-    for target in &options.targets {
-        match data_layout_of(alloc, target) {
-            Ok(dl) => answer_under(alloc, answer, options, target, &dl, source)?,
-            Err(_) => return Err(Failure::OutOfMemory),
+    /// Reads the source, and reports on its types.
+    fn add_source(
+        &mut self,
+        options: &Options<'_>,
+        cx: ReportContext<'_>,
+        target: &Target,
+    ) -> Result<(), Failure> {
+        let alloc = self.alloc;
+        let mut sources = Sources::new(alloc)?;
+        if let Err(fault) = sources.read(alloc, &target.cfg, options.is_root, cx.source) {
+            return Err(failure_of(alloc, &sources, &fault, Spot::Nowhere));
+        }
+        write_notes(alloc, &mut self.notes, &sources, options.file, cx.source)?;
+        if options.types.is_empty() {
+            self.add_all(cx, &sources)
+        } else {
+            self.add_asked(cx, &mut sources, &options.types)
         }
     }
-    Ok(())
+
+    /// Reports on types under a target, whose name is printed where several are asked for.
+    fn add_target(
+        &mut self,
+        options: &Options<'_>,
+        target: &Target,
+        dl: &TargetDataLayout,
+        source: &str,
+    ) -> Result<(), Failure> {
+        let is_one = options.targets.len() == 1;
+        let triple = if is_one { None } else { Some(target.triple) };
+        if let Some(triple) = triple {
+            write!(self.text, "target {triple}\n")?;
+        }
+        let cx = ReportContext {
+            form: options.form,
+            dl,
+            source,
+            triple,
+        };
+        self.add_source(options, cx, target)
+    }
+
+    /// Reports on types under each target that is asked for.
+    fn add_targets(&mut self, options: &Options<'_>, source: &str) -> Result<(), Failure> {
+        if !options.names_target {
+            self.notes.push_str(
+                "types: laid out for x86_64-unknown-linux-gnu; --target names another target\n",
+            )?;
+        }
+        for target in &options.targets {
+            match data_layout_of(self.alloc, target) {
+                Ok(dl) => self.add_target(options, target, &dl, source)?,
+                Err(_) => return Err(Failure::OutOfMemory),
+            }
+        }
+        Ok(())
+    }
 }
 
-/// Tells of the types of a source under each target that is asked for.
+/// Reports on the types of a source under each target that is asked for.
 pub(crate) fn answer_source(
     alloc: Global,
     options: &Options<'_>,
     source: &str,
 ) -> Result<Answer, Failure> {
     let mut answer = Answer::new(alloc);
-    match answer_targets(alloc, &mut answer, options, source) {
+    match answer.add_targets(options, source) {
         Ok(()) => Ok(answer),
         Err(failure) => Err(failure),
     }

@@ -21,6 +21,7 @@ const MOST_LISTED: u64 = 65_536;
 /// What types are written as JSON with.
 #[derive(Clone, Copy)]
 pub(crate) struct JsonContext<'a> {
+    pub(crate) alloc: Global,
     pub(crate) dl: &'a TargetDataLayout,
     pub(crate) names: &'a Names,
     /// The file, of which types are cut out as they are written.
@@ -67,41 +68,39 @@ fn size_of_tree(alloc: Global, dl: &TargetDataLayout, tree: &TypeTree) -> Result
 
 /// A field: its name, its type as it is written, its offset and its size.
 fn field_value(
-    alloc: Global,
     cx: JsonContext<'_>,
     label: &Label,
     offset: u64,
     tree: &TypeTree,
 ) -> Result<Value, LayError> {
-    let mut object = Map::new(alloc);
-    let mut name = String::new(alloc);
+    let mut object = Map::new(cx.alloc);
+    let mut name = String::new(cx.alloc);
     write_field_name(&mut name, cx.names, label.name)?;
-    put_member(alloc, &mut object, "name", Value::String(name))?;
+    put_member(cx.alloc, &mut object, "name", Value::String(name))?;
     let written = cx.source.get(label.start.0 as usize..label.end.0 as usize);
-    put_text(alloc, &mut object, "type", written.unwrap_or(""))?;
-    put_number(alloc, &mut object, "offset", offset)?;
+    put_text(cx.alloc, &mut object, "type", written.unwrap_or(""))?;
+    put_number(cx.alloc, &mut object, "offset", offset)?;
     put_number(
-        alloc,
+        cx.alloc,
         &mut object,
         "size",
-        size_of_tree(alloc, cx.dl, tree)?,
+        size_of_tree(cx.alloc, cx.dl, tree)?,
     )?;
     Ok(Value::Object(object))
 }
 
 /// Fields, in source order.
 fn fields_value(
-    alloc: Global,
     cx: JsonContext<'_>,
     labels: &[Label],
     offsets: &[Size],
     trees: &[TypeTree],
 ) -> Result<Value, LayError> {
-    let mut all = Vec::new(alloc);
+    let mut all = Vec::new(cx.alloc);
     for (index, label) in labels.iter().enumerate() {
         if let Some(tree) = trees.get(index) {
             let offset = offset_at(offsets, index);
-            all.push(field_value(alloc, cx, label, offset, tree)?)?;
+            all.push(field_value(cx, label, offset, tree)?)?;
         }
     }
     Ok(Value::Array(all))
@@ -133,20 +132,19 @@ fn variant_offsets(laid: &Laid, variant: usize) -> &[Size] {
 
 /// The variants of an enum, each with its name and its fields.
 fn variants_value(
-    alloc: Global,
     cx: JsonContext<'_>,
     labels: &[VariantLabels],
     laid: &Laid,
     trees: &[(u128, Vec<TypeTree>)],
 ) -> Result<Value, LayError> {
-    let mut all = Vec::new(alloc);
+    let mut all = Vec::new(cx.alloc);
     for (index, label) in labels.iter().enumerate() {
         if let Some((_, fields)) = trees.get(index) {
-            let mut object = Map::new(alloc);
-            put_text(alloc, &mut object, "name", cx.names.text(label.name))?;
+            let mut object = Map::new(cx.alloc);
+            put_text(cx.alloc, &mut object, "name", cx.names.text(label.name))?;
             let offsets = variant_offsets(laid, index);
-            let fields = fields_value(alloc, cx, &label.fields, offsets, fields)?;
-            put_member(alloc, &mut object, "fields", fields)?;
+            let fields = fields_value(cx, &label.fields, offsets, fields)?;
+            put_member(cx.alloc, &mut object, "fields", fields)?;
             all.push(Value::Object(object))?;
         }
     }
@@ -180,7 +178,6 @@ fn variant_name<'a>(cx: JsonContext<'a>, labels: &[VariantLabels], variant: usiz
 
 /// The tag of an enum: where it lies, what it holds, and how it names a variant; null where it has none.
 fn tag_value(
-    alloc: Global,
     cx: JsonContext<'_>,
     labels: &[VariantLabels],
     laid: &Laid,
@@ -195,12 +192,12 @@ fn tag_value(
     else {
         return Ok(Value::Null);
     };
-    let mut object = Map::new(alloc);
+    let mut object = Map::new(cx.alloc);
     let offset = offset_at(offsets_of(layout), tag_field.as_usize());
-    put_number(alloc, &mut object, "offset", offset)?;
-    put_scalar(alloc, &mut object, *tag)?;
+    put_number(cx.alloc, &mut object, "offset", offset)?;
+    put_scalar(cx.alloc, &mut object, *tag)?;
     match *tag_encoding {
-        TagEncoding::Direct => put_text(alloc, &mut object, "encoding", "direct")?,
+        TagEncoding::Direct => put_text(cx.alloc, &mut object, "encoding", "direct")?,
         TagEncoding::Niche {
             untagged_variant,
             niche_variants,
@@ -209,12 +206,12 @@ fn tag_value(
             let untagged = variant_name(cx, labels, untagged_variant.as_usize());
             let first = variant_name(cx, labels, niche_variants.start.as_usize());
             let last = variant_name(cx, labels, niche_variants.last.as_usize());
-            let start = format!(in alloc; "{niche_start}")?;
-            put_text(alloc, &mut object, "encoding", "niche")?;
-            put_text(alloc, &mut object, "untagged", untagged)?;
-            put_text(alloc, &mut object, "first", first)?;
-            put_text(alloc, &mut object, "last", last)?;
-            put_text(alloc, &mut object, "start", start.as_str())?;
+            let start = format!(in cx.alloc; "{niche_start}")?;
+            put_text(cx.alloc, &mut object, "encoding", "niche")?;
+            put_text(cx.alloc, &mut object, "untagged", untagged)?;
+            put_text(cx.alloc, &mut object, "first", first)?;
+            put_text(cx.alloc, &mut object, "last", last)?;
+            put_text(cx.alloc, &mut object, "start", start.as_str())?;
         }
     }
     Ok(Value::Object(object))
@@ -259,7 +256,6 @@ fn padding_value(alloc: Global, laid: &Laid) -> Result<Value, AllocError> {
 
 /// Puts the fields of a struct, a union or an enum's variants, as its shape has them.
 fn put_parts(
-    alloc: Global,
     object: &mut Map<String, Value>,
     cx: JsonContext<'_>,
     shape: &Shape,
@@ -276,17 +272,17 @@ fn put_parts(
             },
         ) => {
             let offsets = offsets_of(laid.layout());
-            let fields = fields_value(alloc, cx, labels, offsets, fields)?;
-            put_member(alloc, object, "fields", fields)?;
+            let fields = fields_value(cx, labels, offsets, fields)?;
+            put_member(cx.alloc, object, "fields", fields)?;
         }
         (Shape::Union(labels), TypeTree::Union { repr: _, fields }) => {
-            let fields = fields_value(alloc, cx, labels, &[], fields)?;
-            put_member(alloc, object, "fields", fields)?;
+            let fields = fields_value(cx, labels, &[], fields)?;
+            put_member(cx.alloc, object, "fields", fields)?;
         }
         (Shape::Enum(labels), TypeTree::Enum { repr: _, variants }) => {
-            let all = variants_value(alloc, cx, labels, laid, variants)?;
-            put_member(alloc, object, "variants", all)?;
-            put_member(alloc, object, "tag", tag_value(alloc, cx, labels, laid)?)?;
+            let all = variants_value(cx, labels, laid, variants)?;
+            put_member(cx.alloc, object, "variants", all)?;
+            put_member(cx.alloc, object, "tag", tag_value(cx, labels, laid)?)?;
         }
         _ => {}
     }
@@ -296,7 +292,6 @@ fn put_parts(
 /// A type as a JSON object: its name, size and alignment in bytes; and of a type with fields or variants these, the tag,
 /// the largest niche and the padding.
 pub(crate) fn type_value(
-    alloc: Global,
     cx: JsonContext<'_>,
     name: &str,
     shape: &Shape,
@@ -306,19 +301,24 @@ pub(crate) fn type_value(
     requires { (layout_of (placed_of laid.now)).align.abi < 64 }
 {
     let layout = laid.layout();
-    let mut object = Map::new(alloc);
-    put_text(alloc, &mut object, "name", name)?;
-    put_number(alloc, &mut object, "size", layout.size.bytes())?;
-    put_number(alloc, &mut object, "align", layout.align.abi.bytes())?;
+    let mut object = Map::new(cx.alloc);
+    put_text(cx.alloc, &mut object, "name", name)?;
+    put_number(cx.alloc, &mut object, "size", layout.size.bytes())?;
+    put_number(cx.alloc, &mut object, "align", layout.align.abi.bytes())?;
     if !matches!(shape, Shape::Plain) {
-        put_parts(alloc, &mut object, cx, shape, tree, laid)?;
+        put_parts(&mut object, cx, shape, tree, laid)?;
         put_member(
-            alloc,
+            cx.alloc,
             &mut object,
             "niche",
-            niche_value(alloc, layout.largest_niche)?,
+            niche_value(cx.alloc, layout.largest_niche)?,
         )?;
-        put_member(alloc, &mut object, "padding", padding_value(alloc, laid)?)?;
+        put_member(
+            cx.alloc,
+            &mut object,
+            "padding",
+            padding_value(cx.alloc, laid)?,
+        )?;
     }
     Ok(object)
 }

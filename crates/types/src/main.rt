@@ -109,6 +109,7 @@ fn print_answer(rt: &HostRuntime, form: Form, answer: Answer) -> u8 {
         text,
         values,
         notes,
+        ..
     } = answer;
     let _ = rt.eprint(notes.as_str());
     let text = if form == Form::Json {
