@@ -37,7 +37,7 @@ class Coroutine:
 
     def __str__(self):
         states, conflicts = map(listed, self.states), (local for pair in self.conflicts for local in pair)
-        return f"{listed(self.prefix)} {listed(self.locals)} {listed(states)} {listed(conflicts)}"
+        return f"coroutine {listed(self.prefix)} {listed(self.locals)} {listed(states)} {listed(conflicts)}"
 
     def stand_together(self, a, b):
         """Whether a state holds both locals."""
@@ -130,10 +130,10 @@ def judged(it, answer):
 
 
 def tried(row):
-    """`random-coroutines SEED COUNT ( L .. )`"""
+    """`random-coroutines SEED COUNT ( T .. )`"""
     data_layout, fields = yield from known(row)
     coroutines = [some_coroutine(row.dice, data_layout, fields) for _ in range(row.count)]
-    lines = [row.line("coroutine", it) for it in coroutines]
+    lines = [row.line("layout", it) for it in coroutines]
     [answers] = yield from asked(lines)
     tally = Tally("shared", "overlapping", "other")
     for it, line, answer in zip(coroutines, lines, answers):

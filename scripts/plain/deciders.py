@@ -1,55 +1,52 @@
 """Types at random: a byte decides exactly where it isn't padding and each type in the type has values."""
-import re
-
 from plain.grown import grown
 from plain.layouts import layout_or_stop, runs_of
 from plain.rows import Tally, asked
 
-RUNS = re.compile(r"none|\d+\.\.\d+( \d+\.\.\d+)*")
+# So many places of a type are asked for, and the one behind it.
+MOST_PLACES = 8
 
 
 def places_of(runs):
     return {place for start, end in runs_of(runs) for place in range(start, end)}
 
 
-def verdicts(size, padding, inhabited, decides):
-    """What each place of a type is found to be, the one behind it with them: a pair of byte lists decides there, or none does."""
-    if not RUNS.fullmatch(decides):
-        return ["wrong"]
-    told, data = places_of(decides), set(range(size)) - places_of(padding)
-    wanted = data if inhabited == "true" else set()
-    return ["wrong" if (place in told) != (place in wanted) else "pair" if place in told else "none" for place in range(size + 1)]
+def some_places(dice, size):
+    """All places of a type of this size, or some, and the one behind it."""
+    return [*(range(size) if size <= MOST_PLACES else sorted({dice.roll(size) for _ in range(MOST_PLACES)})), size]
 
 
-def differ_at(a, b, place):
-    """Whether two byte lists differ at this place alone."""
+def differ_at(a, b, size, place):
+    """Whether two byte lists of this size differ at this place alone."""
     a, b = a.split(), b.split()
-    return len(a) == len(b) and [at for at in range(len(a)) if a[at] != b[at]] == [place]
+    return len(a) == len(b) == size and [at for at in range(size) if a[at] != b[at]] == [place]
 
 
-def tried_pairs(row, places, tally):
-    """Asks for the pair at one place of each of these types, and reads it: the first bytes hold a value that the second don't hold."""
-    lines = [row.line("decider", text, place) for text, place in places]
-    [answers] = yield from asked(lines)
-    firsts, _, seconds = zip(*(answer.partition(" | ") for answer in answers)) if answers else ([], [], [])
-    reads = [[row.line("read", text, own) for (text, _), own in zip(places, pair)] for pair in (firsts, seconds)]
-    values, others = yield from asked(*reads)
-    for (_, place), line, answer, a, b, value, other in zip(places, lines, answers, firsts, seconds, values, others):
-        if not differ_at(a, b, place) or value == "none" or value == other:
-            tally.count("wrong", line, answer)
+def judged(size, place, decides, answer, held):
+    """What a place of a type is found to be, where bytes have to decide or not: the pair that is told differs there alone, and what the
+    first bytes hold the second don't; no bytes do; or wrong."""
+    if answer == "none":
+        return "wrong" if decides else "none"
+    (a, _, b), (value, other) = answer.partition(" | "), held
+    return "pair" if decides and differ_at(a, b, size, place) and value not in ("none", other) else "wrong"
 
 
 def tried(row):
     """`random-deciders SEED COUNT`"""
     row.words.end()
     texts = [it.text for it in grown(row.dice, row.count)]
-    lines = [[row.line(name, text) for text in texts] for name in ("layout", "laid-padding", "all-inhabited", "decides")]
-    answers = yield from asked(*lines)
-    tally, places = Tally("pair", "none"), []
-    for text, line, layout, padding, inhabited, decides in zip(texts, lines[3], *answers):
-        for verdict in verdicts(layout_or_stop(layout).size, padding, inhabited, decides):
-            tally.count(verdict, line, decides)
-        if places_of(decides):
-            places.append((text, row.dice.one_of(sorted(places_of(decides)))))
-    yield from tried_pairs(row, places, tally)
+    told = yield from asked(*([row.line(name, text) for text in texts] for name in ("layout", "laid-padding", "all-inhabited")))
+    tries = []
+    for text, layout, padding, inhabited in zip(texts, *told):
+        size = layout_or_stop(layout).size
+        data = set(range(size)) - places_of(padding) if inhabited == "true" else set()
+        tries += [(text, size, place, place in data) for place in some_places(row.dice, size)]
+    lines = [row.line("decider", text, place) for text, _, place, _ in tries]
+    [answers] = yield from asked(lines)
+    pairs = [answer.partition(" | ") for answer in answers]
+    reads = [[row.line("read", text, pair[at]) for (text, *_), pair in zip(tries, pairs) if pair[1]] for at in (0, 2)]
+    held = iter(zip(*(yield from asked(*reads))))
+    tally = Tally("pair", "none")
+    for (_, size, place, decides), line, answer, pair in zip(tries, lines, answers, pairs):
+        tally.count(judged(size, place, decides, answer, next(held) if pair[1] else ("none", "none")), line, answer)
     return tally

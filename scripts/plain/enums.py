@@ -15,15 +15,23 @@ MOST_FIELDS = 5
 class Enum:
     data_layout: DataLayout
     repr: Repr
-    # the integer that is answered where the tag's is asked for
-    width: int
-    is_signed: bool
-    # for each variant its fields
+    # for each variant its discriminant, and its fields
+    numbers: list
     variants: list
 
     def __str__(self):
-        variants = (f"{number} {listed(fields)}" for number, fields in enumerate(self.variants))
-        return f"{integer(self.width, self.is_signed)} {self.repr} {listed(variants)}"
+        variants = (f"{number} {listed(fields)}" for number, fields in zip(self.numbers, self.variants))
+        return f"enum {self.repr} {listed(variants)}"
+
+    @cached_property
+    def width(self):
+        """The bytes of the tag's integer: the one that is named, or the least that has 0 and the discriminants that count, which are all
+        under C, and else those of variants with values. Under C it has no fewer than an `int`, where an index has as many."""
+        if self.repr.integer:
+            return int(self.repr.integer[1:]) // 8
+        counting = [number for number, fields in zip(self.numbers, self.variants) if self.repr.is_c or has_values(fields)]
+        least = width_with([0, *counting])
+        return max(least, min(4, self.data_layout.index)) if self.repr.is_c else least
 
     def has_several(self):
         """Whether there are several variants to tell apart: two that are present, or any where the layout isn't free."""
@@ -92,10 +100,20 @@ def integer(width, is_signed):
     return f"{'i' if is_signed else 'u'}{8 * width}"
 
 
+def width_with(numbers):
+    """The bytes of the least integer that has these numbers, with a sign where one is negative."""
+    is_signed = min(numbers) < 0
+    return next(it for it in (1, 2, 4, 8, 16) if max(max(numbers), -1 - min(numbers)) < 1 << 8 * it - is_signed)
+
+
+def has_values(fields):
+    return not any(it.layout.is_uninhabited for it in fields)
+
+
 def is_absent(fields):
     """Whether a variant is absent: without values, and without room."""
     takes_room = any(it.layout.is_unsized or it.layout.size > 0 or it.layout.align > 1 for it in fields)
-    return not takes_room and any(it.layout.is_uninhabited for it in fields)
+    return not takes_room and not has_values(fields)
 
 
 def some_repr(dice):
@@ -112,12 +130,19 @@ def some_repr(dice):
     return Repr(is_c=True, align=dice.align()) if roll == 7 else Repr()
 
 
-def some_enum(dice, data_layout, fields):
-    """An enum of two to six variants of at most five of these fields. Its tag is no larger than its discriminants."""
-    repr = some_repr(dice)
+def some_numbers(dice, repr, data_layout, count):
+    """So many discriminants, one after another, from 0 or -1 on, but for the last one, which needs an integer of a width at random."""
     most = int(repr.integer[1:]) // 8 if repr.integer else data_layout.index
-    width, is_signed = dice.width(most), dice.is_one_of(2)
-    return Enum(data_layout, repr, width, is_signed, [dice.some_of(fields, MOST_FIELDS) for _ in range(2 + dice.roll(5))])
+    is_signed = not (repr.integer or "i").startswith("u")
+    first, last = -1 if is_signed and dice.is_one_of(3) else 0, 1 << 8 * (dice.width(most) - 1)
+    return [first + place for place in range(count - 1)] + [max(last, first + count - 1)]
+
+
+def some_enum(dice, data_layout, fields):
+    """An enum of two to six variants of at most five of these fields."""
+    repr, count = some_repr(dice), 2 + dice.roll(5)
+    numbers = some_numbers(dice, repr, data_layout, count)
+    return Enum(data_layout, repr, numbers, [dice.some_of(fields, MOST_FIELDS) for _ in range(count)])
 
 
 def judged(it, answer, greatest):
@@ -134,10 +159,10 @@ def judged(it, answer, greatest):
 
 
 def tried(row):
-    """`random-enums SEED COUNT ( L .. )`"""
+    """`random-enums SEED COUNT ( T .. )`"""
     data_layout, fields = yield from known(row)
     enums = [some_enum(row.dice, data_layout, fields) for _ in range(row.count)]
-    lines = [row.line("enum", it) for it in enums]
+    lines = [row.line("layout", it) for it in enums]
     # (where the niche lies is told by the greatest variant's own list)
     own = {at: it.greatest_line(row) for at, it in enumerate(enums) if it.may_have_niche()}
     answers, lists = yield from asked(lines, list(own.values()))

@@ -1,4 +1,5 @@
 """What a row knows of its data layout, and the fields that its types are made of."""
+import re
 from dataclasses import dataclass
 
 from plain.layouts import Layout, layout_or_stop, numbers_of
@@ -30,12 +31,14 @@ class Field:
         return self.text
 
 
-def data_layout_of(bound, pointer, aligns):
-    """The data layout of which these calls answer so; the alignments are those of i1 to i128, of four floats, and of lists of fields."""
+def data_layout_of(bound, parts):
+    """The data layout of which `bound` and `read-data-layout` answer so."""
     if not bound[0].isdecimal():
         raise Stop(bound)
-    (most, bits), aligns = numbers_of(bound), numbers_of(aligns)
-    return DataLayout(most, numbers_of(pointer)[0], bits // 8, dict(zip([1, 2, 4, 8, 16], aligns[1:])), aligns[-1])
+    (most, bits), pointer = numbers_of(bound), re.search(r"pointer_size: Size\((\d+)", parts)[1]
+    aligns = {name: int(align) for name, align in re.findall(r"(\w+)_align: Align\((\d+)", parts)}
+    integers = {width: aligns[f"i{8 * width}"] for width in (1, 2, 4, 8, 16)}
+    return DataLayout(most, int(pointer), bits // 8, integers, aligns["aggregate"])
 
 
 def read_field(words):
@@ -46,17 +49,12 @@ def read_field(words):
     return words.since(first)
 
 
-def asking(row, text):
-    """The line that asks for the layout of a field."""
-    return row.line("slice", text.removeprefix("slice ")) if text.startswith("slice ") else row.line("layout", text)
-
-
 def known(row):
     """Asks for the row's data layout, and for the layouts of the fields between its parentheses."""
     texts = row.words.list(read_field)
     row.words.end()
     if not texts:
         raise Stop("asks fields")
-    facts = [row.line(name, row.data_layout) for name in ("bound", "pointer", "aligns")]
-    told, layouts = yield from asked(facts, [asking(row, text) for text in texts])
+    facts = [row.line(name, row.data_layout) for name in ("bound", "read-data-layout")]
+    told, layouts = yield from asked(facts, [row.line("layout", text) for text in texts])
     return data_layout_of(*told), [Field(text, layout_or_stop(layout)) for text, layout in zip(texts, layouts)]

@@ -1,4 +1,4 @@
-"""Layouts, as ./calls writes them (docs/FORMATS.md, "Layouts, lists and enums")."""
+"""Layouts, as ./calls writes them (docs/FORMATS.md, "Layouts and lists")."""
 import re
 from dataclasses import dataclass, field
 

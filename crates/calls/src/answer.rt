@@ -2,94 +2,87 @@
 
 ghost use Rattle.abi_base.specs.DataLayout.{IsLawfulDataLayout};
 
-use crate::call::{Call, Place};
+use crate::command::{Command, Place};
 use crate::stop::{Clause, OUT_OF_MEMORY, Stop};
-use crate::{
-    coroutines, data_layouts, enums, laws, lists, numbers, ranges, registers, sets, types, values,
-};
+use crate::{data_layouts, lists, numbers, ranges, registers, sets, types};
 use abi_base::{Endian, TargetDataLayout};
 use std::alloc::{AllocError, Global};
 
 /// Answers the call; whether there is one of this name.
-fn answer_call(dl: &TargetDataLayout, call: &mut Call) -> bool
+fn answer_call(dl: &TargetDataLayout, command: &mut Command) -> bool
     requires { IsLawfulDataLayout dl.now }
 {
-    lists::answers(dl, call)
-        || laws::answers(dl, call)
-        || enums::answers(dl, call)
-        || coroutines::answers(dl, call)
-        || types::answers(dl, call)
-        || registers::answers(dl, call)
-        || values::answers(dl, call)
-        || numbers::answers(dl, call)
-        || ranges::answers(dl, call)
-        || data_layouts::answers(call)
-        || sets::answers(call)
+    lists::answers(dl, command)
+        || types::answers(dl, command)
+        || ranges::answers(dl, command)
+        || registers::answers(dl, command)
+        || numbers::answers(dl, command)
+        || data_layouts::answers(command)
+        || sets::answers(command)
 }
 
 /// Answers the call under a data layout, which has to be lawful; whether there is one of this name.
-fn answer_under(dl: &TargetDataLayout, call: &mut Call) -> bool {
+fn answer_under(dl: &TargetDataLayout, command: &mut Command) -> bool {
     if !dl.is_lawful() {
-        call.lacks(Clause::DataLayout);
+        command.lacks(Clause::DataLayout);
         return true;
     }
-    answer_call(dl, call)
+    answer_call(dl, command)
 }
 
 /// Answers the call of a line, or stops.
-fn answer_words(call: &mut Call) -> Result<(), Stop> {
-    let text = if call.takes(b"under") {
-        call.text()
+fn answer_words(command: &mut Command) -> Result<(), Stop> {
+    let text = if command.takes(b"under") {
+        command.text()
     } else {
         Place::NOWHERE
     };
-    call.read_name();
-    call.go_on()?;
-    let unknown = Stop::Unreadable(call.count());
-    let mut dl = data_layouts::read(call.alloc, call.text_at(text))?;
-    if call.takes(b"le") {
+    command.read_name();
+    command.go_on()?;
+    let unknown = Stop::Unreadable(command.count());
+    let mut dl = data_layouts::read(command.alloc, command.text_at(text))?;
+    if command.takes(b"le") {
         dl.endian = Endian::Little;
-    } else if call.takes(b"be") {
+    } else if command.takes(b"be") {
         dl.endian = Endian::Big;
     }
-    if !answer_under(&dl, call) {
-        call.stop(unknown);
+    if !answer_under(&dl, command) {
+        command.stop(unknown);
     }
-    call.end();
-    call.go_on()
+    command.end();
+    command.go_on()
 }
 
 /// Writes why a line has no answer but a refusal.
-fn write_stop(call: &mut Call, stop: Stop) {
+fn write_stop(command: &mut Command, stop: Stop) {
     match stop {
-        Stop::Unreadable(number) => call.put("unreadable word ", number),
+        Stop::Unreadable(number) => command.put("unreadable word ", number),
         Stop::Refused(name) => {
-            call.write("refused ");
-            call.write(name.as_str());
+            command.write("refused ");
+            command.write(name.as_str());
         }
         Stop::Asks(clause) => {
-            call.write("asks ");
-            call.write(clause.as_str());
+            command.write("asks ");
+            command.write(clause.as_str());
         }
-        Stop::OutOfMemory => call.write(OUT_OF_MEMORY),
-        Stop::Changed => call.write("changed"),
+        Stop::OutOfMemory => command.write(OUT_OF_MEMORY),
     }
 }
 
-/// The call of a line, with its answer.
-fn answered(alloc: Global, line: &[u8]) -> Result<Call, AllocError> {
-    let mut call = Call::new(alloc, line)?;
-    if let Err(stop) = answer_words(&mut call) {
-        call.clear();
-        write_stop(&mut call, stop);
+/// The command that a line is, with its answer.
+fn answered(alloc: Global, line: &[u8]) -> Result<Command, AllocError> {
+    let mut command = Command::new(alloc, line)?;
+    if let Err(stop) = answer_words(&mut command) {
+        command.clear();
+        write_stop(&mut command, stop);
     }
-    Ok(call)
+    Ok(command)
 }
 
 /// Writes the answer to a line, and ends it.
 pub(crate) fn answer_line(alloc: Global, out: &mut String, line: &[u8]) -> Result<(), AllocError> {
     match answered(alloc, line) {
-        Ok(call) => out.push_str(call.answer())?,
+        Ok(command) => out.push_str(command.answer())?,
         Err(_) => out.push_str(OUT_OF_MEMORY)?,
     }
     out.push_str("\n")

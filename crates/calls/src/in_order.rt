@@ -2,9 +2,9 @@
 
 ghost use Rattle.abi_base.specs.DataLayout.{IsLawfulDataLayout};
 
-use crate::call::Call;
+use crate::command::Command;
 use crate::layouts::{Layout, layouts};
-use crate::lists::{kind, list_made};
+use crate::lists::{list_made, list_repr};
 use crate::stop::Stop;
 use abi_base::TargetDataLayout;
 use abi_index::FieldIdx;
@@ -19,28 +19,30 @@ fn field_index(number: u32) -> Option<FieldIdx> {
 }
 
 /// The indices of fields between the parentheses that are next.
-fn order_of(call: &mut Call) -> Vec<FieldIdx> {
-    call.expect(b"(");
-    let mut order = Vec::new(call.alloc);
+fn order_of(command: &mut Command) -> Vec<FieldIdx> {
+    command.expect(b"(");
+    let mut order = Vec::new(command.alloc);
     for _ in 0..u64::MAX {
-        if !call.has_more() {
+        if !command.has_more() {
             break;
         }
-        let number = call.short();
-        let index = call.fits(field_index(number), FieldIdx::from_u32(0));
-        call.grow(order.push(index));
+        let number = command.short();
+        let index = command.fits(field_index(number), FieldIdx::from_u32(0));
+        command.grow(order.push(index));
     }
     order
 }
 
 /// `univariant-in-order REPR KIND ( NUMBER.. ) ( LAYOUT.. )`: the repr is flagged as one whose fields may be shuffled.
-pub(crate) fn univariant_in_order(dl: &TargetDataLayout, call: &mut Call) -> Result<Layout, Stop>
+pub(crate) fn univariant_in_order(
+    dl: &TargetDataLayout,
+    command: &mut Command,
+) -> Result<Layout, Stop>
     requires { IsLawfulDataLayout dl.now }
 {
-    let mut repr = call.repr().repr;
-    repr.flags = repr.flags | ReprFlags::RANDOMIZE_LAYOUT;
-    let kind = kind(call);
-    let order = order_of(call);
-    let made = layouts(dl, call);
-    list_made(call.alloc, dl, &made, &repr, &kind, Some(order.as_slice()))
+    let mut asked = list_repr(command);
+    asked.repr.flags = asked.repr.flags | ReprFlags::RANDOMIZE_LAYOUT;
+    let order = order_of(command);
+    let made = layouts(dl, command);
+    list_made(command.alloc, dl, &made, &asked, Some(order.as_slice()))
 }

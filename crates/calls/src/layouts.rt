@@ -4,14 +4,14 @@ ghost use Rattle.std.specs.Prelude.{◌≤◌, All, IfOk, IfSome, IsTrue, length
 ghost use Rattle.abi_base.specs.DataLayout.{IsLawfulDataLayout};
 ghost use Rattle.abi_scalar.specs.Lawful.{IsLawfulLayout};
 
-use crate::call::Call;
-use crate::laws::{beyond, lanes, pair, put_tag};
+use crate::changes::change;
+use crate::command::Command;
 use crate::stop::{Clause, Stop, calculator};
-use abi_base::{AbiAlign, Align, Size, TargetDataLayout};
+use abi_base::{Align, TargetDataLayout};
 use abi_calc::LayoutCalculator;
-use abi_index::{FieldIdx, Hash64, TryClone, VariantIdx};
+use abi_index::{FieldIdx, TryClone, VariantIdx};
 use abi_laid::{Laid, TypeTree};
-use abi_scalar::{BackendRepr, LayoutCalculatorError, LayoutData, Niche, Scalar};
+use abi_scalar::{LayoutCalculatorError, LayoutData};
 use rustc_abi::lay_out;
 use std::alloc::{AllocError, Global};
 
@@ -22,11 +22,7 @@ pub(crate) type Layout = LayoutData<FieldIdx, VariantIdx>;
 pub(crate) const MOST_ITEMS: usize = 1_000_000;
 
 /// The type, laid out.
-pub(crate) fn laid_tree(
-    alloc: Global,
-    dl: &TargetDataLayout,
-    tree: &TypeTree,
-) -> Result<Laid, Stop> {
+fn laid_tree(alloc: Global, dl: &TargetDataLayout, tree: &TypeTree) -> Result<Laid, Stop> {
     match lay_out(alloc, dl, tree) {
         Ok(laid) => Ok(laid),
         Err(error) => Err(Stop::from(error)),
@@ -34,9 +30,9 @@ pub(crate) fn laid_tree(
 }
 
 /// The type that the next words write, laid out.
-pub(crate) fn laid_type(dl: &TargetDataLayout, call: &mut Call) -> Result<Laid, Stop> {
-    let tree = call.tree(dl)?;
-    laid_tree(call.alloc, dl, &tree)
+pub(crate) fn laid_type(dl: &TargetDataLayout, command: &mut Command) -> Result<Laid, Stop> {
+    let tree = command.tree(dl)?;
+    laid_tree(command.alloc, dl, &tree)
 }
 
 /// The layout of a type, copied.
@@ -48,9 +44,9 @@ fn copied(alloc: Global, laid: &Laid) -> Result<Layout, Stop> {
 }
 
 /// The layout of the type that the next words write.
-fn type_layout(dl: &TargetDataLayout, call: &mut Call) -> Result<Layout, Stop> {
-    let laid = laid_type(dl, call)?;
-    copied(call.alloc, &laid)
+fn type_layout(dl: &TargetDataLayout, command: &mut Command) -> Result<Layout, Stop> {
+    let laid = laid_type(dl, command)?;
+    copied(command.alloc, &laid)
 }
 
 /// The layout that the calculator answers, or its refusal.
@@ -63,161 +59,66 @@ pub(crate) fn calculated<F: Drop>(
     }
 }
 
-/// The array of `count` of these, or the slice where there is no count.
-pub(crate) fn array_of(
-    dl: &TargetDataLayout,
-    element: &Layout,
-    count: Option<u64>,
-) -> Result<Layout, Stop>
+/// The slice of these.
+fn slice_of(dl: &TargetDataLayout, element: &Layout) -> Result<Layout, Stop>
     requires { IsLawfulDataLayout dl.now }
 {
     if !element.is_lawful(dl) {
         return Err(Stop::Asks(Clause::Element));
     }
-    calculated::<&Layout>(LayoutCalculator::new(dl).layout_of_array_like(element, count))
+    calculated::<&Layout>(LayoutCalculator::new(dl).layout_of_array_like(element, None))
 }
 
 /// The layout that is made; of a line that stops, since there is none, that of the unit type.
-fn or_unit(dl: &TargetDataLayout, call: &mut Call, made: Result<Layout, Stop>) -> Layout {
+fn or_unit(dl: &TargetDataLayout, command: &mut Command, made: Result<Layout, Stop>) -> Layout {
     match made {
         Ok(layout) => layout,
         Err(stop) => {
-            call.stop(stop);
-            Layout::unit(call.alloc, dl, true)
+            command.stop(stop);
+            Layout::unit(command.alloc, dl, true)
         }
     }
 }
 
 /// The layout of the slice of the type that the next words write.
-fn slice_layout(dl: &TargetDataLayout, call: &mut Call) -> Result<Layout, Stop>
+fn slice_layout(dl: &TargetDataLayout, command: &mut Command) -> Result<Layout, Stop>
     requires { IsLawfulDataLayout dl.now }
 {
-    let element = type_layout(dl, call)?;
-    array_of(dl, &element, None)
-}
-
-/// The view of the type that the next words write.
-fn view_of_type(dl: &TargetDataLayout, call: &mut Call) -> BackendRepr {
-    let made = type_layout(dl, call);
-    or_unit(dl, call, made).backend_repr
-}
-
-/// The niche of a scalar at a place.
-fn niche(dl: &TargetDataLayout, call: &mut Call) -> Option<Niche> {
-    let offset = call.size();
-    let before = call.count();
-    match call.scalar(dl) {
-        Scalar::Initialized { value, valid_range } => Some(Niche {
-            offset,
-            value,
-            valid_range,
-        }),
-        Scalar::Union { .. } => {
-            call.stop(Stop::Unreadable(before));
-            None
-        }
-    }
-}
-
-/// What of a layout is changed.
-#[derive(Clone, Copy)]
-enum ChangeWord {
-    Size,
-    Align,
-    Beyond,
-    Unadjusted,
-    MaxReprAlign,
-    Uninhabited,
-    ReprC,
-    Seed,
-    Memory,
-    Unsized,
-    SeenAs,
-    Scalar,
-    Pair,
-    Lanes,
-    Scalable,
-    Niche,
-    NoNiche,
-    Tag,
-}
-
-const CHANGE_WORDS: [(&[u8], ChangeWord); 18] = [
-    (b"size", ChangeWord::Size),
-    (b"align", ChangeWord::Align),
-    (b"beyond", ChangeWord::Beyond),
-    (b"unadjusted", ChangeWord::Unadjusted),
-    (b"max-repr-align", ChangeWord::MaxReprAlign),
-    (b"uninhabited", ChangeWord::Uninhabited),
-    (b"repr-c", ChangeWord::ReprC),
-    (b"seed", ChangeWord::Seed),
-    (b"memory", ChangeWord::Memory),
-    (b"unsized", ChangeWord::Unsized),
-    (b"seen-as", ChangeWord::SeenAs),
-    (b"scalar", ChangeWord::Scalar),
-    (b"pair", ChangeWord::Pair),
-    (b"lanes", ChangeWord::Lanes),
-    (b"scalable", ChangeWord::Scalable),
-    (b"niche", ChangeWord::Niche),
-    (b"no-niche", ChangeWord::NoNiche),
-    (b"tag", ChangeWord::Tag),
-];
-
-/// Changes what the next words tell of a layout.
-fn change(dl: &TargetDataLayout, call: &mut Call, layout: &mut Layout) {
-    match call.one_of(&CHANGE_WORDS, ChangeWord::Uninhabited) {
-        ChangeWord::Size => layout.size = call.size(),
-        ChangeWord::Align => layout.align = AbiAlign::new(call.align()),
-        ChangeWord::Beyond => layout.align = AbiAlign::new(beyond()),
-        ChangeWord::Unadjusted => layout.unadjusted_abi_align = call.align(),
-        ChangeWord::MaxReprAlign => layout.max_repr_align = Some(call.align()),
-        ChangeWord::Uninhabited => layout.uninhabited = true,
-        ChangeWord::ReprC => layout.repr_c = true,
-        ChangeWord::Seed => layout.randomization_seed = Hash64::new(call.number()),
-        ChangeWord::Memory => layout.backend_repr = BackendRepr::Memory { sized: true },
-        ChangeWord::Unsized => layout.backend_repr = BackendRepr::Memory { sized: false },
-        ChangeWord::SeenAs => layout.backend_repr = view_of_type(dl, call),
-        ChangeWord::Scalar => layout.backend_repr = BackendRepr::Scalar(call.scalar(dl)),
-        ChangeWord::Pair => layout.backend_repr = pair(dl, call),
-        ChangeWord::Lanes => layout.backend_repr = lanes(dl, call, false),
-        ChangeWord::Scalable => layout.backend_repr = lanes(dl, call, true),
-        ChangeWord::Niche => layout.largest_niche = niche(dl, call),
-        ChangeWord::NoNiche => layout.largest_niche = None,
-        ChangeWord::Tag => put_tag(call.alloc, call.scalar(dl), layout),
-    }
+    let element = type_layout(dl, command)?;
+    slice_of(dl, &element)
 }
 
 /// The layout that the next words tell: that of a type, or of a slice of it, changed where `but` follows.
-pub(crate) fn layout(dl: &TargetDataLayout, call: &mut Call) -> Layout
+pub(crate) fn layout(dl: &TargetDataLayout, command: &mut Command) -> Layout
     requires { IsLawfulDataLayout dl.now }
 {
-    let made = if call.takes(b"slice") {
-        slice_layout(dl, call)
+    let made = if command.takes(b"slice") {
+        slice_layout(dl, command)
     } else {
-        type_layout(dl, call)
+        type_layout(dl, command)
     };
-    let mut layout = or_unit(dl, call, made);
+    let mut layout = or_unit(dl, command, made);
     for _ in 0..u64::MAX {
-        if !call.takes(b"but") {
+        if !command.takes(b"but") {
             break;
         }
-        change(dl, call, &mut layout);
+        change(dl, command, &mut layout);
     }
     layout
 }
 
 /// The layouts between the parentheses that are next.
-pub(crate) fn layouts(dl: &TargetDataLayout, call: &mut Call) -> Vec<Layout>
+pub(crate) fn layouts(dl: &TargetDataLayout, command: &mut Command) -> Vec<Layout>
     requires { IsLawfulDataLayout dl.now }
 {
-    call.expect(b"(");
-    let mut all = Vec::new(call.alloc);
+    command.expect(b"(");
+    let mut all = Vec::new(command.alloc);
     for _ in 0..u64::MAX {
-        if !call.has_more() {
+        if !command.has_more() {
             break;
         }
-        let item = layout(dl, call);
-        call.grow(all.push(item));
+        let item = layout(dl, command);
+        command.grow(all.push(item));
     }
     all
 }

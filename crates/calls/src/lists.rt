@@ -1,4 +1,5 @@
-//! Calls of the calculator for arrays, lists of fields, unions and vectors.
+//! Calls of the calculator for lists of fields, unions and scalable vectors, and layouts that a line hands in: whether one
+//! is lawful, and all that it tells.
 
 ghost use Rattle.std.specs.Prelude.{◌≤◌, All, IfOk, IsTrue, length};
 ghost use Rattle.abi_base.specs.DataLayout.{IsLawfulDataLayout, size_bound};
@@ -6,10 +7,10 @@ ghost use Rattle.abi_scalar.specs.Lawful.{IsLawfulLayout};
 ghost use Rattle.abi_lists.specs.List.{HasLawfulAligns};
 ghost use Rattle.abi_lists.specs.Placement.{IsLawfulPrefix, IsNonEmptyIfUnsized};
 
-use crate::call::Call;
+use crate::command::Command;
 use crate::in_order::univariant_in_order;
 use crate::layouts::{
-    Layout, MOST_ITEMS, are_lawful, array_of, calculated, is_lawful_align, layout, layouts, lent,
+    Layout, MOST_ITEMS, are_lawful, calculated, is_lawful_align, layout, layouts, lent,
 };
 use crate::print::write_made;
 use crate::stop::{Clause, Stop};
@@ -34,15 +35,29 @@ const KIND_WORDS: [(&[u8], KindWord); 3] = [
 ];
 
 /// What is known of a list beside its fields.
-pub(crate) fn kind(call: &mut Call) -> StructKind {
-    match call.one_of(&KIND_WORDS, KindWord::AlwaysSized) {
+#[derive(Clone, Copy)]
+pub(crate) struct ListRepr {
+    pub(crate) repr: ReprOptions,
+    kind: StructKind,
+}
+
+/// The kind of list that is next.
+fn kind(command: &mut Command) -> StructKind {
+    match command.one_of(&KIND_WORDS, KindWord::AlwaysSized) {
         KindWord::AlwaysSized => StructKind::AlwaysSized,
         KindWord::MaybeUnsized => StructKind::MaybeUnsized,
         KindWord::Prefixed => {
-            let size = call.size();
-            StructKind::Prefixed(size, call.align())
+            let size = command.size();
+            StructKind::Prefixed(size, command.align())
         }
     }
+}
+
+/// The repr and the kind of list that are next.
+pub(crate) fn list_repr(command: &mut Command) -> ListRepr {
+    let repr = command.repr().repr;
+    let kind = kind(command);
+    ListRepr { repr, kind }
 }
 
 /// Whether the prefix, if there is one, ends below the bound and is aligned within the limit.
@@ -69,25 +84,20 @@ fn has_tail(kind: &StructKind, count: usize) -> bool
 }
 
 /// Whether the alignments that a repr names are within the limit.
-pub(crate) fn has_lawful_aligns(repr: &ReprOptions) -> bool
+fn has_lawful_aligns(repr: &ReprOptions) -> bool
     ensures { IsTrue result → HasLawfulAligns repr.now }
 {
     is_lawful_align(repr.align) && is_lawful_align(repr.pack)
 }
 
 /// Whether these fields may be handed in as a list, or which clause says that they may not.
-fn check_list(
-    dl: &TargetDataLayout,
-    fields: &[&Layout],
-    repr: &ReprOptions,
-    kind: &StructKind,
-) -> Result<(), Stop>
+fn check_list(dl: &TargetDataLayout, fields: &[&Layout], asked: &ListRepr) -> Result<(), Stop>
     requires { IsLawfulDataLayout dl.now }
     ensures count { IfOk result (λ _. length fields.now ≤ 1_000_000) }
     ensures fields { IfOk result (λ _. All (λ f. IsLawfulLayout dl.now f.now) fields.now) }
-    ensures repr { IfOk result (λ _. HasLawfulAligns repr.now) }
-    ensures prefix { IfOk result (λ _. IsLawfulPrefix kind.now (size_bound dl.now)) }
-    ensures tail { IfOk result (λ _. IsNonEmptyIfUnsized kind.now (length fields.now)) }
+    ensures repr { IfOk result (λ _. HasLawfulAligns asked.now.repr) }
+    ensures prefix { IfOk result (λ _. IsLawfulPrefix asked.now.kind (size_bound dl.now)) }
+    ensures tail { IfOk result (λ _. IsNonEmptyIfUnsized asked.now.kind (length fields.now)) }
 {
     if fields.len() > MOST_ITEMS {
         return Err(Stop::Asks(Clause::Count));
@@ -95,13 +105,13 @@ fn check_list(
     if !are_lawful(dl, fields) {
         return Err(Stop::Asks(Clause::Fields));
     }
-    if !has_lawful_aligns(repr) {
+    if !has_lawful_aligns(&asked.repr) {
         return Err(Stop::Asks(Clause::Repr));
     }
-    if !is_lawful_prefix(dl, kind) {
+    if !is_lawful_prefix(dl, &asked.kind) {
         return Err(Stop::Asks(Clause::Prefix));
     }
-    if !has_tail(kind, fields.len()) {
+    if !has_tail(&asked.kind, fields.len()) {
         return Err(Stop::Asks(Clause::Tail));
     }
     Ok(())
@@ -112,22 +122,22 @@ fn list_of(
     alloc: Global,
     dl: &TargetDataLayout,
     fields: &[&Layout],
-    repr: &ReprOptions,
-    kind: &StructKind,
+    asked: &ListRepr,
     order: Option<&[FieldIdx]>,
 ) -> Result<Layout, Stop>
     requires { IsLawfulDataLayout dl.now }
 {
-    check_list(dl, fields, repr, kind)?;
+    check_list(dl, fields, asked)?;
+    let ListRepr { repr, kind } = *asked;
     let laying = LayoutCalculator::new(dl);
     let fields = IndexSlice::new(fields);
     let Some(order) = order else {
-        return calculated(laying.layout_of_univariant(alloc, fields, repr, *kind));
+        return calculated(laying.layout_of_univariant(alloc, fields, &repr, kind));
     };
     if !repr.can_randomize_type_layout() {
         return Err(Stop::Asks(Clause::Random));
     }
-    calculated(laying.layout_of_univariant_in_order(alloc, fields, repr, *kind, order))
+    calculated(laying.layout_of_univariant_in_order(alloc, fields, &repr, kind, order))
 }
 
 /// The list of these, in this order where there is one, as the calculator has it.
@@ -135,24 +145,22 @@ pub(crate) fn list_made(
     alloc: Global,
     dl: &TargetDataLayout,
     made: &[Layout],
-    repr: &ReprOptions,
-    kind: &StructKind,
+    asked: &ListRepr,
     order: Option<&[FieldIdx]>,
 ) -> Result<Layout, Stop>
     requires { IsLawfulDataLayout dl.now }
 {
     let fields = lent(alloc, made)?;
-    list_of(alloc, dl, &fields, repr, kind, order)
+    list_of(alloc, dl, &fields, asked, order)
 }
 
 /// `univariant REPR KIND ( LAYOUT.. )`
-fn univariant(dl: &TargetDataLayout, call: &mut Call) -> Result<Layout, Stop>
+fn univariant(dl: &TargetDataLayout, command: &mut Command) -> Result<Layout, Stop>
     requires { IsLawfulDataLayout dl.now }
 {
-    let repr = call.repr().repr;
-    let kind = kind(call);
-    let made = layouts(dl, call);
-    list_made(call.alloc, dl, &made, &repr, &kind, None)
+    let asked = list_repr(command);
+    let made = layouts(dl, command);
+    list_made(command.alloc, dl, &made, &asked, None)
 }
 
 /// The union of these, as the calculator has it.
@@ -176,46 +184,21 @@ fn union_made(
 }
 
 /// `union REPR ( LAYOUT.. )`
-fn union_of(dl: &TargetDataLayout, call: &mut Call) -> Result<Layout, Stop>
+fn union_of(dl: &TargetDataLayout, command: &mut Command) -> Result<Layout, Stop>
     requires { IsLawfulDataLayout dl.now }
 {
-    let repr = call.repr().repr;
-    let made = layouts(dl, call);
-    union_made(call.alloc, dl, &made, &repr)
+    let repr = command.repr().repr;
+    let made = layouts(dl, command);
+    union_made(command.alloc, dl, &made, &repr)
 }
 
-/// `array COUNT LAYOUT`
-fn array(dl: &TargetDataLayout, call: &mut Call) -> Result<Layout, Stop>
-    requires { IsLawfulDataLayout dl.now }
-{
-    let count = call.number();
-    let element = layout(dl, call);
-    array_of(dl, &element, Some(count))
-}
-
-/// `slice LAYOUT`
-fn slice(dl: &TargetDataLayout, call: &mut Call) -> Result<Layout, Stop>
-    requires { IsLawfulDataLayout dl.now }
-{
-    let element = layout(dl, call);
-    array_of(dl, &element, None)
-}
-
-/// Which vectors are asked for: a sized one, a packed one, or so many scalable ones.
-#[derive(Clone, Copy)]
-enum VectorKind {
-    Sized,
-    Packed,
-    Scalable(NumScalableVectors),
-}
-
-/// The vectors of `lanes` of these each.
+/// So many scalable vectors of so many of these.
 fn vectors_of(
     alloc: Global,
     dl: &TargetDataLayout,
     element: &Layout,
     lanes: u64,
-    vectors: VectorKind,
+    vectors: NumScalableVectors,
 ) -> Result<Layout, Stop>
     requires { IsLawfulDataLayout dl.now }
 {
@@ -223,80 +206,70 @@ fn vectors_of(
         return Err(Stop::Asks(Clause::Element));
     }
     let laying = LayoutCalculator::new(dl);
-    calculated(match vectors {
-        VectorKind::Sized => laying.layout_of_simd_type(alloc, element, lanes, false),
-        VectorKind::Packed => laying.layout_of_simd_type(alloc, element, lanes, true),
-        VectorKind::Scalable(count) => {
-            laying.layout_of_scalable_vector_type(alloc, element, lanes, count)
-        }
-    })
-}
-
-/// `simd LANES LAYOUT`, of a packed one `psimd LANES LAYOUT`, and `scalable VECTORS LANES LAYOUT` from the lanes on
-fn vectors(dl: &TargetDataLayout, call: &mut Call, vectors: VectorKind) -> Result<Layout, Stop>
-    requires { IsLawfulDataLayout dl.now }
-{
-    let lanes = call.number();
-    let element = layout(dl, call);
-    vectors_of(call.alloc, dl, &element, lanes, vectors)
+    calculated(laying.layout_of_scalable_vector_type(alloc, element, lanes, vectors))
 }
 
 /// `scalable VECTORS LANES LAYOUT`
-fn scalable(dl: &TargetDataLayout, call: &mut Call) -> Result<Layout, Stop>
+fn scalable(dl: &TargetDataLayout, command: &mut Command) -> Result<Layout, Stop>
     requires { IsLawfulDataLayout dl.now }
 {
-    let count = NumScalableVectors(call.byte());
-    vectors(dl, call, VectorKind::Scalable(count))
+    let vectors = NumScalableVectors(command.byte());
+    let lanes = command.number();
+    let element = layout(dl, command);
+    vectors_of(command.alloc, dl, &element, lanes, vectors)
 }
 
-/// Calls of the calculator.
+/// `lawful-layout LAYOUT`
+fn write_lawful(dl: &TargetDataLayout, command: &mut Command)
+    requires { IsLawfulDataLayout dl.now }
+{
+    let layout = layout(dl, command);
+    command.write_truth(layout.is_lawful(dl));
+}
+
+/// Calls that answer a layout.
 #[derive(Clone, Copy)]
 enum ListCall {
+    Layout,
     Univariant,
     UnivariantInOrder,
     Union,
-    Array,
-    Slice,
-    Simd,
-    Psimd,
     Scalable,
 }
 
-const LIST_CALLS: [(&[u8], ListCall); 8] = [
+const LIST_CALLS: [(&[u8], ListCall); 5] = [
+    (b"layout", ListCall::Layout),
     (b"univariant", ListCall::Univariant),
     (b"univariant-in-order", ListCall::UnivariantInOrder),
     (b"union", ListCall::Union),
-    (b"array", ListCall::Array),
-    (b"slice", ListCall::Slice),
-    (b"simd", ListCall::Simd),
-    (b"psimd", ListCall::Psimd),
     (b"scalable", ListCall::Scalable),
 ];
 
 /// The answer to a call.
-fn answer(dl: &TargetDataLayout, call: &mut Call, asked: ListCall) -> Result<Layout, Stop>
+fn answer(dl: &TargetDataLayout, command: &mut Command, asked: ListCall) -> Result<Layout, Stop>
     requires { IsLawfulDataLayout dl.now }
 {
     match asked {
-        ListCall::Univariant => univariant(dl, call),
-        ListCall::UnivariantInOrder => univariant_in_order(dl, call),
-        ListCall::Union => union_of(dl, call),
-        ListCall::Array => array(dl, call),
-        ListCall::Slice => slice(dl, call),
-        ListCall::Simd => vectors(dl, call, VectorKind::Sized),
-        ListCall::Psimd => vectors(dl, call, VectorKind::Packed),
-        ListCall::Scalable => scalable(dl, call),
+        ListCall::Layout => Ok(layout(dl, command)),
+        ListCall::Univariant => univariant(dl, command),
+        ListCall::UnivariantInOrder => univariant_in_order(dl, command),
+        ListCall::Union => union_of(dl, command),
+        ListCall::Scalable => scalable(dl, command),
     }
 }
 
 /// Answers the call; whether it is one of these.
-pub(crate) fn answers(dl: &TargetDataLayout, call: &mut Call) -> bool
+pub(crate) fn answers(dl: &TargetDataLayout, command: &mut Command) -> bool
     requires { IsLawfulDataLayout dl.now }
 {
-    let Some(asked) = call.named(&LIST_CALLS) else {
+    if command.is_named(b"lawful-layout") {
+        write_lawful(dl, command);
+        return true;
+    }
+    let Some(asked) = command.named(&LIST_CALLS) else {
         return false;
     };
-    let made = answer(dl, call, asked);
-    write_made(call, made);
+    let made = answer(dl, command, asked);
+    write_made(command, made);
     true
 }

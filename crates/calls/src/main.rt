@@ -1,14 +1,12 @@
-//! Makes any call of the libraries: each line of standard input names a call and what it is given, and standard output
-//! gets a line with its answer.
+//! Makes calls of the libraries: each line of standard input names a call and what it is given, and standard output gets
+//! a line with its answer.
 #![tactic(auto)]
 
 mod answer;
-mod call;
-mod coroutines;
+mod changes;
+mod command;
 mod data_layouts;
-mod enums;
 mod in_order;
-mod laws;
 mod layouts;
 mod lists;
 mod numbers;

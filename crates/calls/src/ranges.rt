@@ -1,28 +1,37 @@
-//! Calls of ranges, scalars and niches.
+//! Calls of ranges and niches.
 
 ghost use Rattle.std.specs.Prelude.{◌≤◌, ◌<◌, All, IfSome, IsTrue};
+ghost use Rattle.abi_base.specs.Primitive.{KnowsPrimitive};
 ghost use Rattle.abi_scalar.specs.Niche.{IsReadableNiche};
 ghost use Rattle.abi_scalar.specs.Range.{AreWithin, numbers_of};
 ghost use Rattle.abi_scalar.specs.Scalar.{IsReadable};
 
-use crate::call::Call;
-use crate::numbers::integers::knows;
-use crate::numbers::sizes::width;
-use crate::print::{write_align, write_niche, write_range, write_scalar, write_true};
+use crate::command::Command;
+use crate::print::{write_niche, write_range};
 use crate::stop::{Clause, Stop};
-use abi_base::{Size, TargetDataLayout};
-use abi_scalar::{Niche, RangeFull, Scalar, WrappingRange};
+use abi_base::{Primitive, Size, TargetDataLayout};
+use abi_scalar::{Niche, Scalar, WrappingRange};
 use std::alloc::{AllocError, Global};
 
+/// The width of a number, in bytes: 1 to 16.
+fn width(command: &mut Command) -> Size
+    ensures some { 1 ≤ result }
+    ensures most { result ≤ 16 }
+{
+    let bytes = command.number();
+    command.asks(bytes >= 1 && bytes <= 16, Clause::Width);
+    Size::from_bytes(bytes.clamp(1, 16))
+}
+
 /// The range that is next, of numbers of `size` bytes.
-fn range(call: &mut Call, size: Size) -> WrappingRange
+fn range(command: &mut Command, size: Size) -> WrappingRange
     requires some { 1 ≤ size }
     requires most { size ≤ 16 }
     ensures { AreWithin size result }
 {
-    let (start, end) = (call.wide(), call.wide());
+    let (start, end) = (command.wide(), command.wide());
     let most = size.unsigned_int_max();
-    call.asks(start <= most && end <= most, Clause::Within);
+    command.asks(start <= most && end <= most, Clause::Within);
     WrappingRange {
         start: start.min(most),
         end: end.min(most),
@@ -53,13 +62,13 @@ fn are_within(numbers: &[u128], size: Size) -> bool
 }
 
 /// The numbers that are next, up to the end.
-fn numbers(call: &mut Call) -> Result<Vec<u128>, AllocError> {
-    let mut all = Vec::new(call.alloc);
+fn numbers(command: &mut Command) -> Result<Vec<u128>, AllocError> {
+    let mut all = Vec::new(command.alloc);
     for _ in 0..u64::MAX {
-        if !call.has_word() {
+        if !command.has_word() {
             break;
         }
-        all.push(call.wide())?;
+        all.push(command.wide())?;
     }
     Ok(all)
 }
@@ -76,84 +85,32 @@ fn least_range(alloc: Global, size: Size, all: Vec<u128>) -> Result<Option<Wrapp
 }
 
 /// Writes the least range of the numbers that are next, behind the bytes that each has.
-fn write_least(call: &mut Call) -> Result<(), Stop> {
-    let size = width(call);
-    let all = numbers(call)?;
-    match least_range(call.alloc, size, all)? {
-        Some(range) => write_range(call, range),
-        None => call.write("none"),
+fn write_least(command: &mut Command) -> Result<(), Stop> {
+    let size = width(command);
+    let all = numbers(command)?;
+    match least_range(command.alloc, size, all)? {
+        Some(range) => write_range(command, range),
+        None => command.write("none"),
     }
     Ok(())
 }
 
 /// Writes whether the second range that is next lies in the first.
-fn write_contained(call: &mut Call) {
-    let size = width(call);
-    let (first, second) = (range(call, size), range(call, size));
-    call.write_truth(first.contains_range(second, size));
+fn write_contained(command: &mut Command) {
+    let size = width(command);
+    let (first, second) = (range(command, size), range(command, size));
+    command.write_truth(first.contains_range(second, size));
 }
 
-/// Writes whether the number that is next lies in the range before it.
-fn write_contains(call: &mut Call) {
-    let (start, end, number) = (call.wide(), call.wide(), call.wide());
-    call.write_truth(WrappingRange { start, end }.contains(number));
-}
-
-/// Writes an answer that a full range doesn't have.
-fn write_wraps(call: &mut Call, name: &str, answer: Result<bool, RangeFull>) {
-    match answer {
-        Ok(holds) => call.tell(name, holds),
-        Err(RangeFull) => {
-            call.write(name);
-            call.write("full");
-        }
+/// Whether the data layout knows the primitive.
+fn knows(dl: &TargetDataLayout, value: Primitive) -> bool
+    ensures { IsTrue result → KnowsPrimitive dl.now value }
+{
+    match value {
+        Primitive::Int(_, _) => true,
+        Primitive::Float(_) => true,
+        Primitive::Pointer(space) => dl.knows(space),
     }
-}
-
-/// Writes whether the range that is next is full, and how it wraps round.
-fn write_wrapping(call: &mut Call) {
-    let size = width(call);
-    let range = range(call, size);
-    call.tell("full ", range.is_full_for(size));
-    write_wraps(call, " unsigned ", range.no_unsigned_wraparound(size));
-    write_wraps(call, " signed ", range.no_signed_wraparound(size));
-}
-
-/// Calls on ranges.
-#[derive(Clone, Copy)]
-enum RangeCall {
-    Contains,
-    ContainsRange,
-    Wraps,
-    FullRange,
-    LeastRange,
-}
-
-const RANGE_CALLS: [(&[u8], RangeCall); 5] = [
-    (b"contains", RangeCall::Contains),
-    (b"contains-range", RangeCall::ContainsRange),
-    (b"wraps", RangeCall::Wraps),
-    (b"full-range", RangeCall::FullRange),
-    (b"least-range", RangeCall::LeastRange),
-];
-
-/// Answers a call on ranges; whether it is one.
-fn call_on_ranges(call: &mut Call) -> bool {
-    match call.named(&RANGE_CALLS) {
-        Some(RangeCall::Contains) => write_contains(call),
-        Some(RangeCall::ContainsRange) => write_contained(call),
-        Some(RangeCall::Wraps) => write_wrapping(call),
-        Some(RangeCall::FullRange) => {
-            let size = width(call);
-            write_range(call, WrappingRange::full(size));
-        }
-        Some(RangeCall::LeastRange) => {
-            let done = write_least(call);
-            call.keep(done);
-        }
-        None => return false,
-    }
-    true
 }
 
 /// Whether the data layout knows the scalar's primitive, and its ends are numbers of its width.
@@ -179,14 +136,6 @@ fn is_readable(dl: &TargetDataLayout, scalar: Scalar) -> bool
     }
 }
 
-/// The scalar that is next: a primitive, and the ends of its range.
-fn ranged(dl: &TargetDataLayout, call: &mut Call) -> Scalar {
-    let value = call.primitive(dl);
-    let (start, end) = (call.wide(), call.wide());
-    let valid_range = WrappingRange { start, end };
-    Scalar::Initialized { value, valid_range }
-}
-
 /// The niche of a scalar at the start, whatever it has free. None where it can't be read.
 fn niche(dl: &TargetDataLayout, scalar: Scalar) -> Option<Niche>
     ensures { IfSome result (IsReadableNiche dl.now) }
@@ -201,107 +150,70 @@ fn niche(dl: &TargetDataLayout, scalar: Scalar) -> Option<Niche>
     }
 }
 
-/// Writes how many numbers the scalar that is next has free.
-fn write_available(dl: &TargetDataLayout, call: &mut Call) {
-    let scalar = ranged(dl, call);
-    match niche(dl, scalar) {
-        Some(niche) => call.write_wide(niche.available(dl)),
-        None => call.lacks(Clause::Readable),
-    }
-}
-
 /// Writes the first of the numbers that are handed out, and the range then.
-fn write_reserved(call: &mut Call, reserved: Option<(u128, Scalar)>) {
+fn write_reserved(command: &mut Command, reserved: Option<(u128, Scalar)>) {
     match reserved {
         Some((start, Scalar::Initialized { valid_range, .. })) => {
-            call.write("start ");
-            call.write_wide(start);
-            call.write(" range ");
-            write_range(call, valid_range);
+            command.write("start ");
+            command.write_wide(start);
+            command.write(" range ");
+            write_range(command, valid_range);
         }
-        _ => call.write("none"),
+        _ => command.write("none"),
     }
 }
 
 /// Writes what is handed out of the free numbers of the scalar that is next, where as many as follow are asked for.
-fn write_reserve(dl: &TargetDataLayout, call: &mut Call) {
-    let scalar = ranged(dl, call);
-    let count = call.wide();
+fn write_reserve(dl: &TargetDataLayout, command: &mut Command) {
+    let scalar = command.scalar(dl);
+    let count = command.wide();
     let Some(niche) = niche(dl, scalar) else {
-        return call.lacks(Clause::Readable);
+        return command.lacks(Clause::Readable);
     };
     if count < 1 {
-        return call.lacks(Clause::Any);
+        return command.lacks(Clause::Any);
     }
-    write_reserved(call, niche.reserve(dl, count));
+    write_reserved(command, niche.reserve(dl, count));
 }
 
 /// Writes the niche of the scalar that is next, at the place before it.
-fn write_from_scalar(dl: &TargetDataLayout, call: &mut Call) {
-    let offset = call.size();
-    let scalar = call.scalar(dl);
+fn write_from_scalar(dl: &TargetDataLayout, command: &mut Command) {
+    let offset = command.size();
+    let scalar = command.scalar(dl);
     if is_readable(dl, scalar) {
-        write_niche(call, Niche::from_scalar(dl, offset, scalar));
+        write_niche(command, Niche::from_scalar(dl, offset, scalar));
     } else {
-        call.lacks(Clause::Readable);
+        command.lacks(Clause::Readable);
     }
 }
 
-/// Writes all that the scalar that is next tells.
-fn write_told(dl: &TargetDataLayout, call: &mut Call) {
-    let scalar = call.scalar(dl);
-    call.end();
-    if !is_readable(dl, scalar) {
-        return call.lacks(Clause::Readable);
-    }
-    call.put("size ", scalar.size(dl).bytes());
-    call.write(" range ");
-    write_range(call, scalar.valid_range(dl));
-    call.write(" align ");
-    write_align(call, scalar.default_align(dl));
-    call.write(" union ");
-    write_scalar(call, scalar.to_union());
-    call.write(" is ");
-    write_true(
-        call,
-        &[
-            ("bool", scalar.is_bool()),
-            ("signed", scalar.is_signed()),
-            ("always-valid", scalar.is_always_valid(dl)),
-            ("uninit-valid", scalar.is_uninit_valid()),
-        ],
-    );
-}
-
-/// Calls on scalars and niches.
+/// Calls on ranges and niches.
 #[derive(Clone, Copy)]
-enum ScalarCall {
-    Scalar,
-    Available,
+enum RangeCall {
+    ContainsRange,
+    LeastRange,
     Reserve,
     NicheFromScalar,
 }
 
-const SCALAR_CALLS: [(&[u8], ScalarCall); 4] = [
-    (b"scalar", ScalarCall::Scalar),
-    (b"available", ScalarCall::Available),
-    (b"reserve", ScalarCall::Reserve),
-    (b"niche-from-scalar", ScalarCall::NicheFromScalar),
+const RANGE_CALLS: [(&[u8], RangeCall); 4] = [
+    (b"contains-range", RangeCall::ContainsRange),
+    (b"least-range", RangeCall::LeastRange),
+    (b"reserve", RangeCall::Reserve),
+    (b"niche-from-scalar", RangeCall::NicheFromScalar),
 ];
 
-/// Answers a call on scalars and niches; whether it is one.
-fn call_on_scalars(dl: &TargetDataLayout, call: &mut Call) -> bool {
-    match call.named(&SCALAR_CALLS) {
-        Some(ScalarCall::Scalar) => write_told(dl, call),
-        Some(ScalarCall::Available) => write_available(dl, call),
-        Some(ScalarCall::Reserve) => write_reserve(dl, call),
-        Some(ScalarCall::NicheFromScalar) => write_from_scalar(dl, call),
+/// Answers the call; whether it is one of these.
+pub(crate) fn answers(dl: &TargetDataLayout, command: &mut Command) -> bool {
+    match command.named(&RANGE_CALLS) {
+        Some(RangeCall::ContainsRange) => write_contained(command),
+        Some(RangeCall::LeastRange) => {
+            let done = write_least(command);
+            command.keep(done);
+        }
+        Some(RangeCall::Reserve) => write_reserve(dl, command),
+        Some(RangeCall::NicheFromScalar) => write_from_scalar(dl, command),
         None => return false,
     }
     true
-}
-
-/// Answers the call; whether it is one of these.
-pub(crate) fn answers(dl: &TargetDataLayout, call: &mut Call) -> bool {
-    call_on_ranges(call) || call_on_scalars(dl, call)
 }

@@ -3,20 +3,20 @@
 ghost use Rattle.std.specs.Prelude.{IsTrue};
 ghost use Rattle.abi_types.specs.Reg.{HasAlign};
 
-use crate::call::Call;
+use crate::command::Command;
 use crate::print::{write_align, write_true};
 use crate::stop::{Clause, Name, Stop};
-use abi_base::{Integer, Numeric, Primitive, RegKind, Size, TargetDataLayout};
+use abi_base::{Integer, Primitive, RegKind, Size, TargetDataLayout};
 use abi_types::{CVariadicStatus, ExternAbi, Reg, all_names};
 use std::alloc::{AllocError, Global};
 
 /// Writes a register: its kind and its size in bytes.
-pub(crate) fn write_reg(call: &mut Call, reg: Reg) {
-    call.write(kind_name(reg.kind));
-    call.put(" ", reg.size.bytes());
+pub(crate) fn write_reg(command: &mut Command, reg: Reg) {
+    command.write(kind_name(reg.kind));
+    command.put(" ", reg.size.bytes());
     if let RegKind::Vector { hint_vector_elem } = reg.kind {
-        call.write(" of ");
-        call.write_primitive(hint_vector_elem);
+        command.write(" of ");
+        command.write_primitive(hint_vector_elem);
     }
 }
 
@@ -46,58 +46,14 @@ fn has_align(dl: &TargetDataLayout, reg: Reg) -> bool
 }
 
 /// Writes the alignment of the register of the kind and the size that are next.
-fn write_reg_align(dl: &TargetDataLayout, call: &mut Call) {
-    let kind = call.one_of(&KINDS, RegKind::Integer);
-    let size = call.size();
+fn write_reg_align(dl: &TargetDataLayout, command: &mut Command) {
+    let kind = command.one_of(&KINDS, RegKind::Integer);
+    let size = command.size();
     let reg = Reg { kind, size };
     if has_align(dl, reg) {
-        write_align(call, reg.align(dl));
+        write_align(command, reg.align(dl));
     } else {
-        call.lacks(Clause::Align);
-    }
-}
-
-/// Registers.
-#[derive(Clone, Copy)]
-enum RegWord {
-    I8,
-    I16,
-    I32,
-    I64,
-    I128,
-    F16,
-    F32,
-    F64,
-    F128,
-    OpaqueVector,
-}
-
-const REG_WORDS: [(&[u8], RegWord); 10] = [
-    (b"i8", RegWord::I8),
-    (b"i16", RegWord::I16),
-    (b"i32", RegWord::I32),
-    (b"i64", RegWord::I64),
-    (b"i128", RegWord::I128),
-    (b"f16", RegWord::F16),
-    (b"f32", RegWord::F32),
-    (b"f64", RegWord::F64),
-    (b"f128", RegWord::F128),
-    (b"opaque-vector", RegWord::OpaqueVector),
-];
-
-/// The register of the name that is next.
-fn reg_named(call: &mut Call) -> Reg {
-    match call.one_of(&REG_WORDS, RegWord::I8) {
-        RegWord::I8 => Reg::i8(),
-        RegWord::I16 => Reg::i16(),
-        RegWord::I32 => Reg::i32(),
-        RegWord::I64 => Reg::i64(),
-        RegWord::I128 => Reg::i128(),
-        RegWord::F16 => Reg::f16(),
-        RegWord::F32 => Reg::f32(),
-        RegWord::F64 => Reg::f64(),
-        RegWord::F128 => Reg::f128(),
-        RegWord::OpaqueVector => Reg::opaque_vector(call.size()),
+        command.lacks(Clause::Align);
     }
 }
 
@@ -111,39 +67,29 @@ fn kind_name(kind: RegKind) -> &'static str {
     }
 }
 
-/// Writes the kind of register that the numeric that is next is passed in.
-fn write_numeric_kind(dl: &TargetDataLayout, call: &mut Call) {
-    let numeric = match call.primitive(dl) {
-        Primitive::Int(integer, signed) => Numeric::Int(integer, signed),
-        Primitive::Float(float) => Numeric::Float(float),
-        Primitive::Pointer(_) => return call.misfit(),
-    };
-    call.write(kind_name(numeric.reg_kind()));
-}
-
 /// The convention of the name that is next.
-fn convention(call: &mut Call) -> ExternAbi {
-    let name = call.text();
-    match call.text_at(name).parse::<ExternAbi>() {
+fn convention(command: &mut Command) -> ExternAbi {
+    let name = command.text();
+    match command.text_at(name).parse::<ExternAbi>() {
         Ok(abi) => abi,
         Err(_) => {
-            call.stop(Stop::Refused(Name::Unknown));
+            command.stop(Stop::Refused(Name::Unknown));
             ExternAbi::Rust
         }
     }
 }
 
 /// Writes a convention's number and name, and what it is fit for.
-fn write_convention(call: &mut Call, abi: ExternAbi) {
-    call.put("", u64::from(abi.as_packed()));
-    call.write(" ");
-    call.write(abi.as_str());
-    call.write(" ");
-    call.write_shown(&abi);
-    call.write(" ");
+fn write_convention(command: &mut Command, abi: ExternAbi) {
+    command.put("", u64::from(abi.as_packed()));
+    command.write(" ");
+    command.write(abi.as_str());
+    command.write(" ");
+    command.write_shown(&abi);
+    command.write(" ");
     let variadic = abi.supports_c_variadic();
     write_true(
-        call,
+        command,
         &[
             ("rustic", abi.is_rustic_abi()),
             ("variadic", variadic == CVariadicStatus::Stable),
@@ -153,112 +99,46 @@ fn write_convention(call: &mut Call, abi: ExternAbi) {
     );
 }
 
-/// Writes the convention of the number that is next.
-fn write_numbered(call: &mut Call) {
-    let number = call.byte();
-    if number < 40 {
-        write_convention(call, ExternAbi::from_packed(number));
-    } else {
-        call.lacks(Clause::Number);
-    }
-}
-
-/// How a convention stands to another.
-fn order(a: ExternAbi, b: ExternAbi) -> &'static str {
-    if a < b {
-        "less"
-    } else if a == b {
-        "equal"
-    } else {
-        "greater"
-    }
-}
-
-/// Calls on registers.
-#[derive(Clone, Copy)]
-enum RegCall {
-    RegAlign,
-    Reg,
-    RegKind,
-    NumericRegKind,
-}
-
-const REG_CALLS: [(&[u8], RegCall); 4] = [
-    (b"reg-align", RegCall::RegAlign),
-    (b"reg", RegCall::Reg),
-    (b"reg-kind", RegCall::RegKind),
-    (b"numeric-reg-kind", RegCall::NumericRegKind),
-];
-
-/// Answers a call on registers; whether it is one.
-fn call_on_registers(dl: &TargetDataLayout, call: &mut Call) -> bool {
-    match call.named(&REG_CALLS) {
-        Some(RegCall::RegAlign) => write_reg_align(dl, call),
-        Some(RegCall::Reg) => {
-            let reg = reg_named(call);
-            write_reg(call, reg);
-        }
-        Some(RegCall::RegKind) => {
-            let primitive = call.primitive(dl);
-            call.write(kind_name(RegKind::from_primitive(primitive)));
-        }
-        Some(RegCall::NumericRegKind) => write_numeric_kind(dl, call),
-        None => return false,
-    }
-    true
-}
-
-/// Calls on conventions.
-#[derive(Clone, Copy)]
-enum ConventionCall {
-    Convention,
-    ConventionNumber,
-    ConventionOrder,
-    ConventionNames,
-}
-
-const CONVENTION_CALLS: [(&[u8], ConventionCall); 4] = [
-    (b"convention", ConventionCall::Convention),
-    (b"convention-number", ConventionCall::ConventionNumber),
-    (b"convention-order", ConventionCall::ConventionOrder),
-    (b"convention-names", ConventionCall::ConventionNames),
-];
-
 /// Writes the names of all conventions.
-fn write_names(call: &mut Call) -> Result<(), AllocError> {
-    let names = all_names(call.alloc)?;
+fn write_names(command: &mut Command) -> Result<(), AllocError> {
+    let names = all_names(command.alloc)?;
     let mut between = "";
     for name in &names {
-        call.write(between);
-        call.write(*name);
+        command.write(between);
+        command.write(*name);
         between = " ";
     }
     Ok(())
 }
 
-/// Answers a call on conventions; whether it is one.
-fn call_on_conventions(call: &mut Call) -> bool {
-    match call.named(&CONVENTION_CALLS) {
-        Some(ConventionCall::Convention) => {
-            let abi = convention(call);
-            write_convention(call, abi);
+/// Calls on registers and conventions.
+#[derive(Clone, Copy)]
+enum RegisterCall {
+    RegAlign,
+    Convention,
+    ConventionNames,
+}
+
+const REGISTER_CALLS: [(&[u8], RegisterCall); 3] = [
+    (b"reg-align", RegisterCall::RegAlign),
+    (b"convention", RegisterCall::Convention),
+    (b"convention-names", RegisterCall::ConventionNames),
+];
+
+/// Answers the call; whether it is one of these.
+pub(crate) fn answers(dl: &TargetDataLayout, command: &mut Command) -> bool {
+    match command.named(&REGISTER_CALLS) {
+        Some(RegisterCall::RegAlign) => write_reg_align(dl, command),
+        Some(RegisterCall::Convention) => {
+            let abi = convention(command);
+            write_convention(command, abi);
         }
-        Some(ConventionCall::ConventionNumber) => write_numbered(call),
-        Some(ConventionCall::ConventionOrder) => {
-            let (first, second) = (convention(call), convention(call));
-            call.write(order(first, second));
-        }
-        Some(ConventionCall::ConventionNames) => {
-            if write_names(call).is_err() {
-                call.cut();
+        Some(RegisterCall::ConventionNames) => {
+            if write_names(command).is_err() {
+                command.cut();
             }
         }
         None => return false,
     }
     true
-}
-
-/// Answers the call; whether it is one of these.
-pub(crate) fn answers(dl: &TargetDataLayout, call: &mut Call) -> bool {
-    call_on_registers(dl, call) || call_on_conventions(call)
 }

@@ -4,7 +4,7 @@ use abi_base::TargetDataLayoutError;
 use abi_scalar::LayoutCalculatorError;
 use abi_text::error_name;
 use rustc_abi::LayError;
-use std::alloc::{AllocError, AllocFailed};
+use std::alloc::AllocError;
 
 /// What is answered where a growth of memory was refused.
 pub(crate) const OUT_OF_MEMORY: &str = "refused OutOfMemory";
@@ -55,22 +55,12 @@ pub(crate) enum Clause {
     Any,
     Count,
     DataLayout,
-    Each,
     Element,
     Fields,
-    Fits,
-    Known,
-    Limit,
-    Locals,
-    Named,
-    Number,
-    One,
     Prefix,
     Random,
     Readable,
     Repr,
-    Rows,
-    Size,
     Sized,
     Tail,
     Variant,
@@ -86,22 +76,12 @@ impl Clause {
             Clause::Any => "some",
             Clause::Count => "count",
             Clause::DataLayout => "data_layout",
-            Clause::Each => "each",
             Clause::Element => "element",
             Clause::Fields => "fields",
-            Clause::Fits => "fits",
-            Clause::Known => "known",
-            Clause::Limit => "limit",
-            Clause::Locals => "locals",
-            Clause::Named => "named",
-            Clause::Number => "number",
-            Clause::One => "one",
             Clause::Prefix => "prefix",
             Clause::Random => "random",
             Clause::Readable => "readable",
             Clause::Repr => "repr",
-            Clause::Rows => "rows",
-            Clause::Size => "size",
             Clause::Sized => "sized",
             Clause::Tail => "tail",
             Clause::Variant => "variant",
@@ -122,29 +102,10 @@ pub(crate) enum Stop {
     Asks(Clause),
     /// A growth of memory was refused.
     OutOfMemory,
-    /// A growth of memory was refused, and what should have grown isn't what it was.
-    Changed,
-}
-
-impl Stop {
-    /// What the refused growth of what is lent for writing stops a line with, by whether it equals a copy made before.
-    pub(crate) fn refused(is_kept: bool) -> Self {
-        if is_kept {
-            Stop::OutOfMemory
-        } else {
-            Stop::Changed
-        }
-    }
 }
 
 impl From<AllocError> for Stop {
     fn from(_error: AllocError) -> Self {
-        Stop::OutOfMemory
-    }
-}
-
-impl<T: Drop> From<AllocFailed<T>> for Stop {
-    fn from(_error: AllocFailed<T>) -> Self {
         Stop::OutOfMemory
     }
 }

@@ -1,6 +1,6 @@
 //! How values and their bytes are written.
 
-use crate::call::Call;
+use crate::command::Command;
 use rustc_abi::Value;
 
 /// The digits of bytes.
@@ -9,62 +9,62 @@ const DIGITS: [&str; 16] = [
 ];
 
 /// Writes bytes, each by two hexadecimal digits, or that there are none.
-pub(crate) fn write_bytes(call: &mut Call, bytes: &[u8]) {
+pub(crate) fn write_bytes(command: &mut Command, bytes: &[u8]) {
     let mut between = "";
     for byte in bytes {
-        call.write(between);
-        call.write(DIGITS[usize::from(*byte >> 4)]);
-        call.write(DIGITS[usize::from(*byte & 15)]);
+        command.write(between);
+        command.write(DIGITS[usize::from(*byte >> 4)]);
+        command.write(DIGITS[usize::from(*byte & 15)]);
         between = " ";
     }
     if bytes.is_empty() {
-        call.write("none");
+        command.write("none");
     }
 }
 
 /// Writes values between parentheses.
 #[cycle(meant)]
-fn write_each(call: &mut Call, values: &[Value]) {
-    call.write("(");
+fn write_each(command: &mut Command, values: &[Value]) {
+    command.write("(");
     for value in values {
-        call.write(" ");
-        write_meant(call, value);
+        command.write(" ");
+        write_meant(command, value);
     }
-    call.write(" )");
+    command.write(" )");
 }
 
 /// Writes a value as it is read.
 #[cycle(meant)]
-pub(crate) fn write_meant(call: &mut Call, value: &Value) {
+pub(crate) fn write_meant(command: &mut Command, value: &Value) {
     match value {
-        Value::Num(number) => call.write_wide(*number),
+        Value::Num(number) => command.write_wide(*number),
         Value::Pair(first, second) => {
-            call.write("pair ");
-            call.write_wide(*first);
-            call.write(" ");
-            call.write_wide(*second);
+            command.write("pair ");
+            command.write_wide(*first);
+            command.write(" ");
+            command.write_wide(*second);
         }
-        Value::List(values) => write_each(call, values),
+        Value::List(values) => write_each(command, values),
         Value::Variant(index, values) => {
-            call.put("variant ", *index as u64);
-            call.write(" ");
-            write_each(call, values);
+            command.put("variant ", *index as u64);
+            command.write(" ");
+            write_each(command, values);
         }
         Value::State {
             state,
             prefix,
             locals,
         } => {
-            call.put("state ", *state as u64);
-            call.write(" ");
-            write_each(call, prefix);
-            call.write(" ");
-            write_each(call, locals);
+            command.put("state ", *state as u64);
+            command.write(" ");
+            write_each(command, prefix);
+            command.write(" ");
+            write_each(command, locals);
         }
         Value::Union(bytes) => {
-            call.write("union ( ");
-            write_bytes(call, bytes);
-            call.write(" )");
+            command.write("union ( ");
+            write_bytes(command, bytes);
+            command.write(" )");
         }
     }
 }

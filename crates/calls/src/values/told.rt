@@ -1,6 +1,6 @@
 //! Values and their bytes that words tell.
 
-use crate::call::{Call, named};
+use crate::command::{Command, named};
 use crate::stop::{Name, Stop};
 use abi_text::wide;
 use rustc_abi::Value;
@@ -27,38 +27,38 @@ fn byte(word: &[u8]) -> Option<u8> {
 }
 
 /// The bytes that all next words tell, up to the end or a closing parenthesis.
-pub(crate) fn bytes(call: &mut Call) -> Vec<u8> {
-    let mut all = Vec::new(call.alloc);
+pub(crate) fn bytes(command: &mut Command) -> Vec<u8> {
+    let mut all = Vec::new(command.alloc);
     for _ in 0..u64::MAX {
-        if !call.has_word() || call.is_next(b")") {
+        if !command.has_word() || command.is_next(b")") {
             break;
         }
-        let read = byte(call.word());
-        let byte = call.fits(read, 0);
-        call.grow(all.push(byte));
+        let read = byte(command.word());
+        let byte = command.fits(read, 0);
+        command.grow(all.push(byte));
     }
     all
 }
 
 /// Values up to a closing parenthesis.
 #[cycle(told)]
-fn told_each(call: &mut Call, deep: u64) -> Vec<Value> {
-    let mut values = Vec::new(call.alloc);
+fn told_each(command: &mut Command, deep: u64) -> Vec<Value> {
+    let mut values = Vec::new(command.alloc);
     for _ in 0..u64::MAX {
-        if !call.has_more() {
+        if !command.has_more() {
             break;
         }
-        let item = told(call, deep);
-        call.grow(values.push(item));
+        let item = told(command, deep);
+        command.grow(values.push(item));
     }
     values
 }
 
 /// Values between parentheses.
 #[cycle(told)]
-fn told_list(call: &mut Call, deep: u64) -> Vec<Value> {
-    call.expect(b"(");
-    told_each(call, deep)
+fn told_list(command: &mut Command, deep: u64) -> Vec<Value> {
+    command.expect(b"(");
+    told_each(command, deep)
 }
 
 /// What a value begins with.
@@ -90,35 +90,35 @@ fn value_word(word: &[u8]) -> Option<ValueWord> {
 
 /// The value that is next, in which values lie so deep at most.
 #[cycle(told)]
-fn told(call: &mut Call, deep: u64) -> Value {
-    let read = value_word(call.word());
+fn told(command: &mut Command, deep: u64) -> Value {
+    let read = value_word(command.word());
     if deep == 0 {
-        call.stop(Stop::Refused(Name::TooDeep));
+        command.stop(Stop::Refused(Name::TooDeep));
         return Value::Num(0);
     }
-    match call.fits(read, ValueWord::Num(0)) {
+    match command.fits(read, ValueWord::Num(0)) {
         ValueWord::Num(number) => Value::Num(number),
-        ValueWord::List => Value::List(told_each(call, deep - 1)),
-        ValueWord::Pair => Value::Pair(call.wide(), call.wide()),
+        ValueWord::List => Value::List(told_each(command, deep - 1)),
+        ValueWord::Pair => Value::Pair(command.wide(), command.wide()),
         ValueWord::Variant => {
-            let index = call.number() as usize;
-            Value::Variant(index, told_list(call, deep - 1))
+            let index = command.number() as usize;
+            Value::Variant(index, told_list(command, deep - 1))
         }
         ValueWord::State => Value::State {
-            state: call.number() as usize,
-            prefix: told_list(call, deep - 1),
-            locals: told_list(call, deep - 1),
+            state: command.number() as usize,
+            prefix: told_list(command, deep - 1),
+            locals: told_list(command, deep - 1),
         },
         ValueWord::Union => {
-            call.expect(b"(");
-            let bytes = bytes(call);
-            call.expect(b")");
+            command.expect(b"(");
+            let bytes = bytes(command);
+            command.expect(b")");
             Value::Union(bytes)
         }
     }
 }
 
 /// The value that is next.
-pub(crate) fn value(call: &mut Call) -> Value {
-    told(call, MOST_DEEP)
+pub(crate) fn value(command: &mut Command) -> Value {
+    told(command, MOST_DEEP)
 }

@@ -1,13 +1,13 @@
 //! The answer to a line, as it is written.
 
-use crate::call::Call;
+use crate::command::Command;
 use crate::stop::OUT_OF_MEMORY;
 use abi_base::Primitive;
 use abi_text::write_primitive;
 use std::alloc::AllocError;
 use std::fmt::{Debug, Display};
 
-impl Call {
+impl Command {
     /// The whole answer.
     pub(crate) fn answer(&self) -> &str {
         if self.is_cut {
@@ -64,12 +64,6 @@ impl Call {
         self.write_wide(u128::from(number));
     }
 
-    /// Writes a number that may be negative.
-    pub(crate) fn write_signed(&mut self, number: i128) {
-        let written = write!(self.answer, "{number}");
-        self.note(written);
-    }
-
     /// Writes whether something is so.
     pub(crate) fn write_truth(&mut self, holds: bool) {
         self.write(if holds { "true" } else { "false" });
@@ -91,11 +85,5 @@ impl Call {
     pub(crate) fn write_primitive(&mut self, primitive: Primitive) {
         let written = write_primitive(&mut self.answer, primitive);
         self.note(written);
-    }
-
-    /// Writes that something is refused, and why.
-    pub(crate) fn refuse<T: Display>(&mut self, error: &T) {
-        self.write("refused ");
-        self.write_shown(error);
     }
 }

@@ -24,7 +24,7 @@ impl Place {
 /// the line stopped no word is read, and what is asked for is some value of its type: what follows need not ask after
 /// each word.
 #[derive(Drop)]
-pub(crate) struct Call {
+pub(crate) struct Command {
     pub(crate) alloc: Global,
     line: Vec<u8>,
     start: usize,
@@ -35,12 +35,12 @@ pub(crate) struct Call {
     is_cut: bool,
 }
 
-impl Call {
+impl Command {
     /// Nothing of the line is read, and nothing is answered yet.
     pub(crate) fn new(alloc: Global, line: &[u8]) -> Result<Self, AllocError> {
         let mut own = Vec::with_capacity(alloc, line.len())?;
         own.extend_from_slice(line)?;
-        Ok(Call {
+        Ok(Command {
             alloc,
             line: own,
             start: 0,

@@ -1,13 +1,11 @@
 //! The words of a line, one after another.
 
-use crate::call::{Call, Place};
+use crate::command::{Command, Place};
 use crate::stop::{Name, Stop};
 use abi_base::{Align, Integer, Primitive, Size, TargetDataLayout};
 use abi_laid::TypeTree;
 use abi_scalar::{ReprOptions, Scalar};
-use abi_text::{
-    Fault, StructRepr, decimal, discriminant, next_word, read_type, short, struct_repr, wide,
-};
+use abi_text::{Fault, StructRepr, decimal, next_word, read_type, short, struct_repr, wide};
 
 /// What the word stands for by a table, if it is there.
 pub(crate) fn named<T: Copy>(table: &[(&[u8], T)], word: &[u8]) -> Option<T> {
@@ -36,7 +34,7 @@ fn stop_of(fault: Fault, count: u64) -> Stop {
     }
 }
 
-impl Call {
+impl Command {
     /// What is left of the line.
     fn rest(&self) -> &[u8] {
         self.line.get(self.start..).unwrap_or(&[])
@@ -201,12 +199,6 @@ impl Call {
         self.fits(read, 0)
     }
 
-    /// A number of 128 bits, or its two's complement behind `-`.
-    pub(crate) fn discriminant(&mut self) -> u128 {
-        let read = discriminant(self.word());
-        self.fits(read, 0)
-    }
-
     /// A size in bytes.
     pub(crate) fn size(&mut self) -> Size {
         Size::from_bytes(self.number())
@@ -272,10 +264,5 @@ impl Call {
                 Scalar::Union { value }
             }
         }
-    }
-
-    /// The primitive that is next.
-    pub(crate) fn primitive(&mut self, dl: &TargetDataLayout) -> Primitive {
-        self.scalar(dl).primitive()
     }
 }
