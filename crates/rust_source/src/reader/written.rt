@@ -18,8 +18,8 @@ use crate::reader::cursor::{
 };
 use crate::reader::fields::{read_fields, read_value, read_variants};
 use crate::reader::generics::{pass_asked, read_parameters, read_where};
-use crate::reader::naming::{is_named, take_name};
 use crate::reader::lifetimes::lifetimes_declared;
+use crate::reader::naming::{is_named, take_name};
 use crate::reader::room::most_nested;
 use crate::reader::types::read_type;
 use crate::tokens::keyword::Keyword;
