@@ -3,7 +3,7 @@ that follows (docs/RULES.md, "Coroutines")."""
 from dataclasses import dataclass
 from itertools import combinations
 
-from plain.fields import DataLayout, Field, known
+from plain.fields import DataLayout, Field, known, read_sized
 from plain.layouts import Layout, layout_of
 from plain.placing import ALWAYS_SIZED, FieldList, ListKind, Repr, whole_size
 from plain.rows import Tally, asked
@@ -131,7 +131,7 @@ def judged(it, answer):
 
 def tried(row):
     """`random-coroutines SEED COUNT ( T .. )`"""
-    data_layout, fields = yield from known(row)
+    data_layout, fields = yield from known(row, read_sized)
     coroutines = [some_coroutine(row.dice, data_layout, fields) for _ in range(row.count)]
     lines = [row.line("layout", it) for it in coroutines]
     [answers] = yield from asked(lines)

@@ -2,7 +2,7 @@
 from dataclasses import dataclass
 from functools import cached_property
 
-from plain.fields import DataLayout, known
+from plain.fields import DataLayout, known, read_sized
 from plain.layouts import layout_of, width_of
 from plain.placing import ALWAYS_SIZED, FieldList, ListKind, Repr, rounded_up, whole_size
 from plain.rows import Tally, asked
@@ -160,7 +160,7 @@ def judged(it, answer, greatest):
 
 def tried(row):
     """`random-enums SEED COUNT ( T .. )`"""
-    data_layout, fields = yield from known(row)
+    data_layout, fields = yield from known(row, read_sized)
     enums = [some_enum(row.dice, data_layout, fields) for _ in range(row.count)]
     lines = [row.line("layout", it) for it in enums]
     # (where the niche lies is told by the greatest variant's own list)

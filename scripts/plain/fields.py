@@ -41,6 +41,11 @@ def data_layout_of(bound, parts):
     return DataLayout(most, int(pointer), bits // 8, integers, aligns["aggregate"])
 
 
+def read_sized(words):
+    """The text of a type."""
+    return read_type(words).text
+
+
 def read_field(words):
     """The text of a type, or of a slice of one."""
     first = words.at
@@ -49,9 +54,9 @@ def read_field(words):
     return words.since(first)
 
 
-def known(row):
-    """Asks for the row's data layout, and for the layouts of the fields between its parentheses."""
-    texts = row.words.list(read_field)
+def known(row, read=read_field):
+    """Asks for the row's data layout, and for the layouts of the fields between its parentheses, each read by this."""
+    texts = row.words.list(read)
     row.words.end()
     if not texts:
         raise Stop("asks fields")

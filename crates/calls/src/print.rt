@@ -51,7 +51,7 @@ pub(crate) fn write_range(command: &mut Command, range: WrappingRange) {
 }
 
 /// Writes a scalar: its primitive and its range, or that it is a union's.
-pub(crate) fn write_scalar(command: &mut Command, scalar: Scalar) {
+fn write_scalar(command: &mut Command, scalar: Scalar) {
     match scalar {
         Scalar::Initialized { value, valid_range } => {
             command.write_primitive(value);
@@ -243,7 +243,7 @@ fn write_variants(command: &mut Command, layout: &Layout) {
 }
 
 /// Writes a layout whole, but for its seed.
-pub(crate) fn write_layout(command: &mut Command, layout: &Layout) {
+fn write_layout(command: &mut Command, layout: &Layout) {
     write_whole(command, layout);
     write_variants(command, layout);
 }

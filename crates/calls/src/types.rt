@@ -53,7 +53,7 @@ fn write_laid_padding(command: &mut Command, laid: &Laid) -> Result<(), AllocErr
     Ok(())
 }
 
-/// The index of a variant.
+/// The index of a variant; no line asks for one above a million.
 fn variant_of(index: u64) -> Result<VariantIdx, Stop> {
     if index > 1_000_000 {
         return Err(Stop::Asks(Clause::Variant));
