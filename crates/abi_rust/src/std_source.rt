@@ -2,7 +2,8 @@
 
 /// The standard library's types, as far as their layouts depend on them: those of the compiler's release 1.95. They are
 /// the library's own business, and other releases may have others. `std`, `core` and `alloc` are one module here. On a
-/// struct, `rustc_layout_scalar_valid_range` limits the numbers of its first field.
+/// struct, `rustc_layout_scalar_valid_range` limits the numbers of its first field. The unions are `transparent` there;
+/// without it they are laid out alike, and the stable language, whose rules count here, has no such unions.
 pub(crate) const STD_SOURCES: &str = r#"pub mod prelude {
     pub use crate::option::Option;
     pub use crate::result::Result;
@@ -55,12 +56,10 @@ pub mod mem {
     pub const align_of: usize = 0;
     #[repr(transparent)]
     pub struct ManuallyDrop<T: ?Sized> { value: T }
-    #[repr(transparent)]
     pub union MaybeUninit<T> { uninit: (), value: ManuallyDrop<T> }
 }
 pub mod cell {
     use crate::mem::ManuallyDrop;
-    #[repr(transparent)]
     pub union UnsafeCell<T: ?Sized> { value: ManuallyDrop<T> }
     #[repr(transparent)]
     pub struct SyncUnsafeCell<T: ?Sized> { value: UnsafeCell<T> }
