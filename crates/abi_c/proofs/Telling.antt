@@ -10,8 +10,8 @@ use Rattle.rustc_abi.specs.declared.error.LayError.{LayError}
 use Rattle.rustc_abi.specs.declared.error.LayError.TheVariants.{OutOfMemory}
 use Rattle.rustc_abi.specs.Fault.{IsRefusedFor}
 use Rattle.abi_flat.specs.FlatLayout.{flat_layout}
-use Rattle.abi_laid.specs.Placed.{Placed}
-use Rattle.abi_laid.specs.Tree.{Tree}
+use Rattle.abi_tree.specs.Placed.{Placed}
+use Rattle.abi_tree.specs.Tree.{Tree}
 use Rattle.abi_text.specs.DataLayoutLine.{data_layout_of}
 use Rattle.abi_c.specs.declared.laid_type.Failure.{Failure}
 use Rattle.abi_c.specs.declared.laid_type.Failure.TheVariants as failure

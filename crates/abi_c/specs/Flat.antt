@@ -5,8 +5,8 @@ use Rattle.abi_base.specs.declared.data_layout.TargetDataLayout.{TargetDataLayou
 use Rattle.abi_base.specs.declared.parse_error.TargetDataLayoutError.{TargetDataLayoutError}
 use Rattle.abi_base.specs.declared.parse_error.TargetDataLayoutError.TheVariants as data_layout
 use Rattle.abi_base.specs.DataLayoutFault.{Fault as Flaw, bad_space, bad_bits, missing_alignment, bad_alignment, unknown_pointer}
-use Rattle.abi_laid.specs.Placed.{Placed}
-use Rattle.abi_laid.specs.Tree.{Tree}
+use Rattle.abi_tree.specs.Placed.{Placed}
+use Rattle.abi_tree.specs.Tree.{Tree}
 use Rattle.abi_flat.specs.FlatLayout.{flat_layout}
 use Rattle.abi_flat.specs.FlatTree.{flat_tree, IsReadable}
 use Rattle.abi_text.specs.DataLayoutLine.{data_layout_of}

@@ -1,12 +1,12 @@
 -- What is answered to a value, or to bytes, of the type with the numbers.
 use Rattle.std.specs.Prelude.{◌≡◌, ℕ, ◌<◌, ◌⊎◌, false, List, [], ◌∷◌, get_or}
 use Rattle.abi_base.specs.declared.data_layout.TargetDataLayout.{TargetDataLayout}
-use Rattle.abi_laid.specs.Covering.{is_covered}
-use Rattle.abi_laid.specs.Holding.{Holds}
-use Rattle.abi_laid.specs.Placed.{Placed}
-use Rattle.abi_laid.specs.Tree.{Tree}
-use Rattle.abi_laid.specs.Value.{Value}
-use Rattle.abi_laid.specs.Values.{IsValueOf, LocalsHaveValues}
+use Rattle.abi_tree.specs.Covering.{is_covered}
+use Rattle.abi_tree.specs.Holding.{Holds}
+use Rattle.abi_tree.specs.Placed.{Placed}
+use Rattle.abi_tree.specs.Tree.{Tree}
+use Rattle.abi_tree.specs.Value.{Value}
+use Rattle.abi_tree.specs.Values.{IsValueOf, LocalsHaveValues}
 use Rattle.abi_flat.specs.FlatValue.{flat_value, IsReadableValue}
 use Rattle.abi_c.specs.declared.values.BytesAnswer.{BytesAnswer}
 use Rattle.abi_c.specs.Flat.{IsLayoutTold, Told}

@@ -2,12 +2,12 @@
 use Rattle.std.specs.Prelude.{◌≡◌, ◌<◌, ℕ, true, List, [], ◌∷◌, Ok, ⊤}
 use Rattle.std.specs.Str.{is_utf8}
 use Rattle.abi_base.specs.declared.data_layout.TargetDataLayout.{TargetDataLayout}
-use Rattle.abi_laid.specs.declared.laid.Laid.{Laid}
-use Rattle.abi_laid.specs.Laid.{endian_of, placed_of}
-use Rattle.abi_laid.specs.Placed.{Placed, layout_of}
-use Rattle.abi_laid.specs.Reading.{KeepsValues}
-use Rattle.abi_laid.specs.Tree.{Tree}
-use Rattle.abi_laid.specs.Values.{LocalsHaveValues}
+use Rattle.abi_tree.specs.declared.laid.Laid.{Laid}
+use Rattle.abi_tree.specs.Laid.{endian_of, placed_of}
+use Rattle.abi_tree.specs.Placed.{Placed, layout_of}
+use Rattle.abi_tree.specs.Reading.{KeepsValues}
+use Rattle.abi_tree.specs.Tree.{Tree}
+use Rattle.abi_tree.specs.Values.{LocalsHaveValues}
 use Rattle.abi_text.specs.DataLayoutLine.{data_layout_of}
 use Rattle.rustc_abi.specs.Laying.{IsLaying}
 use Rattle.abi_c.specs.declared.laid_type.Failure.{Failure}

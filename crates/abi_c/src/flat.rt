@@ -1,14 +1,14 @@
 //! Layouts as numbers, for types as numbers.
 
 ghost use Rattle.std.specs.Prelude.{◌≡◌, ◌<◌, ◌∷◌, [], IfOk};
-ghost use Rattle.abi_laid.specs.Laid.{placed_of};
-ghost use Rattle.abi_laid.specs.Placed.{layout_of};
+ghost use Rattle.abi_tree.specs.Laid.{placed_of};
+ghost use Rattle.abi_tree.specs.Placed.{layout_of};
 ghost use Rattle.abi_flat.specs.FlatLayout.{flat_layout};
 ghost use Rattle.abi_c.specs.Flat.{IsLayoutTold, told_by};
 
 use crate::laid_type::{Failure, lay_type};
 use abi_flat::write_layout;
-use abi_laid::Laid;
+use abi_tree::Laid;
 use std::alloc::{AllocError, Global};
 
 /// A status, and the numbers beside it.

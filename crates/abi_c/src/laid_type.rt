@@ -2,8 +2,8 @@
 
 ghost use Rattle.std.specs.Prelude.{◌≡◌, ◌≢◌, ◌∷◌, [], IfErr, IfOk, Ok};
 ghost use Rattle.abi_base.specs.declared.data_layout.TargetDataLayout.{TargetDataLayout as Target};
-ghost use Rattle.abi_laid.specs.Laid.{placed_of};
-ghost use Rattle.abi_laid.specs.Tree.{Tree, tree_of};
+ghost use Rattle.abi_tree.specs.Laid.{placed_of};
+ghost use Rattle.abi_tree.specs.Tree.{Tree, tree_of};
 ghost use Rattle.abi_text.specs.DataLayoutLine.{data_layout_of};
 ghost use Rattle.rustc_abi.specs.declared.error.LayError.{LayError};
 ghost use Rattle.abi_c.specs.Flat.{AreNumbersOf, IsLaidTold, IsLayoutTold, IsToldIn, IsToldOf, data_layout_error_number, refusal_number};
@@ -11,8 +11,8 @@ ghost use Rattle.abi_c.specs.LaidType.{FailsAs, IsLaidFrom, IsLaidType};
 
 use abi_base::{TargetDataLayout, TargetDataLayoutError};
 use abi_flat::{ReadError, read_tree};
-use abi_laid::{Laid, TypeTree};
 use abi_text::read_data_layout;
+use abi_tree::{Laid, TypeTree};
 use rustc_abi::{LayError, lay_out};
 use std::alloc::Global;
 

@@ -2,9 +2,9 @@
 
 ghost use Rattle.std.specs.Prelude.{◌≡◌, ◌∷◌, [], IfOk};
 ghost use Rattle.abi_base.specs.declared.data_layout.TargetDataLayout.{TargetDataLayout as Target};
-ghost use Rattle.abi_laid.specs.Laid.{placed_of};
-ghost use Rattle.abi_laid.specs.Tree.{Tree};
-ghost use Rattle.abi_laid.specs.Value.{value_of};
+ghost use Rattle.abi_tree.specs.Laid.{placed_of};
+ghost use Rattle.abi_tree.specs.Tree.{Tree};
+ghost use Rattle.abi_tree.specs.Value.{value_of};
 ghost use Rattle.abi_flat.specs.FlatValue.{flat_value};
 ghost use Rattle.abi_c.specs.Flat.{told_by};
 ghost use Rattle.abi_c.specs.FlatValues.{IsReadOf, IsToldOfLaid, IsWritten, IsWrittenOf, bytes_told_by};
@@ -13,7 +13,7 @@ ghost use Rattle.abi_c.specs.LaidType.{IsLaidFrom};
 use crate::flat::{FlatAnswer, one_number};
 use crate::laid_type::{Failure, lay_type};
 use abi_flat::{ReadError, read_flat_value, write_flat_value};
-use abi_laid::{Laid, Value, ValueError, read_value, write_value};
+use abi_tree::{Laid, Value, ValueError, read_value, write_value};
 use std::alloc::{AllocError, Global};
 
 /// A status, and the bytes beside it.

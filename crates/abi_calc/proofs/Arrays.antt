@@ -7,7 +7,7 @@ use Rattle.abi_base.specs.DataLayout.{size_bound}
 use Rattle.abi_scalar.specs.declared.error.LayoutCalculatorError.{LayoutCalculatorError}
 use Rattle.abi_scalar.specs.declared.error.LayoutCalculatorError.TheVariants.{SizeOverflow}
 use Rattle.abi_scalar.specs.declared.layout_data.LayoutData.{LayoutData}
-use Rattle.abi_lists.specs.Array.{array_answer}
+use Rattle.abi_univariant.specs.Array.{array_answer}
 
 module _ {F V H : Type 0} where
   -- an answer by a test

@@ -7,9 +7,9 @@ use Rattle.abi_scalar.specs.declared.layout_data.LayoutData.{LayoutData}
 use Rattle.abi_scalar.specs.declared.repr.ReprOptions.{ReprOptions}
 use Rattle.abi_scalar.specs.Repr.{has_fixed_order, is_abi_fixed, may_randomize}
 use Rattle.abi_scalar.specs.Shape.{listed_offsets}
-use Rattle.abi_lists.specs.InOrder.{IsOrderedLayout}
-use Rattle.abi_lists.specs.ListView.{list_view}
-use Rattle.abi_lists.specs.Part.{parts_of}
+use Rattle.abi_univariant.specs.InOrder.{IsOrderedLayout}
+use Rattle.abi_univariant.specs.ListView.{list_view}
+use Rattle.abi_univariant.specs.Part.{parts_of}
 use Rattle.abi_calc.specs.Marks.{HasListMarks}
 use Rattle.abi_calc.specs.Seen.{view_of_fields}
 

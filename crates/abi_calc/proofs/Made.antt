@@ -7,10 +7,10 @@ use Rattle.abi_base.specs.declared.struct_kind.StructKind.{StructKind}
 use Rattle.abi_scalar.specs.declared.layout_data.LayoutData.{LayoutData}
 use Rattle.abi_scalar.specs.declared.repr.ReprOptions.{ReprOptions}
 use Rattle.abi_scalar.specs.Lawful.{IsLawfulLayout}
-use Rattle.abi_lists.specs.Least.{align_by}
-use Rattle.abi_lists.specs.List.{IsListAnswer}
-use Rattle.abi_lists.specs.Placement.{IsNonEmptyIfUnsized, IsSized}
-use Rattle.abi_lists.proofs.Promised.LeastLemmas.{biased, has_greatest_niche, has_least, has_own_niche, lies_in_order}
+use Rattle.abi_univariant.specs.Least.{align_by}
+use Rattle.abi_univariant.specs.List.{IsListAnswer}
+use Rattle.abi_univariant.specs.Placement.{IsNonEmptyIfUnsized, IsSized}
+use Rattle.abi_univariant.proofs.Promised.LeastLemmas.{biased, has_greatest_niche, has_least, has_own_niche, lies_in_order}
 use Rattle.abi_calc.specs.Enums.Lists.{AreListLayouts}
 use Rattle.abi_calc.specs.Made.{AreFieldLists, IsFieldList}
 use Rattle.abi_calc.proofs.EnumLemmas.Sizes.{tail_of_sized}

@@ -14,12 +14,12 @@ use Rattle.abi_scalar.specs.declared.variants.Variants.TheVariants.{Single}
 use Rattle.abi_scalar.specs.Lawful.{IsLawfulLayout}
 use Rattle.abi_scalar.specs.Repr.{is_abi_fixed}
 use Rattle.abi_scalar.specs.Shape.{listed_offsets}
-use Rattle.abi_lists.specs.List.{IsListLayout}
-use Rattle.abi_lists.specs.ListView.{list_view}
-use Rattle.abi_lists.specs.Part.{parts_of}
-use Rattle.abi_lists.specs.Placement.{IsNonEmptyIfUnsized}
-use Rattle.abi_lists.specs.Union.{IsUnionAnswer, IsUnionView, union_align}
-use Rattle.abi_lists.proofs.Promised.LeastLemmas.{has_greatest_niche, has_own_niche}
+use Rattle.abi_univariant.specs.List.{IsListLayout}
+use Rattle.abi_univariant.specs.ListView.{list_view}
+use Rattle.abi_univariant.specs.Part.{parts_of}
+use Rattle.abi_univariant.specs.Placement.{IsNonEmptyIfUnsized}
+use Rattle.abi_univariant.specs.Union.{IsUnionAnswer, IsUnionView, union_align}
+use Rattle.abi_univariant.proofs.Promised.LeastLemmas.{has_greatest_niche, has_own_niche}
 use Rattle.abi_calc.specs.Enums.Single.{IsSingleAnswer, single_layout, widened_view}
 use Rattle.abi_calc.specs.Marks.{HasListMarks, HasUnionMarks}
 use Rattle.abi_calc.specs.Seen.{IsSeenAsList, view_of_fields}

@@ -5,8 +5,8 @@ use Rattle.abi_base.specs.declared.struct_kind.StructKind.{StructKind}
 use Rattle.abi_scalar.specs.declared.layout_data.LayoutData.{LayoutData}
 use Rattle.abi_scalar.specs.declared.repr.ReprOptions.{ReprOptions}
 use Rattle.abi_scalar.specs.Shape.{listed_offsets}
-use Rattle.abi_lists.specs.Least.{IsLeastSize, LiesInSomeOrder}
-use Rattle.abi_lists.specs.ListNiche.{HasLargestNiche, IsNicheOfPart}
+use Rattle.abi_univariant.specs.Least.{IsLeastSize, LiesInSomeOrder}
+use Rattle.abi_univariant.specs.ListNiche.{HasLargestNiche, IsNicheOfPart}
 use Rattle.abi_calc.specs.Marks.{HasListMarks}
 use Rattle.abi_calc.specs.Seen.{view_of_fields}
 

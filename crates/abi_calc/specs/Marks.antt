@@ -8,10 +8,10 @@ use Rattle.abi_index.specs.Relation.{Relation}
 use Rattle.abi_scalar.specs.declared.layout_data.LayoutData.{LayoutData}
 use Rattle.abi_scalar.specs.declared.repr.ReprOptions.{ReprOptions}
 use Rattle.abi_scalar.specs.Repr.{is_c}
-use Rattle.abi_lists.specs.Fields.{greatest_repr_align, greatest_unadjusted, lies_as_in_c, seed_with}
-use Rattle.abi_lists.specs.List.{list_seed, unadjusted_of}
-use Rattle.abi_lists.specs.Part.{parts_of}
-use Rattle.abi_lists.specs.Union.{unraised_align}
+use Rattle.abi_univariant.specs.Fields.{greatest_repr_align, greatest_unadjusted, lies_as_in_c, seed_with}
+use Rattle.abi_univariant.specs.List.{list_seed, unadjusted_of}
+use Rattle.abi_univariant.specs.Part.{parts_of}
+use Rattle.abi_univariant.specs.Union.{unraised_align}
 use Rattle.abi_calc.specs.Coroutine.Lists.{picked}
 use Rattle.abi_calc.specs.Coroutine.Promotion.{promoted_of}
 use Rattle.abi_calc.specs.Coroutine.Sizes.{own_lists}

@@ -11,9 +11,9 @@ use Rattle.abi_scalar.specs.declared.repr.ReprOptions.{ReprOptions}
 use Rattle.abi_scalar.specs.declared.variants.Variants.TheVariants.{Single}
 use Rattle.abi_scalar.specs.Repr.{is_abi_fixed}
 use Rattle.abi_scalar.specs.Shape.{listed_offsets}
-use Rattle.abi_lists.specs.ListNiche.{HasLargestNiche, IsNicheOfPart}
-use Rattle.abi_lists.specs.ListView.{list_view}
-use Rattle.abi_lists.specs.Part.{parts_of}
+use Rattle.abi_univariant.specs.ListNiche.{HasLargestNiche, IsNicheOfPart}
+use Rattle.abi_univariant.specs.ListView.{list_view}
+use Rattle.abi_univariant.specs.Part.{parts_of}
 use Rattle.abi_calc.specs.Enums.Single.{allowed_view}
 use Rattle.abi_calc.specs.Marks.{HasListMarks}
 

@@ -11,14 +11,14 @@ use Rattle.abi_scalar.specs.declared.variants.Variants.TheVariants.{Single}
 use Rattle.abi_scalar.specs.Lawful.{IsLawfulLayout}
 use Rattle.abi_scalar.specs.Order.{HasPlaceForEach, IsAscending}
 use Rattle.abi_scalar.specs.Shape.{listed_offsets}
-use Rattle.abi_lists.specs.Answer.{IsAnswer}
-use Rattle.abi_lists.specs.Apart.{AreAligned, AreApart}
-use Rattle.abi_lists.specs.InOrder.{IsOrderedAnswer}
-use Rattle.abi_lists.specs.Least.{IsEachOrderTooLarge, IsLeastSize, IsOrderOf, LiesInOrder, LiesInSomeOrder, size_by}
-use Rattle.abi_lists.specs.List.{AreSized, IsFirstFaultless, IsListAnswer}
-use Rattle.abi_lists.specs.ListNiche.{HasLargestNiche, IsNicheOfPart}
-use Rattle.abi_lists.specs.Part.{parts_of}
-use Rattle.abi_lists.specs.Placement.{IsSized, cut, list_repr, start_of, sum_rounded}
+use Rattle.abi_univariant.specs.Answer.{IsAnswer}
+use Rattle.abi_univariant.specs.Apart.{AreAligned, AreApart}
+use Rattle.abi_univariant.specs.InOrder.{IsOrderedAnswer}
+use Rattle.abi_univariant.specs.Least.{IsEachOrderTooLarge, IsLeastSize, IsOrderOf, LiesInOrder, LiesInSomeOrder, size_by}
+use Rattle.abi_univariant.specs.List.{AreSized, IsFirstFaultless, IsListAnswer}
+use Rattle.abi_univariant.specs.ListNiche.{HasLargestNiche, IsNicheOfPart}
+use Rattle.abi_univariant.specs.Part.{parts_of}
+use Rattle.abi_univariant.specs.Placement.{IsSized, cut, list_repr, start_of, sum_rounded}
 use Rattle.abi_calc.specs.Marks.{HasListMarks}
 use Rattle.abi_calc.specs.Seen.{view_of_fields}
 

@@ -5,13 +5,13 @@ ghost use Rattle.abi_base.specs.DataLayout.{IsLawfulDataLayout, size_bound};
 ghost use Rattle.abi_scalar.specs.declared.backend_repr.BackendRepr.TheVariants.{Memory};
 ghost use Rattle.abi_scalar.specs.Lawful.{IsLawfulLayout};
 ghost use Rattle.abi_scalar.specs.Order.{HasPlaceForEach, IsAscending};
-ghost use Rattle.abi_lists.specs.Array.{array_answer};
+ghost use Rattle.abi_univariant.specs.Array.{array_answer};
 
 use crate::calculator::LayoutCalculator;
 use abi_base::HasDataLayout;
 use abi_index::Idx;
-use abi_lists::layout_of_array;
 use abi_scalar::{LayoutCalculatorError, LayoutData};
+use abi_univariant::layout_of_array;
 
 impl<Cx: HasDataLayout> LayoutCalculator<Cx> {
     /// The layout of so many elements, one after another; without a count, that of a slice.

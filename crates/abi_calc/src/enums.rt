@@ -19,7 +19,7 @@ ghost use Rattle.std.specs.Iterator.Runs.{EachRunFrom, WholeRun};
 ghost use Rattle.abi_index.specs.Slice.{items_of};
 ghost use Rattle.abi_base.specs.DataLayout.{IsLawfulDataLayout};
 ghost use Rattle.abi_scalar.specs.Lawful.{IsLawfulLayout};
-ghost use Rattle.abi_lists.specs.List.{HasLawfulAligns};
+ghost use Rattle.abi_univariant.specs.List.{HasLawfulAligns};
 ghost use Rattle.abi_calc.specs.Enums.Answer.{HasOneEach, IsTypeAnswer};
 ghost use Rattle.abi_calc.specs.Enums.Path.{path_of};
 ghost use Rattle.abi_calc.specs.Enums.Promised.{IsStructOrEnum};

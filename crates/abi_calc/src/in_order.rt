@@ -5,15 +5,15 @@ ghost use Rattle.abi_index.specs.Slice.{items_of};
 ghost use Rattle.abi_base.specs.DataLayout.{IsLawfulDataLayout, size_bound};
 ghost use Rattle.abi_scalar.specs.Lawful.{IsLawfulLayout};
 ghost use Rattle.abi_scalar.specs.Repr.{may_randomize};
-ghost use Rattle.abi_lists.specs.List.{HasLawfulAligns};
-ghost use Rattle.abi_lists.specs.Placement.{IsLawfulPrefix, IsNonEmptyIfUnsized};
+ghost use Rattle.abi_univariant.specs.List.{HasLawfulAligns};
+ghost use Rattle.abi_univariant.specs.Placement.{IsLawfulPrefix, IsNonEmptyIfUnsized};
 ghost use Rattle.abi_calc.specs.Univariant.{IsUnivariantInOrder};
 
 use crate::calculator::LayoutCalculator;
 use abi_base::{HasDataLayout, StructKind};
 use abi_index::{Idx, IndexSlice};
-use abi_lists::layout_of_fields_in_order;
 use abi_scalar::{LayoutCalculatorError, LayoutData, LayoutHandle, ReprOptions};
+use abi_univariant::layout_of_fields_in_order;
 use std::alloc::Global;
 
 impl<Cx: HasDataLayout> LayoutCalculator<Cx> {

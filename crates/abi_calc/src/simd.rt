@@ -6,13 +6,13 @@ ghost use Rattle.abi_scalar.specs.declared.backend_repr.BackendRepr.TheVariants.
 ghost use Rattle.abi_scalar.specs.declared.scalar.Scalar.{Scalar};
 ghost use Rattle.abi_scalar.specs.Lawful.{IsLawfulLayout};
 ghost use Rattle.abi_scalar.specs.Order.{HasPlaceForEach, IsAscending};
-ghost use Rattle.abi_lists.specs.Simd.{AreSizedVectors, IsSizedVector, is_tight, lanes_align, scalable_answer, simd_answer};
+ghost use Rattle.abi_univariant.specs.Simd.{AreSizedVectors, IsSizedVector, is_tight, lanes_align, scalable_answer, simd_answer};
 
 use crate::calculator::LayoutCalculator;
 use abi_base::{HasDataLayout, NumScalableVectors};
 use abi_index::Idx;
-use abi_lists::{layout_of_scalable, layout_of_simd};
 use abi_scalar::{LayoutCalculatorError, LayoutData, LayoutHandle};
+use abi_univariant::{layout_of_scalable, layout_of_simd};
 use std::alloc::Global;
 
 impl<Cx: HasDataLayout> LayoutCalculator<Cx> {

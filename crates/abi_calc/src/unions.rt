@@ -7,14 +7,14 @@ ghost use Rattle.abi_scalar.specs.declared.fields_shape.FieldsShape.TheVariants.
 ghost use Rattle.abi_scalar.specs.declared.variants.Variants.TheVariants.{Single};
 ghost use Rattle.abi_scalar.specs.Lawful.{IsLawfulLayout};
 ghost use Rattle.abi_scalar.specs.Order.{HasPlaceForEach, IsAscending};
-ghost use Rattle.abi_lists.specs.Union.{IsSizedUnion, IsUnionAnswer, IsUnionView, only_of, union_align};
+ghost use Rattle.abi_univariant.specs.Union.{IsSizedUnion, IsUnionAnswer, IsUnionView, only_of, union_align};
 ghost use Rattle.abi_calc.specs.Marks.{HasUnionMarks};
 
 use crate::calculator::LayoutCalculator;
 use abi_base::HasDataLayout;
 use abi_index::{Idx, IndexSlice, IndexVec};
-use abi_lists::layout_of_union;
 use abi_scalar::{LayoutCalculatorError, LayoutData, LayoutHandle, ReprOptions};
+use abi_univariant::layout_of_union;
 use std::alloc::Global;
 
 /// The fields of the one variant.

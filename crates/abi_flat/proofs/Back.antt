@@ -21,7 +21,7 @@ use Rattle.abi_scalar.specs.declared.repr.ReprFlags.{ReprFlags}
 use Rattle.abi_scalar.specs.declared.repr.ReprOptions.{ReprOptions}
 use Rattle.abi_scalar.specs.declared.scalar.Scalar.{Scalar}
 use Rattle.abi_scalar.specs.declared.scalar.Scalar.TheVariants.{Initialized, Union}
-use Rattle.abi_laid.specs.Tree.{Tree, scalar, pair, never, unit, array, vector, struct, union, enum, coroutine, trees, Trees, no_trees, more_trees, Variants, no_variants, more_variants}
+use Rattle.abi_tree.specs.Tree.{Tree, scalar, pair, never, unit, array, vector, struct, union, enum, coroutine, trees, Trees, no_trees, more_trees, Variants, no_variants, more_variants}
 use Rattle.abi_flat.specs.Pieces.{◌>>=◌, Front, flat_bool, flat_wide, bool_numbered, front_as, front_list, front_many, front_two, front_wide, front_word, front_words, halves}
 use Rattle.abi_flat.specs.FlatScalar.{IsPrimitive, IsScalar, flat_primitive, flat_scalar, front_primitive, front_range, front_scalar}
 use Rattle.abi_flat.specs.FlatTree.{AreReadable, AreReadableVariants, IsReadable, flat_each, flat_pairs, flat_tree, flat_trees, flat_variants, count_of_trees, count_of_variants}

@@ -2,9 +2,9 @@
 use Rattle.std.proofs.Common.{Option, None, Some, arith, ltb, ◌≤◌, ◌≡◌, ℕ, ◌+◌, ◌<◌, ◌++◌, List, [], ◌∷◌, get_or, take, length, refl, ap, sym, ◌∙◌}
 use Rattle.std.proofs.lemmas.List.{append-nil, append_assoc, take_more}
 use Rattle.std.proofs.lemmas.Bool.{cond-false, cond-true, le-ltb, lt-ltb}
-use Rattle.abi_laid.specs.Placed.{Placed, layout_of, size_of}
+use Rattle.abi_tree.specs.Placed.{Placed, layout_of, size_of}
 use Rattle.abi_scalar.specs.Layout.{Layout}
-use Rattle.abi_laid.specs.Runs.{padding_of}
+use Rattle.abi_tree.specs.Runs.{padding_of}
 use Rattle.abi_scalar.specs.declared.variants.VariantLayout.{VariantLayout}
 use Rattle.abi_flat.specs.FlatLayout.{flat_beside, flat_each_variant_layout, flat_head, flat_layout, flat_listed, flat_variant_layout, listed_padding, most_listed, with_runs}
 use Rattle.abi_flat.specs.FlatTree.{flat_pairs}

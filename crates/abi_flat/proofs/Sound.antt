@@ -13,7 +13,7 @@ use Rattle.abi_base.specs.declared.scalable.ScalableElt.TheVariants.{ElementCoun
 use Rattle.abi_scalar.specs.declared.repr.ReprFlags.{ReprFlags}
 use Rattle.abi_scalar.specs.declared.scalar.Scalar.{Scalar}
 use Rattle.abi_scalar.specs.declared.scalar.Scalar.TheVariants.{Initialized, Union}
-use Rattle.abi_laid.specs.Tree.{Tree, scalar, pair, never, unit, array, vector, struct, union, enum, coroutine, trees}
+use Rattle.abi_tree.specs.Tree.{Tree, scalar, pair, never, unit, array, vector, struct, union, enum, coroutine, trees}
 use Rattle.abi_flat.specs.declared.kind.Kind.{Kind}
 use Rattle.abi_flat.specs.declared.kind.Kind.TheVariants as kind
 use Rattle.abi_flat.specs.Kinds.{kind_numbered, kinds}

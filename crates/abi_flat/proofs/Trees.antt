@@ -2,11 +2,11 @@
 use Rattle.std.proofs.Common.{◌≡◌, ℕ, zero, suc, ◌-◌, List, [], ◌∷◌, map, Vec, refl, ap, sym, ◌∙◌, arith}
 use Rattle.std.specs.declared.alloc.Global.{Global}
 use Rattle.abi_scalar.specs.declared.repr.ReprOptions.{ReprOptions}
-use Rattle.abi_laid.specs.declared.tree.TypeTree.{TypeTree, Enum, fold-roll-TypeTree}
-use Rattle.abi_laid.specs.declared.tree.TypeTree.TheVariants.{rolls-Enum}
-use Rattle.abi_laid.specs.declared.tree.TypeTree.TheShapes.{former-TypeTree-Enum-1-at-3}
-use Rattle.abi_laid.specs.declared.tree.TypeTree.TheOpen as layer
-use Rattle.abi_laid.specs.Tree.{Tree, tree_of, layer_tree, trees, enum, variants, more_variants}
+use Rattle.abi_tree.specs.declared.tree.TypeTree.{TypeTree, Enum, fold-roll-TypeTree}
+use Rattle.abi_tree.specs.declared.tree.TypeTree.TheVariants.{rolls-Enum}
+use Rattle.abi_tree.specs.declared.tree.TypeTree.TheShapes.{former-TypeTree-Enum-1-at-3}
+use Rattle.abi_tree.specs.declared.tree.TypeTree.TheOpen as layer
+use Rattle.abi_tree.specs.Tree.{Tree, tree_of, layer_tree, trees, enum, variants, more_variants}
 use Rattle.abi_flat.specs.FrontTree.{front_node, front_tree, variant_kept, variants_of_items}
 
 -- there is one type more around those in it

@@ -3,8 +3,8 @@ use Rattle.std.proofs.Common.{◌≡◌, ℕ, zero, suc, ◌-◌, ◌<◌, ◌++
 use Rattle.std.proofs.lemmas.Bool.{cond-true, lt-ltb}
 use Rattle.std.proofs.lemmas.List.{append_assoc}
 use Rattle.std.proofs.lemmas.Option.{option_and_then_some}
-use Rattle.abi_laid.specs.Bytes.{AreBytes}
-use Rattle.abi_laid.specs.Value.{Value, number, two, list, variant, state, bytes, Values, no_values, more_values, values}
+use Rattle.abi_tree.specs.Bytes.{AreBytes}
+use Rattle.abi_tree.specs.Value.{Value, number, two, list, variant, state, bytes, Values, no_values, more_values, values}
 use Rattle.abi_flat.specs.declared.value.ValueKind.{ValueKind}
 use Rattle.abi_flat.specs.declared.value.ValueKind.TheVariants as kind
 use Rattle.abi_flat.specs.Pieces.{◌>>=◌, Front, flat_wide, front_as, front_list, front_many, front_two, front_wide, front_word}

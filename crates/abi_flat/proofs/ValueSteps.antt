@@ -1,8 +1,8 @@
 -- Values as numbers, one more.
 use Rattle.std.proofs.Common.{◌≡◌, ℕ, suc, ◌+◌, ◌<◌, ◌≤◌, ◌++◌, List, [], ◌∷◌, get_or, take, length, map, refl, ap, sym, ◌∙◌}
 use Rattle.std.proofs.lemmas.List.{append-nil, append_assoc, map-append, take_all, take_more}
-use Rattle.abi_laid.specs.declared.value.Value.{Value as Kept}
-use Rattle.abi_laid.specs.Value.{Value, value_of, values, values_of}
+use Rattle.abi_tree.specs.declared.value.Value.{Value as Kept}
+use Rattle.abi_tree.specs.Value.{Value, value_of, values, values_of}
 use Rattle.abi_flat.specs.FlatValue.{flat_value, flat_values, values_count}
 
 values_more : (vs : List Value) (v : Value) → flat_values (values (vs ++ v ∷ [])) ≡ flat_values (values vs) ++ flat_value v

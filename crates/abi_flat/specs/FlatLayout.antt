@@ -12,9 +12,9 @@ use Rattle.abi_scalar.specs.declared.variants.TagEncoding.TheVariants.{Direct, N
 use Rattle.abi_scalar.specs.declared.variants.VariantLayout.{VariantLayout}
 use Rattle.abi_scalar.specs.declared.variants.Variants.{Variants}
 use Rattle.abi_scalar.specs.declared.variants.Variants.TheVariants.{Empty, Single, Multiple}
-use Rattle.abi_laid.specs.Placed.{Placed, layout_of, size_of}
+use Rattle.abi_tree.specs.Placed.{Placed, layout_of, size_of}
 use Rattle.abi_scalar.specs.Layout.{Layout}
-use Rattle.abi_laid.specs.Runs.{padding_of}
+use Rattle.abi_tree.specs.Runs.{padding_of}
 use Rattle.abi_flat.specs.Pieces.{flat_bool, flat_wide}
 use Rattle.abi_flat.specs.FlatScalar.{flat_primitive}
 use Rattle.abi_flat.specs.FlatTree.{flat_pairs}

@@ -1,6 +1,6 @@
 -- Types as numbers, depth first: what each is, its operands, and its types, a count before each list.
 use Rattle.std.specs.Prelude.{ℕ, zero, suc, ◌++◌, List, [], ◌∷◌, Some, None, length, ⊤}
-use Rattle.abi_laid.specs.Tree.{Tree, scalar, pair, never, unit, array, vector, struct, union, enum, coroutine, Trees, no_trees, more_trees, Variants, no_variants, more_variants}
+use Rattle.abi_tree.specs.Tree.{Tree, scalar, pair, never, unit, array, vector, struct, union, enum, coroutine, Trees, no_trees, more_trees, Variants, no_variants, more_variants}
 use Rattle.abi_flat.specs.Pieces.{flat_bool, flat_wide}
 use Rattle.abi_flat.specs.FlatScalar.{flat_scalar, IsScalar}
 use Rattle.abi_flat.specs.FlatRepr.{flat_repr, IsRepr}

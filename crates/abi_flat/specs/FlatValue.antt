@@ -1,7 +1,7 @@
 -- Values as numbers, depth first: what each is, and its parts, a count before each list.
 use Rattle.std.specs.Prelude.{ℕ, zero, suc, ◌++◌, List, [], ◌∷◌, length, ⊤}
-use Rattle.abi_laid.specs.Value.{Value, number, two, list, variant, state, bytes, Values, no_values, more_values}
-use Rattle.abi_laid.specs.Bytes.{AreBytes}
+use Rattle.abi_tree.specs.Value.{Value, number, two, list, variant, state, bytes, Values, no_values, more_values}
+use Rattle.abi_tree.specs.Bytes.{AreBytes}
 use Rattle.abi_flat.specs.Pieces.{flat_wide}
 
 -- how many values there are

@@ -1,8 +1,8 @@
 -- The type that numbers begin with.
 use Rattle.std.specs.Prelude.{ℕ, zero, suc, List, [], ◌∷◌, Some, None, map, Vec}
 use Rattle.std.specs.declared.alloc.Global.{Global}
-use Rattle.abi_laid.specs.declared.tree.TypeTree.{TypeTree}
-use Rattle.abi_laid.specs.Tree.{Tree, scalar, pair, never, unit, array, vector, struct, union, enum, coroutine, trees, tree_of, Variants, no_variants, more_variants}
+use Rattle.abi_tree.specs.declared.tree.TypeTree.{TypeTree}
+use Rattle.abi_tree.specs.Tree.{Tree, scalar, pair, never, unit, array, vector, struct, union, enum, coroutine, trees, tree_of, Variants, no_variants, more_variants}
 use Rattle.abi_flat.specs.declared.kind.Kind.{Kind}
 use Rattle.abi_flat.specs.declared.kind.Kind.TheVariants as kind
 use Rattle.abi_flat.specs.Pieces.{◌>>=◌, Front, bool_numbered, front_as, front_list, front_two, front_wide, front_word, front_words}

@@ -1,6 +1,6 @@
 -- The value that numbers begin with.
 use Rattle.std.specs.Prelude.{ℕ, zero, suc, List, [], ◌∷◌, Option, Some, None, nat_lt, slice_get, if◌then◌else◌}
-use Rattle.abi_laid.specs.Value.{Value, number, two, list, variant, state, bytes, values}
+use Rattle.abi_tree.specs.Value.{Value, number, two, list, variant, state, bytes, values}
 use Rattle.abi_flat.specs.declared.value.ValueKind.{ValueKind}
 use Rattle.abi_flat.specs.declared.value.ValueKind.TheVariants as kind
 use Rattle.abi_flat.specs.Pieces.{◌>>=◌, Front, front_as, front_list, front_two, front_wide, front_word}

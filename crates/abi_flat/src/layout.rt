@@ -2,8 +2,8 @@
 
 ghost use Rattle.std.specs.Prelude.{◌≡◌, ◌<◌, ◌++◌, ◌∷◌, [], IfOk, OnOk, Option, Some, None, length, option_map};
 ghost use Rattle.abi_index.specs.RangeSet.{AreMaximalRuns};
-ghost use Rattle.abi_laid.specs.Laid.{placed_of};
-ghost use Rattle.abi_laid.specs.Placed.{layout_of, size_of};
+ghost use Rattle.abi_tree.specs.Laid.{placed_of};
+ghost use Rattle.abi_tree.specs.Placed.{layout_of, size_of};
 ghost use Rattle.abi_flat.specs.Pieces.{flat_wide};
 ghost use Rattle.abi_flat.specs.FlatScalar.{flat_primitive};
 ghost use Rattle.abi_flat.specs.FlatTree.{flat_pairs};
@@ -12,10 +12,10 @@ ghost use Rattle.abi_flat.specs.FlatLayout.{eight, flat_beside, flat_each_varian
 use crate::scalar::{float_number, integer_number};
 use abi_base::{Primitive, Size};
 use abi_index::{FieldIdx, VariantIdx};
-use abi_laid::Laid;
 use abi_scalar::{
     BackendRepr, FieldsShape, LayoutData, Niche, Scalar, TagEncoding, VariantLayout, Variants,
 };
+use abi_tree::Laid;
 use std::alloc::{AllocError, Global};
 
 /// The bytes of a larger type aren't listed. In bytes.

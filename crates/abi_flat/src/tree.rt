@@ -1,7 +1,7 @@
 //! Types out of numbers.
 
 ghost use Rattle.std.specs.Prelude.{◌≡◌, ◌≤◌, ℕ, [], ◌++◌, IfErr, IfOk, Some, drop, map};
-ghost use Rattle.abi_laid.specs.Tree.{Tree, tree_of};
+ghost use Rattle.abi_tree.specs.Tree.{Tree, tree_of};
 ghost use Rattle.abi_flat.specs.declared.kind.Kind.TheVariants.{Scalar as NumberKind, Pair as PairKind};
 ghost use Rattle.abi_flat.specs.Pieces.{Fails, front_list};
 ghost use Rattle.abi_flat.specs.FlatTree.{flat_tree, IsReadable};
@@ -12,7 +12,7 @@ use crate::kind::{Kind, read_kind};
 use crate::repr::read_repr;
 use crate::scalar::read_scalar;
 use crate::words::{read_bool, read_lists, read_pairs, read_wide, read_word, read_words};
-use abi_laid::TypeTree;
+use abi_tree::TypeTree;
 use std::alloc::Global;
 
 /// A type is nested in at most so many others, less one.

@@ -1,14 +1,14 @@
 //! Values out of numbers.
 
 ghost use Rattle.std.specs.Prelude.{◌≡◌, IfErr, IfOk, Some, drop, map};
-ghost use Rattle.abi_laid.specs.Value.{Value as Meant, value_of};
+ghost use Rattle.abi_tree.specs.Value.{Value as Meant, value_of};
 ghost use Rattle.abi_flat.specs.Pieces.{Fails, front_as, front_list};
 ghost use Rattle.abi_flat.specs.FlatValue.{flat_value, IsReadableValue};
 ghost use Rattle.abi_flat.specs.FrontValue.{byte_numbered, front_of_value_kind, front_state_value, front_value, front_variant_value, value_kind_numbered};
 
 use crate::error::ReadError;
 use crate::words::{numbered, read_wide, read_word};
-use abi_laid::Value;
+use abi_tree::Value;
 use std::alloc::Global;
 
 /// A kind of value, in the order of their numbers.

@@ -1,11 +1,11 @@
 //! Values as numbers.
 
 ghost use Rattle.std.specs.Prelude.{◌≡◌, ◌++◌, ◌∷◌, IfOk, OnOk, length};
-ghost use Rattle.abi_laid.specs.Value.{value_of, values_of};
+ghost use Rattle.abi_tree.specs.Value.{value_of, values_of};
 ghost use Rattle.abi_flat.specs.FlatValue.{flat_value, flat_values, values_count};
 
 use crate::layout::write_wide;
-use abi_laid::Value;
+use abi_tree::Value;
 use std::alloc::{AllocError, Global};
 
 /// Adds a union's bytes behind their count.

@@ -14,11 +14,11 @@ use Rattle.std.proofs.lemmas.List.Sorted.{searched}
 use Rattle.std.proofs.Math.Bool.{and-false, or-false}
 use Rattle.abi_index.specs.RangeSet.{AreMaximalRuns, is_in_ranges, is_in_run}
 use Rattle.abi_index.proofs.UncutLemmas.{none_below}
-use Rattle.abi_laid.specs.declared.parts.PartName.{PartName}
-use Rattle.abi_laid.specs.declared.parts.PartBytes.{PartBytes}
+use Rattle.abi_tree.specs.declared.parts.PartName.{PartName}
+use Rattle.abi_tree.specs.declared.parts.PartBytes.{PartBytes}
 use Rattle.abi_map.specs.Covering.{AreAscending, PutsNames, name_at, name_of, names_of}
 use Rattle.abi_map.specs.Map.{names_at}
-use Rattle.abi_laid.specs.Parts.{Part, kept_part}
+use Rattle.abi_tree.specs.Parts.{Part, kept_part}
 
 -- ---- places among numbers that ascend
 

@@ -6,12 +6,12 @@ use Rattle.std.proofs.lemmas.Bool.{lt-ltb}
 use Rattle.std.proofs.lemmas.List.Folds.{list_any-append}
 use Rattle.std.proofs.Math.Bool.{or-false}
 use Rattle.abi_index.proofs.RunsLemmas.{moved-zero}
-use Rattle.abi_laid.specs.declared.parts.PartName.{PartName}
-use Rattle.abi_laid.specs.declared.parts.PartName.TheVariants.{Elements, Lanes, Number, Tag}
-use Rattle.abi_laid.specs.Parts.{Part, all_parts, common_parts, field_parts, parts_of_arms, placed_part, variant_parts}
-use Rattle.abi_laid.specs.Placed.{Placed, scalar, pair, never, elements, vector, fields, union, single, tagged, states, Parts, no_parts, part, Arms, no_arms, arm, size_of}
-use Rattle.abi_laid.specs.Places.{is_data_place, is_place_of_arm, is_place_of_part}
-use Rattle.abi_laid.specs.Runs.{is_padding_of}
+use Rattle.abi_tree.specs.declared.parts.PartName.{PartName}
+use Rattle.abi_tree.specs.declared.parts.PartName.TheVariants.{Elements, Lanes, Number, Tag}
+use Rattle.abi_tree.specs.Parts.{Part, all_parts, common_parts, field_parts, parts_of_arms, placed_part, variant_parts}
+use Rattle.abi_tree.specs.Placed.{Placed, scalar, pair, never, elements, vector, fields, union, single, tagged, states, Parts, no_parts, part, Arms, no_arms, arm, size_of}
+use Rattle.abi_tree.specs.Places.{is_data_place, is_place_of_arm, is_place_of_part}
+use Rattle.abi_tree.specs.Runs.{is_padding_of}
 use Rattle.abi_map.specs.Map.{names_at}
 use Rattle.abi_map.specs.Runs.{PaddingHasNoName}
 

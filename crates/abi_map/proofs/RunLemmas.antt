@@ -3,9 +3,9 @@ use Rattle.std.proofs.Common.{◌≡◌, ℕ, zero, suc, ◌+◌, ◌-◌, ◌<�
 use Rattle.std.specs.Prelude.{◌&&◌, ◌||◌, ◌==◌, not, cond}
 use Rattle.std.specs.List.{filter, list_any, range_with_len}
 use Rattle.std.proofs.lemmas.Bool.{cases_lt, le-leb}
-use Rattle.abi_laid.specs.declared.parts.PartName.{PartName}
+use Rattle.abi_tree.specs.declared.parts.PartName.{PartName}
 use Rattle.abi_map.specs.Map.{names_at}
-use Rattle.abi_laid.specs.Parts.{Part}
+use Rattle.abi_tree.specs.Parts.{Part}
 use Rattle.abi_map.specs.Runs.{AreRuns}
 use Rattle.abi_map.specs.Starts.{changes, had, is_start, starts_of}
 

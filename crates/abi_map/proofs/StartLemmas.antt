@@ -14,10 +14,10 @@ use Rattle.abi_index.specs.Runs.{Adds, moved_to}
 use Rattle.abi_index.proofs.RangeSetLemmas.{earlier}
 use Rattle.abi_index.proofs.RunsLemmas.{moved-zero}
 use Rattle.abi_index.proofs.UncutLemmas.{none_below}
-use Rattle.abi_laid.specs.declared.parts.PartBytes.{PartBytes}
+use Rattle.abi_tree.specs.declared.parts.PartBytes.{PartBytes}
 use Rattle.abi_map.specs.Covering.{AreAscending}
 use Rattle.abi_map.specs.Numbers.{AddsBelow, numbers}
-use Rattle.abi_laid.specs.Parts.{Part, kept_part}
+use Rattle.abi_tree.specs.Parts.{Part, kept_part}
 use Rattle.abi_map.specs.Starts.{changes, had, is_start}
 
 -- ---- runs that end below a number

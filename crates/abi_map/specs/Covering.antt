@@ -2,8 +2,8 @@
 use Rattle.std.specs.Prelude.{◌≡◌, ℕ, ◌<◌, List, [], ◌∷◌, ◌++◌, Vec, get_or, length, map, if◌then◌else◌}
 use Rattle.std.specs.declared.alloc.Global.{Global}
 use Rattle.abi_index.specs.RangeSet.{is_in_run}
-use Rattle.abi_laid.specs.declared.parts.PartName.{PartName}
-use Rattle.abi_laid.specs.Parts.{Part}
+use Rattle.abi_tree.specs.declared.parts.PartName.{PartName}
+use Rattle.abi_tree.specs.Parts.{Part}
 use Rattle.abi_map.specs.Map.{names_at}
 
 -- each number is below those behind it

@@ -5,11 +5,11 @@ use Rattle.std.specs.List.{filter}
 use Rattle.abi_base.specs.declared.data_layout.TargetDataLayout.{TargetDataLayout}
 use Rattle.abi_scalar.specs.declared.niche.Niche.{Niche}
 use Rattle.abi_scalar.specs.Niche.{available_in, niche_size}
-use Rattle.abi_laid.specs.Placed.{Placed, layout_of, niche_of, size_of}
+use Rattle.abi_tree.specs.Placed.{Placed, layout_of, niche_of, size_of}
 use Rattle.abi_text.specs.Printing.{size_line}
-use Rattle.abi_laid.specs.declared.parts.PartName.{PartName}
-use Rattle.abi_laid.specs.declared.parts.PartName.TheVariants.{Number, Elements, Lanes, Field, Tag, VariantField}
-use Rattle.abi_laid.specs.Parts.{Part, all_parts}
+use Rattle.abi_tree.specs.declared.parts.PartName.{PartName}
+use Rattle.abi_tree.specs.declared.parts.PartName.TheVariants.{Number, Elements, Lanes, Field, Tag, VariantField}
+use Rattle.abi_tree.specs.Parts.{Part, all_parts}
 use Rattle.abi_map.specs.Starts.{starts_of}
 
 -- the names of the parts that have a byte

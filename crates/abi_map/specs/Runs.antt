@@ -1,9 +1,9 @@
 -- What the runs of a map keep.
 use Rattle.std.specs.Prelude.{◌≡◌, ℕ, ◌<◌, ◌≤◌, ◌↔◌, List, [], ◌∷◌, get_or, true}
-use Rattle.abi_laid.specs.Placed.{Placed, size_of}
-use Rattle.abi_laid.specs.Runs.{is_padding_of}
+use Rattle.abi_tree.specs.Placed.{Placed, size_of}
+use Rattle.abi_tree.specs.Runs.{is_padding_of}
 use Rattle.abi_map.specs.Map.{names_at}
-use Rattle.abi_laid.specs.Parts.{Part, all_parts}
+use Rattle.abi_tree.specs.Parts.{Part, all_parts}
 use Rattle.abi_map.specs.Starts.{is_start, starts_of}
 
 -- From a byte on up to the size there is one run behind another: each begins where the one before ends, has a byte, and has the same

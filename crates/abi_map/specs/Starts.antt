@@ -2,7 +2,7 @@
 use Rattle.std.specs.Prelude.{ℕ, ◌&&◌, ◌||◌, ◌==◌, Bool, not, List}
 use Rattle.std.specs.List.{filter, list_any, range_with_len}
 use Rattle.abi_index.specs.Runs.{moved_to}
-use Rattle.abi_laid.specs.Parts.{Part}
+use Rattle.abi_tree.specs.Parts.{Part}
 
 -- the part has the byte before this one
 abbrev pub had : Part → (k : ℕ) → Bool

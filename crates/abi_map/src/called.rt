@@ -1,12 +1,12 @@
 //! What the parts of a type are called.
 
-use abi_laid::PartName;
+use abi_tree::PartName;
 use std::alloc::AllocError;
 
 /// What the parts of a type are called in a map.
 pub trait Called {
     ghost use Rattle.std.specs.Prelude.{◌≡◌, ◌++◌, ℕ, List, OnOk, string_bytes};
-    ghost use Rattle.abi_laid.specs.declared.parts.PartName.{PartName};
+    ghost use Rattle.abi_tree.specs.declared.parts.PartName.{PartName};
 
     /// What a part is called, as text.
     ghost called: { Self → PartName → List ℕ };

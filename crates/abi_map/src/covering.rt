@@ -1,10 +1,10 @@
 //! Which parts have a byte.
 
 ghost use Rattle.std.specs.Prelude.{◌≡◌, ℕ, ◌+◌, ◌<◌, ◌≤◌, ◌^◌, [], IfOk, OnOk, get_or, length, map};
-ghost use Rattle.abi_laid.specs.Parts.{kept_part};
+ghost use Rattle.abi_tree.specs.Parts.{kept_part};
 ghost use Rattle.abi_map.specs.Covering.{AreAscending, HaveNames, PutsNames, name_at, name_of, names_of};
 
-use abi_laid::{PartBytes, PartName};
+use abi_tree::{PartBytes, PartName};
 use std::alloc::{AllocError, Global};
 
 /// The place of the first of these numbers that isn't below a bound.

@@ -1,15 +1,15 @@
 //! The map of a type as text.
 
 ghost use Rattle.std.specs.Prelude.{◌≡◌, IfOk, string_bytes};
-ghost use Rattle.abi_laid.specs.Laid.{placed_of};
+ghost use Rattle.abi_tree.specs.Laid.{placed_of};
 ghost use Rattle.abi_text.specs.LaidOut.{IsLaidOut};
 ghost use Rattle.abi_map.specs.Map.{map_text};
 
 use crate::called::{ByIndex, Called};
 use crate::print::{write_bytes, write_niche};
 use abi_base::TargetDataLayout;
-use abi_laid::Laid;
 use abi_text::{Telling, write_size};
+use abi_tree::Laid;
 use std::alloc::{AllocError, Global};
 
 /// A type is told by a map of its bytes.

@@ -1,8 +1,8 @@
 //! How the map of a type is written.
 
 ghost use Rattle.std.specs.Prelude.{◌≡◌, ℕ, ◌<◌, ◌++◌, ◌^◌, IfSome, List, OnOk, length, string_bytes};
-ghost use Rattle.abi_laid.specs.Laid.{placed_of};
-ghost use Rattle.abi_laid.specs.Parts.{Part};
+ghost use Rattle.abi_tree.specs.Laid.{placed_of};
+ghost use Rattle.abi_tree.specs.Parts.{Part};
 ghost use Rattle.abi_scalar.specs.Lawful.{IsLawfulNiche};
 ghost use Rattle.abi_map.specs.Covering.{HaveNames};
 ghost use Rattle.abi_map.specs.Map.{bytes_text, names_text, niche_text, run_lines};
@@ -11,8 +11,8 @@ use crate::called::Called;
 use crate::covering::names_at;
 use crate::starts::starts_of;
 use abi_base::TargetDataLayout;
-use abi_laid::{Laid, PartName};
 use abi_scalar::Niche;
+use abi_tree::{Laid, PartName};
 use std::alloc::{AllocError, Global};
 
 /// The bytes of a larger type aren't drawn. In bytes.

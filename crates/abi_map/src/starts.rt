@@ -2,13 +2,13 @@
 
 ghost use Rattle.std.specs.Prelude.{◌≡◌, ℕ, ◌<◌, ◌≤◌, ◌&&◌, ◌||◌, IfOk, OnOk, map, nat_lt};
 ghost use Rattle.abi_index.specs.RangeSet.{is_in_ranges};
-ghost use Rattle.abi_laid.specs.Parts.{kept_part};
+ghost use Rattle.abi_tree.specs.Parts.{kept_part};
 ghost use Rattle.abi_map.specs.Starts.{changes, is_start, starts_of};
 ghost use Rattle.abi_map.specs.Covering.{AreAscending};
 ghost use Rattle.abi_map.specs.Numbers.{AddsBelow, numbers};
 
 use abi_index::{RangeSet, RangeSetBuilder};
-use abi_laid::PartBytes;
+use abi_tree::PartBytes;
 use std::alloc::{AllocError, Global};
 
 /// Puts the bytes at which a part changes behind others; what isn't below the size is left open.

@@ -1,7 +1,7 @@
 -- Worked facts: what a few expressions, types and discriminants mean wherever they stand.
 use Rattle.std.proofs.Common.{◌≡◌, ℕ, [], ◌∷◌, Box, Global, Some, None, Ok, false, refl}
 use Rattle.std.specs.Prelude.{pos, negsuc}
-use Rattle.abi_laid.specs.Tree.{never as never_tree, struct, trees, unit}
+use Rattle.abi_tree.specs.Tree.{never as never_tree, struct, trees, unit}
 use Rattle.rust_source.specs.declared.item.Item.{Item}
 use Rattle.rust_source.specs.declared.item.Items.{Items}
 use Rattle.rust_source.specs.declared.item.Variant.{Variant}

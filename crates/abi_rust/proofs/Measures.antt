@@ -3,8 +3,8 @@ use Rattle.std.proofs.Common.{◌≡◌, ◌⊎◌, ℕ, suc, ◌+◌, ◌<◌, 
 use Rattle.std.proofs.lemmas.List.{drop_all}
 use Rattle.std.specs.Prelude.{cond, fold}
 use Rattle.abi_base.specs.declared.data_layout.TargetDataLayout.{TargetDataLayout}
-use Rattle.abi_laid.specs.Tree.{Tree, tree_of}
-use Rattle.abi_laid.specs.declared.tree.TypeTree.{TypeTree}
+use Rattle.abi_tree.specs.Tree.{Tree, tree_of}
+use Rattle.abi_tree.specs.declared.tree.TypeTree.{TypeTree}
 use Rattle.rustc_abi.specs.Fault.{IsRefusedFor}
 use Rattle.rustc_abi.specs.declared.error.LayError.{LayError}
 use Rattle.abi_rust.specs.Meaning.{Meaning, then_meant, is_beside}

@@ -4,11 +4,11 @@ use Rattle.std.proofs.lemmas.List.{drop_all}
 use Rattle.std.specs.Int.{cast_unsigned, w128}
 use Rattle.std.specs.Prelude.{Result, false, ℤ}
 use Rattle.std.specs.declared.alloc.Global.{Global}
-use Rattle.abi_laid.specs.Tree.{Tree, enum, layer_tree, more_variants, tree_of, trees, variants}
-use Rattle.abi_laid.specs.declared.tree.TypeTree.{TypeTree, Enum, fold-roll-TypeTree}
-use Rattle.abi_laid.specs.declared.tree.TypeTree.TheOpen as layer
-use Rattle.abi_laid.specs.declared.tree.TypeTree.TheShapes.{former-TypeTree-Enum-1-at-3}
-use Rattle.abi_laid.specs.declared.tree.TypeTree.TheVariants.{rolls-Enum}
+use Rattle.abi_tree.specs.Tree.{Tree, enum, layer_tree, more_variants, tree_of, trees, variants}
+use Rattle.abi_tree.specs.declared.tree.TypeTree.{TypeTree, Enum, fold-roll-TypeTree}
+use Rattle.abi_tree.specs.declared.tree.TypeTree.TheOpen as layer
+use Rattle.abi_tree.specs.declared.tree.TypeTree.TheShapes.{former-TypeTree-Enum-1-at-3}
+use Rattle.abi_tree.specs.declared.tree.TypeTree.TheVariants.{rolls-Enum}
 use Rattle.abi_scalar.specs.declared.repr.ReprOptions.{ReprOptions}
 use Rattle.rust_source.specs.declared.item.Field.{Field}
 use Rattle.rust_source.specs.declared.item.Item.{Item}

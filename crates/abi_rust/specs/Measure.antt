@@ -2,8 +2,8 @@
 use Rattle.std.specs.Prelude.{◌≡◌, ℕ, ◌^◌, ◌&&◌, ◌||◌, not, nat_eq, nat_lt, count_by, Bool, true, List, [], ◌∷◌, length, None, Result, Ok, Err, if◌then◌else◌}
 use Rattle.abi_base.specs.DataLayout.{IsLawfulDataLayout}
 use Rattle.abi_base.specs.declared.data_layout.TargetDataLayout.{TargetDataLayout}
-use Rattle.abi_laid.specs.Placed.{Placed, layout_of}
-use Rattle.abi_laid.specs.Tree.{Tree}
+use Rattle.abi_tree.specs.Placed.{Placed, layout_of}
+use Rattle.abi_tree.specs.Tree.{Tree}
 use Rattle.rust_source.specs.declared.item.Item.{Item}
 use Rattle.rustc_abi.specs.Laying.{IsLaying}
 use Rattle.rustc_abi.specs.declared.error.LayError.{LayError}

@@ -15,9 +15,9 @@ use Rattle.abi_base.specs.declared.primitive.Primitive.TheVariants.{Int, Float, 
 use Rattle.abi_scalar.specs.Range.{full_range}
 use Rattle.abi_scalar.specs.declared.scalar.Scalar.{Scalar}
 use Rattle.abi_scalar.specs.declared.scalar.Scalar.TheVariants.{Initialized, Union as UnionScalar}
-use Rattle.abi_laid.specs.Tree.{Tree, pair, scalar}
-use Rattle.abi_laid.specs.declared.tree.TypeTree.{TypeTree}
-use Rattle.abi_laid.specs.declared.tree.TypeTree.TheVariants.{Scalar as OneScalar, Pair}
+use Rattle.abi_tree.specs.Tree.{Tree, pair, scalar}
+use Rattle.abi_tree.specs.declared.tree.TypeTree.{TypeTree}
+use Rattle.abi_tree.specs.declared.tree.TypeTree.TheVariants.{Scalar as OneScalar, Pair}
 use Rattle.rust_source.specs.declared.syntax.IntegerKind.{IntegerKind}
 use Rattle.rust_source.specs.declared.syntax.IntegerKind.TheVariants.{I8, I16, I32, I64, I128, Isize, U8, U16, U32, U64, U128, Usize}
 use Rattle.abi_rust.specs.declared.ty.Primitive.{Primitive as Named}

@@ -3,8 +3,8 @@ use Rattle.std.specs.Prelude.{ℕ, zero, suc, Bool, true, false, List, [], ◌�
 use Rattle.std.specs.Int.{cast_unsigned, w128}
 use Rattle.std.specs.declared.alloc.Global.{Global}
 use Rattle.abi_base.specs.declared.data_layout.TargetDataLayout.{TargetDataLayout}
-use Rattle.abi_laid.specs.Tree.{Tree, Variants, array as array_tree, enum, more_variants, never as never_tree, no_variants, struct, tree_of, trees, union, unit}
-use Rattle.abi_laid.specs.declared.tree.TypeTree.{TypeTree}
+use Rattle.abi_tree.specs.Tree.{Tree, Variants, array as array_tree, enum, more_variants, never as never_tree, no_variants, struct, tree_of, trees, union, unit}
+use Rattle.abi_tree.specs.declared.tree.TypeTree.{TypeTree}
 use Rattle.rust_source.specs.declared.item.Field.{Field}
 use Rattle.rust_source.specs.declared.item.Item.{Item}
 use Rattle.rust_source.specs.declared.item.ItemKind.{ItemKind}

@@ -1,7 +1,7 @@
 -- The type that is reported on, and the names of its parts.
 use Rattle.std.specs.Prelude.{ℕ, ◌-◌, nat_eq, Bool, true, List, map, Option, Some, None, Ok, if◌then◌else◌}
 use Rattle.std.specs.Option.{option_map}
-use Rattle.abi_laid.specs.Tree.{Tree, tree_of}
+use Rattle.abi_tree.specs.Tree.{Tree, tree_of}
 use Rattle.rust_source.specs.declared.item.Field.{Field}
 use Rattle.rust_source.specs.declared.item.Item.{Item}
 use Rattle.rust_source.specs.declared.item.ItemKind.{ItemKind}

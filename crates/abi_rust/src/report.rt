@@ -2,7 +2,7 @@
 
 ghost use Rattle.std.specs.Prelude.{◌≡◌, ◌∷◌, ◌++◌, [], Err, IfErr, IfOk, OnOk, map, slice_get, true};
 ghost use Rattle.std.specs.Option.{option_map};
-ghost use Rattle.abi_laid.specs.Tree.{tree_of};
+ghost use Rattle.abi_tree.specs.Tree.{tree_of};
 ghost use Rattle.abi_rust.specs.Meaning.{Means, then_meant, is_beside};
 ghost use Rattle.abi_rust.specs.Measure.{IsMeasure, Measure};
 ghost use Rattle.abi_rust.specs.Sizes.{AreSizes, IsOver, IsReported, IsUnder};
@@ -20,7 +20,7 @@ use crate::resolve::resolve;
 use crate::tail::pointee_tail;
 use crate::tree::tree;
 use crate::ty::Ty;
-use abi_laid::TypeTree;
+use abi_tree::TypeTree;
 use rust_source::{Field, FieldName, ItemKind, Place, Symbol, Type, Variant};
 use rustc_abi::lay_out;
 

@@ -1,7 +1,7 @@
 //! What a `repr` asks of the fields of a type.
 
 ghost use Rattle.std.specs.Prelude.{◌≡◌, Ok, map, true};
-ghost use Rattle.abi_laid.specs.Tree.{tree_of};
+ghost use Rattle.abi_tree.specs.Tree.{tree_of};
 ghost use Rattle.abi_rust.specs.Aligned.{aligning, all_units, any_aligned, any_written, discriminants_checked, fields_aligned, packed_checked, place_of_repr, type_aligned};
 ghost use Rattle.abi_rust.specs.Meaning.{Means, then_meant};
 ghost use Rattle.abi_rust.specs.Measure.{IsMeasure, Measure, room_takers, takes_room, transparent_checked};
@@ -11,7 +11,7 @@ use crate::fault::{FaultKind, Stop, stop_at};
 use crate::kind::is_parameter_of;
 use crate::paths::{Found, found_by, item_at, root_of};
 use crate::report::size_and_align;
-use abi_laid::TypeTree;
+use abi_tree::TypeTree;
 use rust_source::{Enum, Field, Fields, Item, ItemKind, Place, Type, Variant};
 
 /// A fault where a transparent type has more than one field that takes room or is aligned to more than a byte.

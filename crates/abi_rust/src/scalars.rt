@@ -2,14 +2,14 @@
 
 ghost use Rattle.std.specs.Prelude.{◌≡◌, ◌≤◌};
 ghost use Rattle.abi_base.specs.DataLayout.{index_integer as integer_of_index};
-ghost use Rattle.abi_laid.specs.Tree.{tree_of};
+ghost use Rattle.abi_tree.specs.Tree.{tree_of};
 ghost use Rattle.abi_rust.specs.Scalars.{address, cut_scalar, function_tree, instruction_space, limited_tree, pointer_tree, scalar_width, full_scalar, ranged_scalar, type_of_kind, integer_primitive, named_tree};
 
 use crate::tail::Tail;
 use crate::ty::Primitive as Named;
 use abi_base::{AddressSpace, Integer, IntegerType, Primitive, Size, TargetDataLayout};
-use abi_laid::TypeTree;
 use abi_scalar::{Scalar, WrappingRange};
+use abi_tree::TypeTree;
 use rust_source::IntegerKind;
 
 /// The greatest code of a character.

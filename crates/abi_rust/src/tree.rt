@@ -3,7 +3,7 @@
 ghost use Rattle.std.specs.Prelude.{◌≡◌, ◌∷◌, ◌++◌, [], IfErr, None, OnOk, Some, map, true};
 ghost use Rattle.std.specs.Int.{cast_unsigned, w128};
 ghost use Rattle.std.specs.Option.{option_copied, option_map};
-ghost use Rattle.abi_laid.specs.Tree.{tree_of};
+ghost use Rattle.abi_tree.specs.Tree.{tree_of};
 ghost use Rattle.abi_rust.specs.Int.{number_of_int};
 ghost use Rattle.abi_rust.specs.Meaning.{Means, is_beside};
 ghost use Rattle.abi_rust.specs.Measure.{IsMeasure, Measure, each_meant};
@@ -29,7 +29,7 @@ use crate::resolve::resolve;
 use crate::scalars::{function, limited, named, pointer};
 use crate::tail::{is_always_sized, pointee_tail};
 use crate::ty::{GenericArg, Kind, Ty, Value};
-use abi_laid::TypeTree;
+use abi_tree::TypeTree;
 use rust_source::{Enum, Expr, Field, Fields, Item, ItemKind, Place, Variant};
 
 /// The tree of a type. `Stop::Size` where a type's size has to be known first.

@@ -2,11 +2,11 @@
 use Rattle.std.proofs.Common.{◌≡◌, ℕ, List, [], ◌∷◌, map, Vec, refl, ap, sym, ◌∙◌}
 use Rattle.std.specs.declared.alloc.Global.{Global}
 use Rattle.abi_scalar.specs.declared.repr.ReprOptions.{ReprOptions}
-use Rattle.abi_laid.specs.declared.tree.TypeTree.{TypeTree, Enum, fold-roll-TypeTree}
-use Rattle.abi_laid.specs.declared.tree.TypeTree.TheVariants.{rolls-Enum}
-use Rattle.abi_laid.specs.declared.tree.TypeTree.TheShapes.{former-TypeTree-Enum-1-at-3}
-use Rattle.abi_laid.specs.declared.tree.TypeTree.TheOpen as layer
-use Rattle.abi_laid.specs.Tree.{Tree, tree_of, layer_tree, trees, enum, variants, more_variants}
+use Rattle.abi_tree.specs.declared.tree.TypeTree.{TypeTree, Enum, fold-roll-TypeTree}
+use Rattle.abi_tree.specs.declared.tree.TypeTree.TheVariants.{rolls-Enum}
+use Rattle.abi_tree.specs.declared.tree.TypeTree.TheShapes.{former-TypeTree-Enum-1-at-3}
+use Rattle.abi_tree.specs.declared.tree.TypeTree.TheOpen as layer
+use Rattle.abi_tree.specs.Tree.{Tree, tree_of, layer_tree, trees, enum, variants, more_variants}
 use Rattle.abi_text.specs.Reading.{variant_by, variants_read}
 
 variants_map : (all : List (ℕ × Vec TypeTree Global)) → variants (map (former-TypeTree-Enum-1-at-3.map TypeTree Tree tree_of) all) ≡ variants_read (map variant_by all)

@@ -8,7 +8,7 @@ use Rattle.abi_base.specs.declared.primitive.Primitive.TheVariants.{Int, Pointer
 use Rattle.abi_scalar.specs.declared.repr.ReprOptions.{ReprOptions}
 use Rattle.abi_scalar.specs.declared.scalar.Scalar.{Scalar}
 use Rattle.abi_scalar.specs.declared.scalar.Scalar.TheVariants.{Initialized}
-use Rattle.abi_laid.specs.Tree.{scalar, pair, struct, enum, coroutine, Trees, no_trees, more_trees, Variants, no_variants, more_variants}
+use Rattle.abi_tree.specs.Tree.{scalar, pair, struct, enum, coroutine, Trees, no_trees, more_trees, Variants, no_variants, more_variants}
 use Rattle.abi_text.specs.declared.reader.repr_text.StructRepr.{StructRepr}
 use Rattle.abi_text.specs.Scalars.{a_bool, full}
 use Rattle.abi_text.specs.Written.{IsNumeral, IsScalarWrittenAs, IsWrittenAs, AreWrittenAs, IsLineOf, a_scalar, a_pair, a_struct, an_enum, a_coroutine, no_more, one_more, AreVariantsWrittenAs, no_variant_more, one_variant_more, IsDiscriminant, not_negative, negative, in_parentheses, no_number_more, one_number_more, AreStatesWrittenAs, no_state_more, one_state_more, AreConflictsWrittenAs, no_conflict_more, one_conflict_more, an_integer, a_pointer_in, every_number, the_bool, a_range, no_words, a_space, an_opening, a_closing, a_word}

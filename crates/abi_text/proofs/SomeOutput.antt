@@ -15,9 +15,9 @@ use Rattle.abi_base.specs.DataLayout.{IsLawfulDataLayout, IsPointerWidth, alignm
 use Rattle.abi_base.specs.DataLayoutFault.{Fault as Flaw}
 use Rattle.abi_base.specs.Float.{float_align, float_size}
 use Rattle.abi_base.specs.Integer.{integer_align, integer_size}
-use Rattle.abi_lists.proofs.Views.SomeView.{IsTold, both, is_at_most, same_number}
-use Rattle.abi_laid.specs.Placed.{Placed}
-use Rattle.abi_laid.specs.Tree.{Tree}
+use Rattle.abi_univariant.proofs.Views.SomeView.{IsTold, both, is_at_most, same_number}
+use Rattle.abi_tree.specs.Placed.{Placed}
+use Rattle.abi_tree.specs.Tree.{Tree}
 use Rattle.rustc_abi.specs.declared.error.LayError.{LayError}
 use Rattle.rustc_abi.specs.Laying.{IsLaying}
 use Rattle.rustc_abi.proofs.Trees.SomeAnswer.{some_answer}

@@ -6,7 +6,7 @@ use Rattle.std.specs.Str.{all_ascii_digits, bytes_eq}
 use Rattle.std.proofs.lemmas.Bool.Decides.{nat_tests}
 use Rattle.abi_base.specs.declared.data_layout.TargetDataLayout.{TargetDataLayout}
 use Rattle.abi_scalar.specs.declared.repr.ReprOptions.{ReprOptions}
-use Rattle.abi_laid.specs.Tree.{Tree, pair, never, unit, array, vector, struct, union, enum, coroutine, Trees, no_trees, more_trees, trees, Variants, no_variants, more_variants}
+use Rattle.abi_tree.specs.Tree.{Tree, pair, never, unit, array, vector, struct, union, enum, coroutine, Trees, no_trees, more_trees, trees, Variants, no_variants, more_variants}
 use Rattle.abi_text.specs.declared.reader.begun.Want.{Want}
 use Rattle.abi_text.specs.declared.reader.begun.Want.TheVariants as want
 use Rattle.abi_text.specs.declared.reader.begun.ScalarPlace.TheVariants as scalar_place

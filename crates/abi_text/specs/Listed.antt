@@ -2,7 +2,7 @@
 use Rattle.std.specs.Prelude.{◌≡◌, ℕ, List, [], codes, get_or}
 use Rattle.abi_index.specs.RangeSet.{AreMaximalRuns}
 use Rattle.abi_types.specs.Ty.Runs.{IsVariantOfSeveral}
-use Rattle.abi_laid.specs.Placed.{Placed, layout_of}
+use Rattle.abi_tree.specs.Placed.{Placed, layout_of}
 use Rattle.abi_text.specs.Printing.{range_lines, unused_lines}
 
 -- a set for each variant that a tag tells apart, whose runs are written as the bytes that the variant doesn't use

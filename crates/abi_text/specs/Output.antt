@@ -8,8 +8,8 @@ use Rattle.abi_base.specs.declared.data_layout.TargetDataLayout.{TargetDataLayou
 use Rattle.abi_base.specs.DataLayout.{IsLawfulDataLayout}
 use Rattle.abi_base.specs.DataLayoutFault.{Fault as Flaw}
 use Rattle.rustc_abi.specs.declared.error.LayError.{LayError}
-use Rattle.abi_laid.specs.Tree.{Tree}
-use Rattle.abi_laid.specs.Placed.{Placed}
+use Rattle.abi_tree.specs.Tree.{Tree}
+use Rattle.abi_tree.specs.Placed.{Placed}
 use Rattle.rustc_abi.specs.Laying.{IsLaying}
 use Rattle.abi_text.specs.declared.answers.Answer.{Answer}
 use Rattle.abi_text.specs.declared.fault.Fault.{Fault}

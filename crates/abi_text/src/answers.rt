@@ -2,8 +2,8 @@
 
 ghost use Rattle.std.specs.Prelude.{◌≡◌, ◌≢◌, ℕ, IfOk, List, MatchOption, true, false};
 ghost use Rattle.std.specs.Str.{is_utf8};
-ghost use Rattle.abi_laid.specs.Laid.{placed_of};
-ghost use Rattle.abi_laid.specs.Tree.{tree_of};
+ghost use Rattle.abi_tree.specs.Laid.{placed_of};
+ghost use Rattle.abi_tree.specs.Tree.{tree_of};
 ghost use Rattle.rustc_abi.specs.declared.error.LayError.{LayError};
 ghost use Rattle.abi_text.specs.DataLayoutLine.{data_layout_of};
 ghost use Rattle.abi_text.specs.LaidOut.{IsLaidOut};
@@ -20,7 +20,7 @@ use crate::names::{data_layout_error_name, error_name};
 use crate::reader::read_type;
 use crate::telling::Telling;
 use abi_base::{TargetDataLayout, TargetDataLayoutError};
-use abi_laid::{Laid, TypeTree};
+use abi_tree::{Laid, TypeTree};
 use rustc_abi::{LayError, lay_out};
 use std::alloc::{AllocError, Global};
 

@@ -8,7 +8,7 @@ use crate::print::write_type;
 use crate::running::run;
 use crate::telling::Telling;
 use abi_base::TargetDataLayout;
-use abi_laid::Laid;
+use abi_tree::Laid;
 use std::alloc::{AllocError, Global};
 use std::io::{Read, Write};
 

@@ -5,15 +5,15 @@ ghost use Rattle.abi_text.specs.Printing.{field_lines, layout_lines, niche_line,
 ghost use Rattle.abi_base.specs.Integer.{integer_text};
 ghost use Rattle.abi_base.specs.Primitive.{primitive_text};
 ghost use Rattle.abi_index.specs.RangeSet.{AreMaximalRuns};
-ghost use Rattle.abi_laid.specs.Laid.{placed_of};
-ghost use Rattle.abi_laid.specs.Placed.{layout_of};
+ghost use Rattle.abi_tree.specs.Laid.{placed_of};
+ghost use Rattle.abi_tree.specs.Placed.{layout_of};
 
 use crate::numbered::write_two_numbered;
 use crate::print_variants::{listed_unused, write_variants};
 use abi_base::{Integer, Primitive, Size};
 use abi_index::{FieldIdx, VariantIdx};
-use abi_laid::Laid;
 use abi_scalar::{FieldsShape, LayoutData, Niche};
+use abi_tree::Laid;
 use std::alloc::{AllocError, Global};
 
 /// The bytes of a larger type aren't listed. In bytes.

@@ -6,15 +6,15 @@ ghost use Rattle.abi_index.specs.RangeSet.{AreMaximalRuns};
 ghost use Rattle.abi_text.specs.Printing.{lines_of_variants, named_text, range_lines, printed_scalar, tag_line, unused_lines, variant_lines, variants_lines};
 ghost use Rattle.abi_text.specs.Listed.{ListsUnused};
 ghost use Rattle.abi_types.specs.Ty.Runs.{IsVariantOfSeveral};
-ghost use Rattle.abi_laid.specs.Laid.{placed_of};
-ghost use Rattle.abi_laid.specs.Placed.{layout_of};
+ghost use Rattle.abi_tree.specs.Laid.{placed_of};
+ghost use Rattle.abi_tree.specs.Placed.{layout_of};
 
 use crate::numbered::write_numbered;
 use crate::print::{MOST_LISTED, write_fields, write_primitive, write_ranges};
 use abi_base::Size;
 use abi_index::{FieldIdx, IndexVec, RangeSet, VariantIdx};
-use abi_laid::Laid;
 use abi_scalar::{RangeInclusive, Scalar, TagEncoding, VariantLayout, Variants};
+use abi_tree::Laid;
 use std::alloc::{AllocError, Global};
 
 /// Of each variant that a tag tells apart the bytes that it doesn't use though another one may; none where the type has

@@ -12,7 +12,7 @@ mod type_word;
 
 ghost use Rattle.std.specs.Prelude.{◌≡◌, ◌≤◌, ℕ, List, MatchResult, codes};
 ghost use Rattle.std.specs.Str.{bytes_eq};
-ghost use Rattle.abi_laid.specs.Tree.{Tree, tree_of};
+ghost use Rattle.abi_tree.specs.Tree.{Tree, tree_of};
 ghost use Rattle.abi_text.specs.Reading.{Agrees, at_count, at_discriminant, at_enum_opening, at_enum_repr, at_lanes, at_opening, at_repr, at_type, at_union_opening, at_union_repr, at_variant_opening, begun_in, next, read, state_of};
 ghost use Rattle.abi_text.specs.Numbers.{discriminant_in, number_of_bits};
 ghost use Rattle.abi_text.specs.Repr.{struct_repr, union_repr};
@@ -32,8 +32,8 @@ use crate::reader::repr_text::{StructRepr, struct_repr, union_repr};
 use crate::reader::type_word::{TypeWord, type_word};
 use crate::words::next_word;
 use abi_base::TargetDataLayout;
-use abi_laid::TypeTree;
 use abi_scalar::ReprOptions;
+use abi_tree::TypeTree;
 use std::alloc::Global;
 
 /// How many types a type may be nested in.

@@ -1,15 +1,15 @@
 //! What programs tell of types that were laid out.
 
 use abi_base::TargetDataLayout;
-use abi_laid::Laid;
+use abi_tree::Laid;
 use std::alloc::{AllocError, Global};
 
 /// What a program tells of a type that was laid out. `run` reads the type and lays it out.
 pub trait Telling {
     ghost use Rattle.std.specs.Prelude.{◌≡◌, ℕ, List, IfOk, string_bytes};
     ghost use Rattle.abi_base.specs.declared.data_layout.TargetDataLayout.{TargetDataLayout};
-    ghost use Rattle.abi_laid.specs.Laid.{placed_of};
-    ghost use Rattle.abi_laid.specs.Placed.{Placed};
+    ghost use Rattle.abi_tree.specs.Laid.{placed_of};
+    ghost use Rattle.abi_tree.specs.Placed.{Placed};
     ghost use Rattle.abi_text.specs.LaidOut.{IsLaidOut};
 
     /// The text tells of the type under the data layout.

@@ -1,8 +1,8 @@
 -- What the calculator asks of the calls that are timed.
 use Rattle.std.specs.Prelude.{◌≡◌, ◌<◌, ◌≤◌, All, length, map}
 use Rattle.abi_base.specs.DataLayout.{IsLawfulDataLayout}
-use Rattle.abi_lists.specs.List.{HasLawfulAligns}
-use Rattle.abi_lists.specs.Placement.{source_order}
+use Rattle.abi_univariant.specs.List.{HasLawfulAligns}
+use Rattle.abi_univariant.specs.Placement.{source_order}
 use Rattle.abi_calc.specs.Enums.Discriminants.{inhabited_of}
 use Rattle.abi_calc.specs.Enums.Several.{IsLawfulTag}
 use Rattle.abi_index.specs.Relation.{column_count, row_count}

@@ -4,7 +4,7 @@ ghost use Rattle.std.specs.Prelude.{◌≡◌, ◌<◌, ◌≤◌, All, IfOk, le
 ghost use Rattle.std.specs.List.{AllPairs};
 ghost use Rattle.abi_base.specs.DataLayout.{IsLawfulDataLayout};
 ghost use Rattle.abi_scalar.specs.Lawful.{IsLawfulLayout};
-ghost use Rattle.abi_lists.specs.Placement.{source_order};
+ghost use Rattle.abi_univariant.specs.Placement.{source_order};
 ghost use Rattle.bench.specs.Asked.{IsLawfulEnum};
 
 use crate::lawful::are_lawful_lists;

@@ -1,7 +1,7 @@
 //! Walks over types that were laid out: their padding, what a variant leaves unused, and the register they are passed in.
 
 ghost use Rattle.std.specs.Prelude.{⊤};
-ghost use Rattle.abi_laid.specs.Handles.{IsHandle};
+ghost use Rattle.abi_tree.specs.Handles.{IsHandle};
 
 use crate::leaves::scalar;
 use crate::timing::{Timed, time};
@@ -9,8 +9,8 @@ use crate::trees::{NODES, structure, wide};
 use crate::wanted::asks_for;
 use abi_base::TargetDataLayout;
 use abi_index::VariantIdx;
-use abi_laid::Laid;
 use abi_scalar::{ReprOptions, Variants};
+use abi_tree::Laid;
 use abi_types::{HomogeneousAggregate, TyAndLayout};
 use rustc_abi::{TreeTy, TypeTree, lay_out};
 use std::alloc::{AllocError, Global};

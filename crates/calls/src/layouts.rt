@@ -10,8 +10,8 @@ use crate::stop::{Clause, Stop, calculator};
 use abi_base::{Align, TargetDataLayout};
 use abi_calc::LayoutCalculator;
 use abi_index::{FieldIdx, TryClone, VariantIdx};
-use abi_laid::{Laid, TypeTree};
 use abi_scalar::{LayoutCalculatorError, LayoutData};
+use abi_tree::{Laid, TypeTree};
 use rustc_abi::lay_out;
 use std::alloc::{AllocError, Global};
 

@@ -1,7 +1,7 @@
 //! Calls of laid-out types: what handles of them tell, their padding, and their values.
 
 ghost use Rattle.std.specs.Prelude.{IsTrue};
-ghost use Rattle.abi_laid.specs.Handles.{IsHandle};
+ghost use Rattle.abi_tree.specs.Handles.{IsHandle};
 ghost use Rattle.abi_types.specs.Ty.Runs.{IsVariantIndex};
 
 use crate::command::Command;
@@ -12,8 +12,8 @@ use crate::stop::{Clause, Stop};
 use crate::values::{read, write, write_decider};
 use abi_base::TargetDataLayout;
 use abi_index::VariantIdx;
-use abi_laid::Laid;
 use abi_scalar::Variants;
+use abi_tree::Laid;
 use abi_types::{Heterogeneous, HomogeneousAggregate, TyAndLayout};
 use rustc_abi::TreeTy;
 use std::alloc::{AllocError, Global};

@@ -4,9 +4,9 @@ use Rattle.std.specs.Prelude.{max, min, is_some, unwrap_or, if◌then◌else◌}
 use Rattle.abi_base.specs.declared.data_layout.TargetDataLayout.{TargetDataLayout}
 use Rattle.abi_base.specs.DataLayout.{IsLawfulDataLayout}
 use Rattle.abi_scalar.specs.declared.repr.ReprOptions.{ReprOptions}
-use Rattle.abi_lists.specs.Placement.{own_align}
-use Rattle.abi_laid.specs.Placed.{Placed, parts_in}
-use Rattle.abi_laid.specs.Tree.{Tree, Trees, scalar, pair, never, unit, array, vector, struct, union, enum, coroutine}
+use Rattle.abi_univariant.specs.Placement.{own_align}
+use Rattle.abi_tree.specs.Placed.{Placed, parts_in}
+use Rattle.abi_tree.specs.Tree.{Tree, Trees, scalar, pair, never, unit, array, vector, struct, union, enum, coroutine}
 use Rattle.rustc_abi.specs.Everywhere.{OfEach, Within}
 use Rattle.rustc_abi.specs.Laying.{IsLaying}
 use Rattle.reference.specs.Words.{align_in_bytes, extent_of, most_aligned}

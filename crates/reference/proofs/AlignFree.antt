@@ -28,11 +28,11 @@ use Rattle.abi_scalar.specs.Repr.{is_c}
 use Rattle.abi_scalar.specs.Shape.{listed_offsets}
 use Rattle.abi_scalar.specs.Simple.{never_layout}
 use Rattle.abi_scalar.specs.Variant.{variant_of}
-use Rattle.abi_lists.specs.declared.part.Part.{Part}
-use Rattle.abi_lists.specs.Fields.{greatest}
-use Rattle.abi_lists.specs.List.{IsListAnswer}
-use Rattle.abi_lists.specs.Part.{parts_of as asked_of}
-use Rattle.abi_lists.specs.Placement.{align_of as list_align, cut, list_repr, prefix_align}
+use Rattle.abi_univariant.specs.declared.part.Part.{Part}
+use Rattle.abi_univariant.specs.Fields.{greatest}
+use Rattle.abi_univariant.specs.List.{IsListAnswer}
+use Rattle.abi_univariant.specs.Part.{parts_of as asked_of}
+use Rattle.abi_univariant.specs.Placement.{align_of as list_align, cut, list_repr, prefix_align}
 use Rattle.abi_calc.specs.declared.enums.niche.Room.{Room}
 use Rattle.abi_calc.specs.declared.enums.path.Path.{Path}
 use Rattle.abi_calc.specs.declared.enums.path.Path.TheVariants.{NoValue, OneList, Several}
@@ -46,11 +46,11 @@ use Rattle.abi_calc.specs.Enums.Path.{is_free, path_of, variant_at}
 use Rattle.abi_calc.specs.Enums.Payload.{seen_as, tagged_view}
 use Rattle.abi_calc.specs.Enums.Several.{IsAskedAnswer, IsAskedFor, IsSeveralAnswer}
 use Rattle.abi_calc.specs.Enums.Tagged.{lists_align, lists_size, payloads_of}
-use Rattle.abi_laid.specs.Mark.{mark_of}
-use Rattle.abi_laid.specs.Nodes.{parts_at}
-use Rattle.abi_laid.specs.Placed.{Placed, layout_of}
+use Rattle.abi_tree.specs.Mark.{mark_of}
+use Rattle.abi_tree.specs.Nodes.{parts_at}
+use Rattle.abi_tree.specs.Placed.{Placed, layout_of}
 use Rattle.abi_scalar.specs.Layout.{Layout}
-use Rattle.abi_laid.specs.Tree.{Tree, Trees, Variants, no_variants, more_variants, scalar, pair, never, unit, array, vector, struct, union, enum, coroutine}
+use Rattle.abi_tree.specs.Tree.{Tree, Trees, Variants, no_variants, more_variants, scalar, pair, never, unit, array, vector, struct, union, enum, coroutine}
 use Rattle.rustc_abi.specs.Enums.{IsEnumed, IsTagIntegerAnswer as IsAsking, discriminants_of, holds_both, is_negative, layouts_of, least_integer, least_tag, numbered_from}
 use Rattle.rustc_abi.specs.Everywhere.{ByThemselves, OfAbsent, OfEach, OfVariant, Within}
 use Rattle.rustc_abi.specs.Laying.{AreLaying, IsLaying, VariantsLaying, enum_fault, placed_enum, placed_variants}

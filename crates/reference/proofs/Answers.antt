@@ -2,9 +2,9 @@
 use Rattle.std.proofs.Common.{◌≡◌, suc, List, ◌∷◌, [], Option, None, Some, length, refl, ap, ◌∙◌, inl, inr, Ok, Err, Result}
 use Rattle.std.specs.Prelude.{MatchOption}
 use Rattle.abi_base.specs.declared.data_layout.TargetDataLayout.{TargetDataLayout}
-use Rattle.abi_laid.specs.Placed.{Placed}
+use Rattle.abi_tree.specs.Placed.{Placed}
 use Rattle.abi_scalar.specs.Layout.{Layout}
-use Rattle.abi_laid.specs.Tree.{Variants, no_variants, more_variants}
+use Rattle.abi_tree.specs.Tree.{Variants, no_variants, more_variants}
 use Rattle.rustc_abi.specs.declared.error.LayError.{LayError}
 use Rattle.rustc_abi.specs.Enums.{discriminants_of}
 use Rattle.rustc_abi.specs.Error.{Follows}

@@ -10,13 +10,13 @@ use Rattle.abi_base.specs.declared.struct_kind.StructKind.{StructKind}
 use Rattle.abi_scalar.specs.declared.repr.ReprOptions.{ReprOptions}
 use Rattle.abi_scalar.specs.Repr.{has_fixed_order}
 use Rattle.abi_scalar.specs.Shape.{listed_offsets}
-use Rattle.abi_lists.specs.declared.part.Part.{Part}
-use Rattle.abi_lists.specs.Part.{part_of, parts_of}
-use Rattle.abi_lists.specs.Placement.{cut, end_from, list_repr, offsets_from, own_align, prefix_align, start_of}
-use Rattle.abi_laid.specs.Nodes.{parts_at}
-use Rattle.abi_laid.specs.Placed.{Placed, layout_of}
+use Rattle.abi_univariant.specs.declared.part.Part.{Part}
+use Rattle.abi_univariant.specs.Part.{part_of, parts_of}
+use Rattle.abi_univariant.specs.Placement.{cut, end_from, list_repr, offsets_from, own_align, prefix_align, start_of}
+use Rattle.abi_tree.specs.Nodes.{parts_at}
+use Rattle.abi_tree.specs.Placed.{Placed, layout_of}
 use Rattle.abi_scalar.specs.Layout.{Layout}
-use Rattle.abi_laid.specs.Tree.{Tree, Trees, scalar, pair, never, unit, array, vector, struct, union, enum, coroutine}
+use Rattle.abi_tree.specs.Tree.{Tree, Trees, scalar, pair, never, unit, array, vector, struct, union, enum, coroutine}
 use Rattle.rustc_abi.specs.declared.error.LayError.{LayError}
 use Rattle.rustc_abi.specs.Error.{Follows}
 use Rattle.rustc_abi.specs.Laying.{AreLaying, IsLaying, IsLaidList, fields_fault, kind_of, placed_fields}

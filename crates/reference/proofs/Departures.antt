@@ -20,25 +20,25 @@ use Rattle.abi_scalar.specs.declared.scalar.Scalar.TheVariants.{Initialized}
 use Rattle.abi_scalar.specs.Range.{full_range}
 use Rattle.abi_scalar.specs.Shape.{listed_offsets}
 use Rattle.abi_scalar.specs.Simple.{never_layout, unit_layout}
-use Rattle.abi_lists.specs.declared.list_repr.ListRepr.{ListRepr}
-use Rattle.abi_lists.specs.declared.order.NicheBias.TheVariants.{Start}
-use Rattle.abi_lists.specs.declared.order.SortKey.{SortKey}
-use Rattle.abi_lists.specs.declared.part.Part.{Part}
-use Rattle.abi_lists.specs.Array.{elements_layout}
-use Rattle.abi_lists.specs.Fields.{greatest}
-use Rattle.abi_lists.specs.Order.{IsSortedBefore, compare_keys, key_at, rule_of, sort_key}
-use Rattle.abi_lists.specs.Part.{parts_of as parts_asked}
-use Rattle.abi_lists.specs.Placement.{list_repr}
-use Rattle.abi_lists.specs.Run.{IsPlacedIn, IsRun}
+use Rattle.abi_univariant.specs.declared.list_repr.ListRepr.{ListRepr}
+use Rattle.abi_univariant.specs.declared.order.NicheBias.TheVariants.{Start}
+use Rattle.abi_univariant.specs.declared.order.SortKey.{SortKey}
+use Rattle.abi_univariant.specs.declared.part.Part.{Part}
+use Rattle.abi_univariant.specs.Array.{elements_layout}
+use Rattle.abi_univariant.specs.Fields.{greatest}
+use Rattle.abi_univariant.specs.Order.{IsSortedBefore, compare_keys, key_at, rule_of, sort_key}
+use Rattle.abi_univariant.specs.Part.{parts_of as parts_asked}
+use Rattle.abi_univariant.specs.Placement.{list_repr}
+use Rattle.abi_univariant.specs.Run.{IsPlacedIn, IsRun}
 use Rattle.abi_calc.specs.Coroutine.Lists.{default_repr}
 use Rattle.abi_calc.specs.Enums.Discriminants.{IsAskedWith}
 use Rattle.abi_calc.specs.Enums.Tagged.{layout_seen_as, lists_size}
-use Rattle.abi_laid.specs.declared.mark.Mark.TheVariants.{Never, Unit}
-use Rattle.abi_laid.specs.Mark.{mark_of}
-use Rattle.abi_laid.specs.Nodes.{parts_at, parts_at_0}
-use Rattle.abi_laid.specs.Placed.{Placed, Arms, no_arms, arm, no_parts, part, layout_of, parts_in, elements, fields, never as nowhere}
+use Rattle.abi_tree.specs.declared.mark.Mark.TheVariants.{Never, Unit}
+use Rattle.abi_tree.specs.Mark.{mark_of}
+use Rattle.abi_tree.specs.Nodes.{parts_at, parts_at_0}
+use Rattle.abi_tree.specs.Placed.{Placed, Arms, no_arms, arm, no_parts, part, layout_of, parts_in, elements, fields, never as nowhere}
 use Rattle.abi_scalar.specs.Layout.{Layout}
-use Rattle.abi_laid.specs.Tree.{Tree, Trees, no_trees, more_trees, Variants, no_variants, more_variants, struct, union, enum, array, never, unit, scalar as number_type}
+use Rattle.abi_tree.specs.Tree.{Tree, Trees, no_trees, more_trees, Variants, no_variants, more_variants, struct, union, enum, array, never, unit, scalar as number_type}
 use Rattle.rustc_abi.specs.Enums.{IsEnumed, arms_at, counted, discriminants_of, tag_integer}
 use Rattle.rustc_abi.specs.Laying.{AreLaying, IsLaying, IsLaidList, IsUnited, VariantsLaying, elements_answer, enum_fault, fields_fault, kind_of, one_scalar, placed_enum, placed_fields, placed_together}
 use Rattle.rustc_abi.specs.ScalarFault.{scalar_fault}

@@ -15,9 +15,9 @@ use Rattle.abi_scalar.specs.declared.scalar.Scalar.TheVariants.{Initialized}
 use Rattle.abi_scalar.specs.declared.variants.TagEncoding.TheVariants.{Direct}
 use Rattle.abi_scalar.specs.Range.{full_range}
 use Rattle.abi_calc.specs.Coroutine.Lists.{default_repr}
-use Rattle.abi_laid.specs.declared.mark.Mark.TheVariants.{Plain}
-use Rattle.abi_laid.specs.Tree.{Tree, Trees, no_trees, more_trees, no_variants, more_variants, struct, union, enum, array, scalar as number_type}
-use Rattle.abi_laid.specs.Placed.{Placed, layout_of, scalar, fields, union as together, elements, tagged, no_parts, part, no_arms, arm, nothing}
+use Rattle.abi_tree.specs.declared.mark.Mark.TheVariants.{Plain}
+use Rattle.abi_tree.specs.Tree.{Tree, Trees, no_trees, more_trees, no_variants, more_variants, struct, union, enum, array, scalar as number_type}
+use Rattle.abi_tree.specs.Placed.{Placed, layout_of, scalar, fields, union as together, elements, tagged, no_parts, part, no_arms, arm, nothing}
 use Rattle.abi_scalar.specs.Layout.{Layout}
 use Rattle.rustc_abi.specs.Laying.{one_scalar}
 use Rattle.reference.specs.Words.{Extent, HasPartForEach, extent_of, extents_of}

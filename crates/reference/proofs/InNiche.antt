@@ -11,13 +11,13 @@ use Rattle.abi_scalar.specs.declared.scalar.Scalar.{Scalar}
 use Rattle.abi_scalar.specs.declared.variants.TagEncoding.TheVariants.{Niche}
 use Rattle.abi_scalar.specs.Range.{numbers_of}
 use Rattle.abi_scalar.specs.Scalar.{IsNumberOf}
-use Rattle.abi_laid.specs.declared.mark.Mark.{Mark}
-use Rattle.abi_laid.specs.Bytes.{bytes_at, little, number_of}
-use Rattle.abi_laid.specs.Holding.{HoldArm, HoldParts, Holds}
-use Rattle.abi_laid.specs.Placed.{Placed, Arms, no_parts, part, layout_of, size_of, scalar as one_number, pair as two_numbers, elements, vector as lanes_of, fields, union as together, single, tagged, states as in_states}
+use Rattle.abi_tree.specs.declared.mark.Mark.{Mark}
+use Rattle.abi_tree.specs.Bytes.{bytes_at, little, number_of}
+use Rattle.abi_tree.specs.Holding.{HoldArm, HoldParts, Holds}
+use Rattle.abi_tree.specs.Placed.{Placed, Arms, no_parts, part, layout_of, size_of, scalar as one_number, pair as two_numbers, elements, vector as lanes_of, fields, union as together, single, tagged, states as in_states}
 use Rattle.abi_scalar.specs.Layout.{Layout}
-use Rattle.abi_laid.specs.Tag.{NamesByNiche}
-use Rattle.abi_laid.specs.Value.{Value, Values, no_values, more_values, number, two, list, variant, state, bytes}
+use Rattle.abi_tree.specs.Tag.{NamesByNiche}
+use Rattle.abi_tree.specs.Value.{Value, Values, no_values, more_values, number, two, list, variant, state, bytes}
 use Rattle.reference.specs.Words.{Extent, extent_of}
 use Rattle.reference.specs.Option.{IsAsLarge, IsNoneZero, IsOneNumber, IsSomeAlike, LeavesOutZero}
 

@@ -14,19 +14,19 @@ use Rattle.abi_scalar.specs.declared.error.LayoutCalculatorError.{LayoutCalculat
 use Rattle.abi_scalar.specs.declared.niche.Niche.{Niche}
 use Rattle.abi_scalar.specs.declared.repr.ReprOptions.{ReprOptions}
 use Rattle.abi_scalar.specs.Shape.{listed_offsets}
-use Rattle.abi_lists.specs.declared.list_repr.ListRepr.{ListRepr}
-use Rattle.abi_lists.specs.declared.order.NicheBias.{NicheBias}
-use Rattle.abi_lists.specs.declared.order.NicheBias.TheVariants.{Start, End}
-use Rattle.abi_lists.specs.declared.part.Part.{Part}
-use Rattle.abi_lists.specs.declared.placing.ListFault.{ListFault}
-use Rattle.abi_lists.specs.Fault.{fault_in}
-use Rattle.abi_lists.specs.List.{IsListAnswer, IsListError}
-use Rattle.abi_lists.specs.ListNiche.{begins_after, greater_niche, niche_in, niche_of_part}
-use Rattle.abi_lists.specs.Order.{IsNamedOrder, IsSortedBefore}
-use Rattle.abi_lists.specs.Part.{part_of}
-use Rattle.abi_lists.specs.Placement.{IsSized, cut, list_repr, own_align, place_of, prefix_align, start_of}
-use Rattle.abi_lists.specs.Run.{IsPlacedIn, IsRun, space_wanted}
-use Rattle.abi_laid.specs.Placed.{Placed, layout_of}
+use Rattle.abi_univariant.specs.declared.list_repr.ListRepr.{ListRepr}
+use Rattle.abi_univariant.specs.declared.order.NicheBias.{NicheBias}
+use Rattle.abi_univariant.specs.declared.order.NicheBias.TheVariants.{Start, End}
+use Rattle.abi_univariant.specs.declared.part.Part.{Part}
+use Rattle.abi_univariant.specs.declared.placing.ListFault.{ListFault}
+use Rattle.abi_univariant.specs.Fault.{fault_in}
+use Rattle.abi_univariant.specs.List.{IsListAnswer, IsListError}
+use Rattle.abi_univariant.specs.ListNiche.{begins_after, greater_niche, niche_in, niche_of_part}
+use Rattle.abi_univariant.specs.Order.{IsNamedOrder, IsSortedBefore}
+use Rattle.abi_univariant.specs.Part.{part_of}
+use Rattle.abi_univariant.specs.Placement.{IsSized, cut, list_repr, own_align, place_of, prefix_align, start_of}
+use Rattle.abi_univariant.specs.Run.{IsPlacedIn, IsRun, space_wanted}
+use Rattle.abi_tree.specs.Placed.{Placed, layout_of}
 use Rattle.abi_scalar.specs.Layout.{Layout}
 use Rattle.reference.proofs.Over.{either, perhaps}
 use Rattle.reference.proofs.Rounding.{round_multiple}

@@ -14,14 +14,14 @@ use Rattle.abi_base.specs.declared.struct_kind.StructKind.{StructKind}
 use Rattle.abi_base.specs.declared.struct_kind.StructKind.TheVariants.{AlwaysSized, MaybeUnsized, Prefixed}
 use Rattle.abi_scalar.specs.declared.niche.Niche.{Niche}
 use Rattle.abi_scalar.specs.declared.repr.ReprOptions.{ReprOptions}
-use Rattle.abi_lists.specs.declared.list_repr.ListRepr.{ListRepr}
-use Rattle.abi_lists.specs.declared.order.NicheBias.{NicheBias}
-use Rattle.abi_lists.specs.declared.order.NicheBias.TheVariants.{Start, End}
-use Rattle.abi_lists.specs.declared.part.Part.{Part}
-use Rattle.abi_lists.specs.ListNiche.{begins_after, greater_niche, greatest_niche, niche_in, niche_of_part}
-use Rattle.abi_lists.specs.Order.{IsNamedOrder, IsSortedBefore, rule_of, sort_key}
-use Rattle.abi_lists.specs.Placement.{IsNonEmptyIfUnsized, in_order, list_repr, no_part, offsets_from, place_of, source_order}
-use Rattle.abi_lists.specs.Run.{IsPlacedIn, IsRun, space_wanted}
+use Rattle.abi_univariant.specs.declared.list_repr.ListRepr.{ListRepr}
+use Rattle.abi_univariant.specs.declared.order.NicheBias.{NicheBias}
+use Rattle.abi_univariant.specs.declared.order.NicheBias.TheVariants.{Start, End}
+use Rattle.abi_univariant.specs.declared.part.Part.{Part}
+use Rattle.abi_univariant.specs.ListNiche.{begins_after, greater_niche, greatest_niche, niche_in, niche_of_part}
+use Rattle.abi_univariant.specs.Order.{IsNamedOrder, IsSortedBefore, rule_of, sort_key}
+use Rattle.abi_univariant.specs.Placement.{IsNonEmptyIfUnsized, in_order, list_repr, no_part, offsets_from, place_of, source_order}
+use Rattle.abi_univariant.specs.Run.{IsPlacedIn, IsRun, space_wanted}
 use Rattle.reference.proofs.Lists.{each_in_order}
 use Rattle.reference.proofs.Lone.{greater_alone}
 use Rattle.reference.proofs.Over.{either, perhaps}

@@ -11,7 +11,7 @@ use Rattle.std.proofs.Math.Pow.{pow_mono}
 use Rattle.std.proofs.lemmas.Nat.Gcd.{dvd-zero, dvd_of_mod-eq-zero}
 use Rattle.abi_scalar.specs.declared.repr.ReprOptions.{ReprOptions}
 use Rattle.abi_scalar.specs.Repr.{is_abi_fixed, is_c, is_simd}
-use Rattle.abi_lists.specs.declared.part.Part.{Part}
+use Rattle.abi_univariant.specs.declared.part.Part.{Part}
 use Rattle.rustc_abi.specs.Laying.{randomized}
 use Rattle.reference.proofs.Rounding.{round_multiple}
 use Rattle.reference.proofs.Rows.{InARow, row_end}

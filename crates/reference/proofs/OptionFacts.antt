@@ -14,13 +14,13 @@ use Rattle.abi_scalar.specs.declared.variants.TagEncoding.TheVariants.{Direct, N
 use Rattle.abi_scalar.specs.Range.{IsIn, full_range, numbers_of}
 use Rattle.abi_scalar.specs.Scalar.{IsNumberOf}
 use Rattle.abi_calc.specs.Coroutine.Lists.{default_repr}
-use Rattle.abi_laid.specs.declared.mark.Mark.TheVariants.{Plain}
-use Rattle.abi_laid.specs.Bytes.{bytes_at, number_of}
-use Rattle.abi_laid.specs.Holding.{Holds}
-use Rattle.abi_laid.specs.Placed.{Placed, layout_of, fields, tagged, no_parts, part, no_arms, arm}
-use Rattle.abi_laid.specs.Tag.{NamesByNiche}
-use Rattle.abi_laid.specs.Tree.{Tree, no_trees, more_trees, no_variants, more_variants, struct, scalar as number_type}
-use Rattle.abi_laid.specs.Value.{Value, no_values, more_values, number, two, list, variant, state, bytes}
+use Rattle.abi_tree.specs.declared.mark.Mark.TheVariants.{Plain}
+use Rattle.abi_tree.specs.Bytes.{bytes_at, number_of}
+use Rattle.abi_tree.specs.Holding.{Holds}
+use Rattle.abi_tree.specs.Placed.{Placed, layout_of, fields, tagged, no_parts, part, no_arms, arm}
+use Rattle.abi_tree.specs.Tag.{NamesByNiche}
+use Rattle.abi_tree.specs.Tree.{Tree, no_trees, more_trees, no_variants, more_variants, struct, scalar as number_type}
+use Rattle.abi_tree.specs.Value.{Value, no_values, more_values, number, two, list, variant, state, bytes}
 use Rattle.rustc_abi.specs.Laying.{one_scalar}
 use Rattle.reference.specs.Words.{Extent}
 use Rattle.reference.specs.Option.{IsAsLarge, IsNeverZero, IsNoneZero, IsOption, IsSomeAlike, LeavesOutZero}

@@ -18,14 +18,14 @@ use Rattle.abi_scalar.specs.Lawful.{IsLawfulLayout}
 use Rattle.abi_scalar.specs.Reserve.{reserved}
 use Rattle.abi_scalar.specs.Shape.{listed_offsets}
 use Rattle.abi_scalar.specs.Variant.{variant_of}
-use Rattle.abi_lists.specs.declared.part.Part.{Part}
-use Rattle.abi_lists.specs.declared.placing.ListFault.{ListFault}
-use Rattle.abi_lists.specs.declared.placing.ListFault.TheVariants.{TooLarge, Unsized}
-use Rattle.abi_lists.specs.Fault.{fault_in, fault_or_size}
-use Rattle.abi_lists.specs.List.{IsListAnswer}
-use Rattle.abi_lists.specs.ListNiche.{niche_of_part}
-use Rattle.abi_lists.specs.Part.{is_unsized, part_of}
-use Rattle.abi_lists.specs.Placement.{cut, list_repr, own_align, place_of, size_in}
+use Rattle.abi_univariant.specs.declared.part.Part.{Part}
+use Rattle.abi_univariant.specs.declared.placing.ListFault.{ListFault}
+use Rattle.abi_univariant.specs.declared.placing.ListFault.TheVariants.{TooLarge, Unsized}
+use Rattle.abi_univariant.specs.Fault.{fault_in, fault_or_size}
+use Rattle.abi_univariant.specs.List.{IsListAnswer}
+use Rattle.abi_univariant.specs.ListNiche.{niche_of_part}
+use Rattle.abi_univariant.specs.Part.{is_unsized, part_of}
+use Rattle.abi_univariant.specs.Placement.{cut, list_repr, own_align, place_of, size_in}
 use Rattle.abi_calc.specs.declared.enums.path.Path.{Path}
 use Rattle.abi_calc.specs.declared.enums.path.Path.TheVariants.{Several}
 use Rattle.abi_calc.specs.Enums.Answer.{IsTypeAnswer}
@@ -34,12 +34,12 @@ use Rattle.abi_calc.specs.Enums.Lists.{AreListLayouts}
 use Rattle.abi_calc.specs.Enums.Niche.{beside_niche, if_niche, if_placed, if_span, layout_in_niche, needing_numbers, niche_layout, room_beside, span_of, untagged_of, variants_from, with_first, without_niche}
 use Rattle.abi_calc.specs.Enums.Path.{is_absent, is_free, path_among, path_of}
 use Rattle.abi_calc.specs.Enums.Tagged.{lists_align, lists_size}
-use Rattle.abi_laid.specs.Holding.{HoldArm, HoldParts}
-use Rattle.abi_laid.specs.Mark.{mark_of}
-use Rattle.abi_laid.specs.Nodes.{parts_at}
-use Rattle.abi_laid.specs.Placed.{Placed, Arms, no_parts, part, layout_of, size_of, tagged}
+use Rattle.abi_tree.specs.Holding.{HoldArm, HoldParts}
+use Rattle.abi_tree.specs.Mark.{mark_of}
+use Rattle.abi_tree.specs.Nodes.{parts_at}
+use Rattle.abi_tree.specs.Placed.{Placed, Arms, no_parts, part, layout_of, size_of, tagged}
 use Rattle.abi_scalar.specs.Layout.{Layout}
-use Rattle.abi_laid.specs.Value.{Values, no_values}
+use Rattle.abi_tree.specs.Value.{Values, no_values}
 use Rattle.rustc_abi.specs.Enums.{IsEnumed, IsTagIntegerAnswer as IsAsking, arms_at, layouts_of, numbered_from}
 use Rattle.rustc_abi.specs.Laying.{one_scalar, placed_enum}
 use Rattle.reference.specs.Option.{IsPlainRust}

@@ -6,9 +6,9 @@ use Rattle.abi_scalar.specs.declared.scalar.Scalar.{Scalar}
 use Rattle.abi_scalar.specs.declared.variants.Variants.{Variants as LayoutVariants}
 use Rattle.abi_scalar.specs.declared.variants.Variants.TheVariants.{Empty, Multiple, Single}
 use Rattle.abi_scalar.specs.Lawful.{IsLawfulLayout}
-use Rattle.abi_laid.specs.Placed.{Placed, layout_of, size_of}
+use Rattle.abi_tree.specs.Placed.{Placed, layout_of, size_of}
 use Rattle.abi_scalar.specs.Layout.{Layout}
-use Rattle.abi_laid.specs.Tree.{Tree, no_trees, more_trees, Variants, no_variants, more_variants, scalar, pair, never, unit, array, vector, struct, union, enum, coroutine}
+use Rattle.abi_tree.specs.Tree.{Tree, no_trees, more_trees, Variants, no_variants, more_variants, scalar, pair, never, unit, array, vector, struct, union, enum, coroutine}
 use Rattle.rustc_abi.specs.Enums.{IsEnumed}
 use Rattle.rustc_abi.specs.Everywhere.{Within}
 use Rattle.rustc_abi.specs.Laying.{IsLaying, VariantsLaying, enum_fault, placed_enum, placed_variants}

@@ -12,21 +12,21 @@ use Rattle.abi_base.specs.DataLayout.{IsLawfulDataLayout}
 use Rattle.abi_scalar.specs.declared.niche.Niche.{Niche}
 use Rattle.abi_scalar.specs.declared.repr.ReprOptions.{ReprOptions}
 use Rattle.abi_scalar.specs.Shape.{listed_offsets}
-use Rattle.abi_lists.specs.declared.list_repr.ListRepr.{ListRepr}
-use Rattle.abi_lists.specs.declared.order.NicheBias.{NicheBias}
-use Rattle.abi_lists.specs.declared.order.NicheBias.TheVariants.{Start, End}
-use Rattle.abi_lists.specs.declared.part.Part.{Part}
-use Rattle.abi_lists.specs.Fields.{greatest, greatest_align}
-use Rattle.abi_lists.specs.ListNiche.{begins_after, niche_in}
-use Rattle.abi_lists.specs.Order.{IsNamedOrder}
-use Rattle.abi_lists.specs.Part.{part_of, parts_of as asked_of}
-use Rattle.abi_lists.specs.Placement.{align_of as list_align, cut, list_repr, own_align, prefix_align}
-use Rattle.abi_lists.specs.Run.{IsPlacedIn, IsRun, space_wanted}
-use Rattle.abi_lists.specs.Union.{raised_to}
-use Rattle.abi_laid.specs.Nodes.{parts_at}
-use Rattle.abi_laid.specs.Placed.{Placed, layout_of, parts_in}
+use Rattle.abi_univariant.specs.declared.list_repr.ListRepr.{ListRepr}
+use Rattle.abi_univariant.specs.declared.order.NicheBias.{NicheBias}
+use Rattle.abi_univariant.specs.declared.order.NicheBias.TheVariants.{Start, End}
+use Rattle.abi_univariant.specs.declared.part.Part.{Part}
+use Rattle.abi_univariant.specs.Fields.{greatest, greatest_align}
+use Rattle.abi_univariant.specs.ListNiche.{begins_after, niche_in}
+use Rattle.abi_univariant.specs.Order.{IsNamedOrder}
+use Rattle.abi_univariant.specs.Part.{part_of, parts_of as asked_of}
+use Rattle.abi_univariant.specs.Placement.{align_of as list_align, cut, list_repr, own_align, prefix_align}
+use Rattle.abi_univariant.specs.Run.{IsPlacedIn, IsRun, space_wanted}
+use Rattle.abi_univariant.specs.Union.{raised_to}
+use Rattle.abi_tree.specs.Nodes.{parts_at}
+use Rattle.abi_tree.specs.Placed.{Placed, layout_of, parts_in}
 use Rattle.abi_scalar.specs.Layout.{Layout}
-use Rattle.abi_laid.specs.Tree.{Trees, struct, union}
+use Rattle.abi_tree.specs.Tree.{Trees, struct, union}
 use Rattle.rustc_abi.specs.Laying.{AreLaying, IsLaying, IsLaidList, IsListedInOrder, IsUnited, fields_fault, kind_of, ordered_fault, placed_fields, placed_together, randomized}
 use Rattle.reference.specs.Words.{HasPartForEach, align_in_bytes, extent_of, most_aligned}
 use Rattle.reference.proofs.Answers.{laid_by}

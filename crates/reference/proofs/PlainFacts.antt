@@ -17,9 +17,9 @@ use Rattle.abi_scalar.specs.declared.scalar.Scalar.{Scalar}
 use Rattle.abi_scalar.specs.declared.scalar.Scalar.TheVariants.{Initialized}
 use Rattle.abi_scalar.specs.Range.{full_range}
 use Rattle.abi_calc.specs.Coroutine.Lists.{default_repr}
-use Rattle.abi_laid.specs.declared.mark.Mark.TheVariants.{Plain}
-use Rattle.abi_laid.specs.Tree.{Tree, struct, unit, never, pair as two_numbers, scalar as number_type, no_variants, more_variants, enum, no_trees, more_trees}
-use Rattle.abi_laid.specs.Placed.{Placed, scalar, pair, fields, single, never as nowhere, no_parts, part, layout_of, niche_of, size_of}
+use Rattle.abi_tree.specs.declared.mark.Mark.TheVariants.{Plain}
+use Rattle.abi_tree.specs.Tree.{Tree, struct, unit, never, pair as two_numbers, scalar as number_type, no_variants, more_variants, enum, no_trees, more_trees}
+use Rattle.abi_tree.specs.Placed.{Placed, scalar, pair, fields, single, never as nowhere, no_parts, part, layout_of, niche_of, size_of}
 use Rattle.abi_scalar.specs.Layout.{Layout}
 use Rattle.rustc_abi.specs.Laying.{one_scalar}
 use Rattle.reference.specs.Words.{Extent, align_in_bytes, extent_of, padding_needed_for, rounded_up}

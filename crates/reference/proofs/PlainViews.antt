@@ -14,10 +14,10 @@ use Rattle.abi_scalar.specs.declared.scalar.Scalar.{Scalar}
 use Rattle.abi_scalar.specs.Lawful.{IsLawfulLayout, IsLawfulView}
 use Rattle.abi_scalar.specs.Simple.{never_layout}
 use Rattle.abi_scalar.specs.View.{union_view}
-use Rattle.abi_lists.specs.Array.{elements_layout}
-use Rattle.abi_lists.specs.Simd.{simd_answer}
-use Rattle.abi_lists.specs.Fields.{greatest_size}
-use Rattle.abi_lists.specs.Union.{CountsForView, HasView, KeepsView, union_align}
+use Rattle.abi_univariant.specs.Array.{elements_layout}
+use Rattle.abi_univariant.specs.Simd.{simd_answer}
+use Rattle.abi_univariant.specs.Fields.{greatest_size}
+use Rattle.abi_univariant.specs.Union.{CountsForView, HasView, KeepsView, union_align}
 use Rattle.abi_scalar.specs.Pair.{pair_size}
 use Rattle.abi_calc.specs.declared.enums.path.Path.{Path}
 use Rattle.abi_calc.specs.declared.enums.path.Path.TheVariants.{NoValue, OneList, Several}
@@ -37,11 +37,11 @@ use Rattle.abi_base.specs.declared.primitive.Primitive.TheVariants.{Int}
 use Rattle.abi_base.specs.Integer.{integer_size}
 use Rattle.abi_scalar.specs.declared.scalar.Scalar.TheVariants.{Initialized}
 use Rattle.abi_scalar.specs.Scalar.{primitive_of, scalar_size}
-use Rattle.abi_laid.specs.Placed.{Placed, layout_of, size_of, vector as placed_vector}
+use Rattle.abi_tree.specs.Placed.{Placed, layout_of, size_of, vector as placed_vector}
 use Rattle.abi_scalar.specs.Layout.{Layout}
-use Rattle.abi_laid.specs.Tree.{Tree, Trees, no_trees, more_trees, scalar, pair, never, unit, array, vector, struct, union, enum, coroutine}
+use Rattle.abi_tree.specs.Tree.{Tree, Trees, no_trees, more_trees, scalar, pair, never, unit, array, vector, struct, union, enum, coroutine}
 use Rattle.rustc_abi.specs.Enums.{IsEnumed, IsTagIntegerAnswer as IsAsking, discriminants_of, layouts_of, numbered_from}
-use Rattle.abi_laid.specs.Nodes.{parts_at, parts_at_0}
+use Rattle.abi_tree.specs.Nodes.{parts_at, parts_at_0}
 use Rattle.rustc_abi.specs.Everywhere.{OfEach, Within}
 use Rattle.rustc_abi.specs.Laying.{AreLaying, IsLaying, IsUnited, enum_fault, fields_fault, one_scalar, placed_enum, placed_together, lanes_of}
 use Rattle.rustc_abi.specs.ScalarFault.{scalar_fault}

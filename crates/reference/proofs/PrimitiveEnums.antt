@@ -16,16 +16,16 @@ use Rattle.abi_scalar.specs.declared.repr.ReprOptions.{ReprOptions}
 use Rattle.abi_scalar.specs.declared.scalar.Scalar.TheVariants.{Initialized}
 use Rattle.abi_scalar.specs.declared.variants.VariantLayout.{VariantLayout}
 use Rattle.abi_scalar.specs.Repr.{has_fixed_order, is_c}
-use Rattle.abi_lists.specs.Fields.{greatest, greatest_size}
-use Rattle.abi_lists.specs.Placement.{cut, own_align, prefix_align, start_of}
+use Rattle.abi_univariant.specs.Fields.{greatest, greatest_size}
+use Rattle.abi_univariant.specs.Placement.{cut, own_align, prefix_align, start_of}
 use Rattle.reference.proofs.Rounding.{round_multiple}
 use Rattle.abi_calc.specs.Enums.Lists.{align_with_all, behind_tag, tag_align}
 use Rattle.abi_calc.specs.Enums.Path.{is_free}
 use Rattle.abi_calc.specs.Enums.Tagged.{layout_seen_as, lists_align, lists_size}
-use Rattle.abi_laid.specs.Mark.{mark_of}
-use Rattle.abi_laid.specs.Placed.{Placed, scalar as one_number, pair as two, never as nowhere, elements, vector as lanes_of, fields, union as together, single, tagged, states}
+use Rattle.abi_tree.specs.Mark.{mark_of}
+use Rattle.abi_tree.specs.Placed.{Placed, scalar as one_number, pair as two, never as nowhere, elements, vector as lanes_of, fields, union as together, single, tagged, states}
 use Rattle.abi_scalar.specs.Layout.{Layout}
-use Rattle.abi_laid.specs.Tree.{Tree, Variants, scalar, pair, never, unit, array, vector, struct, union, enum, coroutine}
+use Rattle.abi_tree.specs.Tree.{Tree, Variants, scalar, pair, never, unit, array, vector, struct, union, enum, coroutine}
 use Rattle.rustc_abi.specs.Enums.{arms_at, discriminants_of, layouts_of}
 use Rattle.rustc_abi.specs.Laying.{IsLaying, VariantsLaying, enum_fault, placed_enum}
 use Rattle.reference.proofs.Answers.{numbers_for}

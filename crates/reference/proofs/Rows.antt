@@ -9,12 +9,12 @@ use Rattle.std.proofs.lemmas.List.Sorted.{All-permutation, IsPermutation-map, Is
 use Rattle.abi_base.specs.declared.data_layout.TargetDataLayout.{TargetDataLayout}
 use Rattle.abi_base.specs.declared.struct_kind.StructKind.{StructKind}
 use Rattle.abi_scalar.specs.declared.repr.ReprOptions.{ReprOptions}
-use Rattle.abi_lists.specs.declared.list_repr.ListRepr.{ListRepr}
-use Rattle.abi_lists.specs.declared.part.Part.{Part}
-use Rattle.abi_lists.specs.Least.{IsPlacedBy}
-use Rattle.abi_lists.specs.Part.{part_of, parts_of}
-use Rattle.abi_lists.specs.Placement.{IsAllowed, KeepsTail, cut, end_from, in_order, list_repr, no_part, offsets_from, place_of, source_order, start_of}
-use Rattle.abi_laid.specs.Placed.{Parts, no_parts, part, layout_of}
+use Rattle.abi_univariant.specs.declared.list_repr.ListRepr.{ListRepr}
+use Rattle.abi_univariant.specs.declared.part.Part.{Part}
+use Rattle.abi_univariant.specs.Least.{IsPlacedBy}
+use Rattle.abi_univariant.specs.Part.{part_of, parts_of}
+use Rattle.abi_univariant.specs.Placement.{IsAllowed, KeepsTail, cut, end_from, in_order, list_repr, no_part, offsets_from, place_of, source_order, start_of}
+use Rattle.abi_tree.specs.Placed.{Parts, no_parts, part, layout_of}
 use Rattle.rustc_abi.specs.Lists.{offsets_of, types_of}
 use Rattle.reference.proofs.Rounding.{rounded_to}
 

@@ -2,9 +2,9 @@
 use Rattle.std.proofs.Common.{◌≡◌, Ok, Err, Result}
 use Rattle.std.specs.Prelude.{IfOk}
 use Rattle.abi_base.specs.declared.data_layout.TargetDataLayout.{TargetDataLayout}
-use Rattle.abi_laid.specs.declared.laid.Laid.{Laid}
-use Rattle.abi_laid.specs.Placed.{Placed}
-use Rattle.abi_laid.specs.Tree.{Tree}
+use Rattle.abi_tree.specs.declared.laid.Laid.{Laid}
+use Rattle.abi_tree.specs.Placed.{Placed}
+use Rattle.abi_tree.specs.Tree.{Tree}
 use Rattle.rustc_abi.specs.declared.error.LayError.{LayError}
 use Rattle.rustc_abi.specs.Everywhere.{EachIn}
 use Rattle.reference.specs.Arrays.{IsArray}

@@ -11,11 +11,11 @@ use Rattle.abi_scalar.specs.declared.backend_repr.BackendRepr.{BackendRepr}
 use Rattle.abi_scalar.specs.declared.backend_repr.BackendRepr.TheVariants.{Scalar as OneScalar, ScalarPair, SimdScalableVector, SimdVector, Memory}
 use Rattle.abi_scalar.specs.Lawful.{IsLawfulLayout, IsLawfulView}
 use Rattle.abi_scalar.specs.Scalar.{primitive_of, scalar_size}
-use Rattle.abi_lists.specs.declared.part.Part.{Part}
-use Rattle.abi_lists.specs.ListView.{any_unsized, bulky_parts, bulky_view, is_bulky as is_seen_bulky, kept_view, list_view, one_view, part_at}
-use Rattle.abi_lists.specs.Part.{is_empty_view, part_of}
-use Rattle.abi_lists.specs.Placement.{no_part, source_order}
-use Rattle.abi_laid.specs.Placed.{Placed, Parts, no_parts, part, layout_of, size_of}
+use Rattle.abi_univariant.specs.declared.part.Part.{Part}
+use Rattle.abi_univariant.specs.ListView.{any_unsized, bulky_parts, bulky_view, is_bulky as is_seen_bulky, kept_view, list_view, one_view, part_at}
+use Rattle.abi_univariant.specs.Part.{is_empty_view, part_of}
+use Rattle.abi_univariant.specs.Placement.{no_part, source_order}
+use Rattle.abi_tree.specs.Placed.{Placed, Parts, no_parts, part, layout_of, size_of}
 use Rattle.rustc_abi.specs.Least.{fields_of}
 use Rattle.rustc_abi.specs.Lists.{offsets_of, types_of}
 use Rattle.reference.specs.Words.{align_in_bytes}

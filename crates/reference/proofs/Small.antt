@@ -23,13 +23,13 @@ use Rattle.abi_scalar.specs.declared.repr.ReprOptions.{ReprOptions}
 use Rattle.abi_scalar.specs.declared.scalar.Scalar.{Scalar}
 use Rattle.abi_scalar.specs.Scalar.{primitive_of}
 use Rattle.abi_scalar.specs.Simple.{unit_layout}
-use Rattle.abi_lists.specs.Fields.{greatest, greatest_align, greatest_size}
-use Rattle.abi_lists.specs.Placement.{cut}
-use Rattle.abi_lists.specs.Union.{raised_to, union_layout}
-use Rattle.abi_laid.specs.declared.mark.Mark.TheVariants.{Unit}
-use Rattle.abi_laid.specs.Placed.{Placed, layout_of, size_of, fields as placed_fields_of, no_parts}
+use Rattle.abi_univariant.specs.Fields.{greatest, greatest_align, greatest_size}
+use Rattle.abi_univariant.specs.Placement.{cut}
+use Rattle.abi_univariant.specs.Union.{raised_to, union_layout}
+use Rattle.abi_tree.specs.declared.mark.Mark.TheVariants.{Unit}
+use Rattle.abi_tree.specs.Placed.{Placed, layout_of, size_of, fields as placed_fields_of, no_parts}
 use Rattle.abi_scalar.specs.Layout.{Layout}
-use Rattle.abi_laid.specs.Tree.{Tree, Trees, scalar, pair, never, unit, array, vector, struct, union, enum, coroutine}
+use Rattle.abi_tree.specs.Tree.{Tree, Trees, scalar, pair, never, unit, array, vector, struct, union, enum, coroutine}
 use Rattle.rustc_abi.specs.declared.error.LayError.{LayError}
 use Rattle.rustc_abi.specs.Error.{Follows}
 use Rattle.rustc_abi.specs.declared.error.LayError.TheVariants.{BadRange, UnknownSpace}

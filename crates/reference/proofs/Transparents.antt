@@ -23,21 +23,21 @@ use Rattle.abi_scalar.specs.Niche.{niche_size}
 use Rattle.abi_scalar.specs.Repr.{is_abi_fixed, is_c, is_simd}
 use Rattle.abi_scalar.specs.Shape.{listed_offsets}
 use Rattle.abi_scalar.specs.Simple.{never_layout}
-use Rattle.abi_lists.specs.declared.part.Part.{Part}
-use Rattle.abi_lists.specs.List.{IsListAnswer}
-use Rattle.abi_lists.specs.ListView.{any_unsized, list_view}
-use Rattle.abi_lists.specs.Part.{part_of, parts_of as asked_of}
-use Rattle.abi_lists.specs.ListNiche.{greatest_niche}
-use Rattle.abi_lists.specs.Placement.{in_order, offsets_from, own_align, prefix_align, start_of}
+use Rattle.abi_univariant.specs.declared.part.Part.{Part}
+use Rattle.abi_univariant.specs.List.{IsListAnswer}
+use Rattle.abi_univariant.specs.ListView.{any_unsized, list_view}
+use Rattle.abi_univariant.specs.Part.{part_of, parts_of as asked_of}
+use Rattle.abi_univariant.specs.ListNiche.{greatest_niche}
+use Rattle.abi_univariant.specs.Placement.{in_order, offsets_from, own_align, prefix_align, start_of}
 use Rattle.abi_calc.specs.declared.enums.path.Path.{Path}
 use Rattle.abi_calc.specs.declared.enums.path.Path.TheVariants.{NoValue, OneList, Several}
 use Rattle.abi_calc.specs.Enums.Answer.{IsTypeAnswer}
 use Rattle.abi_calc.specs.Enums.Path.{is_free, is_present, path_among, path_of, variant_at}
-use Rattle.abi_laid.specs.Mark.{mark_of}
-use Rattle.abi_laid.specs.Nodes.{parts_at}
-use Rattle.abi_laid.specs.Placed.{Placed, Parts, no_parts, part, layout_of, niche_of, parts_in, size_of, never as nowhere}
+use Rattle.abi_tree.specs.Mark.{mark_of}
+use Rattle.abi_tree.specs.Nodes.{parts_at}
+use Rattle.abi_tree.specs.Placed.{Placed, Parts, no_parts, part, layout_of, niche_of, parts_in, size_of, never as nowhere}
 use Rattle.abi_scalar.specs.Layout.{Layout}
-use Rattle.abi_laid.specs.Tree.{Tree, Trees, no_trees, more_trees, Variants, no_variants, more_variants, scalar, pair, never, unit, array, vector, struct, union, enum, coroutine}
+use Rattle.abi_tree.specs.Tree.{Tree, Trees, no_trees, more_trees, Variants, no_variants, more_variants, scalar, pair, never, unit, array, vector, struct, union, enum, coroutine}
 use Rattle.rustc_abi.specs.Enums.{IsEnumed, IsTagIntegerAnswer as IsAsking, discriminants_of, layouts_of, numbered_from}
 use Rattle.rustc_abi.specs.Everywhere.{OfEach, Within}
 use Rattle.rustc_abi.specs.Laying.{AreLaying, IsLaying, VariantsLaying, enum_fault, placed_enum, placed_fields, placed_variants, randomized}

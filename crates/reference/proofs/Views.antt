@@ -22,15 +22,15 @@ use Rattle.abi_scalar.specs.LaneCount.{lane_count, max_lanes}
 use Rattle.abi_scalar.specs.Shape.{listed_offsets}
 use Rattle.abi_scalar.specs.Simple.{never_layout}
 use Rattle.abi_scalar.specs.View.{union_view}
-use Rattle.abi_lists.specs.declared.part.Part.{Part}
-use Rattle.abi_lists.specs.Array.{elements_layout}
-use Rattle.abi_lists.specs.List.{IsListAnswer}
-use Rattle.abi_lists.specs.ListView.{any_unsized, bulky_parts, bulky_view, kept_view, list_view, pair_view, part_at, two_view}
-use Rattle.abi_lists.specs.declared.order.NicheBias.TheVariants.{Start}
-use Rattle.abi_lists.specs.Part.{is_unsized, part_of, parts_of as asked_of}
-use Rattle.abi_lists.specs.Placement.{IsAllowed, IsNonEmptyIfUnsized, list_repr, start_of}
-use Rattle.abi_lists.specs.Simd.{after, element_scalar, if_below, is_tight, lanes_answer, simd_align, simd_answer, simd_view, vector_layout}
-use Rattle.abi_lists.specs.Union.{CountsForView, HasView, KeepsView}
+use Rattle.abi_univariant.specs.declared.part.Part.{Part}
+use Rattle.abi_univariant.specs.Array.{elements_layout}
+use Rattle.abi_univariant.specs.List.{IsListAnswer}
+use Rattle.abi_univariant.specs.ListView.{any_unsized, bulky_parts, bulky_view, kept_view, list_view, pair_view, part_at, two_view}
+use Rattle.abi_univariant.specs.declared.order.NicheBias.TheVariants.{Start}
+use Rattle.abi_univariant.specs.Part.{is_unsized, part_of, parts_of as asked_of}
+use Rattle.abi_univariant.specs.Placement.{IsAllowed, IsNonEmptyIfUnsized, list_repr, start_of}
+use Rattle.abi_univariant.specs.Simd.{after, element_scalar, if_below, is_tight, lanes_answer, simd_align, simd_answer, simd_view, vector_layout}
+use Rattle.abi_univariant.specs.Union.{CountsForView, HasView, KeepsView}
 use Rattle.abi_scalar.specs.Pair.{pair_size}
 use Rattle.abi_calc.specs.Coroutine.Layout.{IsStateTag}
 use Rattle.abi_calc.specs.declared.enums.path.Path.{Path}
@@ -51,9 +51,9 @@ use Rattle.abi_base.specs.declared.primitive.Primitive.TheVariants.{Int}
 use Rattle.abi_base.specs.Integer.{integer_size}
 use Rattle.abi_scalar.specs.declared.scalar.Scalar.TheVariants.{Initialized}
 use Rattle.abi_scalar.specs.Scalar.{scalar_size}
-use Rattle.abi_laid.specs.Placed.{Placed, layout_of, size_of, vector as placed_vector}
+use Rattle.abi_tree.specs.Placed.{Placed, layout_of, size_of, vector as placed_vector}
 use Rattle.abi_scalar.specs.Layout.{Layout}
-use Rattle.abi_laid.specs.Tree.{Tree, Trees, no_trees, more_trees, Variants, no_variants, more_variants, scalar, pair, never, unit, array, vector, struct, union, enum, coroutine}
+use Rattle.abi_tree.specs.Tree.{Tree, Trees, no_trees, more_trees, Variants, no_variants, more_variants, scalar, pair, never, unit, array, vector, struct, union, enum, coroutine}
 use Rattle.rustc_abi.specs.Enums.{IsEnumed, IsTagIntegerAnswer as IsAsking, discriminants_of, layouts_of, numbered_from}
 use Rattle.rustc_abi.specs.Laying.{AreLaying, IsLaying, IsLaidList, IsListedInOrder, IsUnited, VariantsLaying, enum_fault, fields_fault, kind_of, one_scalar, ordered_fault, placed_enum, placed_fields, placed_together, placed_variants, randomized, IsCoroutineOf, coroutine_fault, lanes_of, placed_by, placed_coroutine, vector_answer}
 use Rattle.rustc_abi.specs.Coroutines.{IsCoroutined}

@@ -16,11 +16,11 @@ use Rattle.abi_scalar.specs.declared.scalar.Scalar.TheVariants.{Initialized}
 use Rattle.abi_scalar.specs.declared.variants.VariantLayout.{VariantLayout}
 use Rattle.abi_scalar.specs.Range.{full_range}
 use Rattle.abi_scalar.specs.Variant.{variant_of}
-use Rattle.abi_lists.specs.Array.{elements_layout}
-use Rattle.abi_lists.specs.Fields.{greatest}
-use Rattle.abi_lists.specs.List.{IsListAnswer}
-use Rattle.abi_lists.specs.ListNiche.{niche_of_part}
-use Rattle.abi_lists.specs.Placement.{cut, own_align, prefix_align}
+use Rattle.abi_univariant.specs.Array.{elements_layout}
+use Rattle.abi_univariant.specs.Fields.{greatest}
+use Rattle.abi_univariant.specs.List.{IsListAnswer}
+use Rattle.abi_univariant.specs.ListNiche.{niche_of_part}
+use Rattle.abi_univariant.specs.Placement.{cut, own_align, prefix_align}
 use Rattle.abi_calc.specs.Coroutine.Lists.{default_repr}
 use Rattle.abi_calc.specs.Enums.Choice.{IsNicheAnswer, better}
 use Rattle.abi_calc.specs.Enums.Discriminants.{IsAskedWith, counting_of}
@@ -28,9 +28,9 @@ use Rattle.abi_calc.specs.Enums.Lists.{AreListLayouts, behind_tag}
 use Rattle.abi_calc.specs.Enums.Niche.{beside_niche, if_niche, if_placed, if_span, needing_numbers, niche_layout, room_beside, span_of, untagged_of, with_first}
 use Rattle.abi_calc.specs.Enums.Several.{IsAskedFor}
 use Rattle.abi_calc.specs.Enums.Tagged.{lists_size}
-use Rattle.abi_laid.specs.Placed.{Placed, layout_of, elements}
+use Rattle.abi_tree.specs.Placed.{Placed, layout_of, elements}
 use Rattle.abi_scalar.specs.Layout.{Layout}
-use Rattle.abi_laid.specs.Tree.{no_trees, more_trees, Variants, no_variants, more_variants, enum, array, scalar as number_type}
+use Rattle.abi_tree.specs.Tree.{no_trees, more_trees, Variants, no_variants, more_variants, enum, array, scalar as number_type}
 use Rattle.rustc_abi.specs.Enums.{IsEnumed, IsTagIntegerAnswer as IsAsking, layouts_of, numbered_from, tag_integer}
 use Rattle.rustc_abi.specs.Laying.{IsLaying, VariantsLaying, elements_answer, enum_fault, one_scalar, placed_enum}
 use Rattle.reference.specs.Words.{align_in_bytes}

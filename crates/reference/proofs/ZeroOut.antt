@@ -25,12 +25,12 @@ use Rattle.abi_scalar.specs.Niche.{available_in, niche_size}
 use Rattle.abi_scalar.specs.Range.{AreWithin, IsIn, free_count, numbers_of}
 use Rattle.abi_scalar.specs.Reserve.{end_moved, moves_start, reserved, start_moved, stepped_back, stepped_on, magnitude}
 use Rattle.abi_scalar.specs.Scalar.{IsNumberOf, scalar_size}
-use Rattle.abi_laid.specs.Bytes.{number_of}
-use Rattle.abi_laid.specs.Holding.{Holds}
-use Rattle.abi_laid.specs.Placed.{Placed, layout_of, size_of}
+use Rattle.abi_tree.specs.Bytes.{number_of}
+use Rattle.abi_tree.specs.Holding.{Holds}
+use Rattle.abi_tree.specs.Placed.{Placed, layout_of, size_of}
 use Rattle.abi_scalar.specs.Layout.{Layout}
-use Rattle.abi_laid.specs.Tree.{Tree, scalar, pair, never, unit, array, vector, struct, union, enum, coroutine}
-use Rattle.abi_laid.specs.Value.{Value, number}
+use Rattle.abi_tree.specs.Tree.{Tree, scalar, pair, never, unit, array, vector, struct, union, enum, coroutine}
+use Rattle.abi_tree.specs.Value.{Value, number}
 use Rattle.rustc_abi.specs.Laying.{IsLaying, one_scalar}
 use Rattle.rustc_abi.specs.ScalarFault.{scalar_fault}
 use Rattle.reference.specs.Option.{IsNeverZero, IsOneNumber, LeavesOutZero}

@@ -3,8 +3,8 @@
 use Rattle.std.specs.Prelude.{◌≡◌, ℕ, ◌+◌, ◌^◌, ◌<◌, ◌≤◌, ◌⊎◌, ⊤, All, IsSome, List, [], ◌∷◌, None, Some, map, max, min, true, IsPermutation}
 use Rattle.abi_scalar.specs.declared.repr.ReprOptions.{ReprOptions}
 use Rattle.abi_scalar.specs.Repr.{is_c}
-use Rattle.abi_laid.specs.Tree.{Tree, more_trees, no_trees, Variants, more_variants, struct, union, enum}
-use Rattle.abi_laid.specs.Placed.{Placed, Parts, no_parts, part, fields, single, tagged, parts_in, size_of}
+use Rattle.abi_tree.specs.Tree.{Tree, more_trees, no_trees, Variants, more_variants, struct, union, enum}
+use Rattle.abi_tree.specs.Placed.{Placed, Parts, no_parts, part, fields, single, tagged, parts_in, size_of}
 use Rattle.reference.specs.Words.{Extent, HasPartForEach, align_in_bytes, extent_of, extents_of, padding_needed_for, rounded_up}
 use Rattle.rustc_abi.specs.Lists.{offsets_of}
 use Rattle.reference.specs.CStruct.{c_offsets, c_struct}

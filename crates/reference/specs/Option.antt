@@ -8,11 +8,11 @@ use Rattle.abi_scalar.specs.declared.scalar.Scalar.{Scalar}
 use Rattle.abi_scalar.specs.Range.{numbers_of}
 use Rattle.abi_scalar.specs.Repr.{is_c}
 use Rattle.abi_scalar.specs.Scalar.{IsNumberOf}
-use Rattle.abi_laid.specs.Bytes.{number_of}
-use Rattle.abi_laid.specs.Holding.{Holds}
-use Rattle.abi_laid.specs.Placed.{Placed, layout_of, niche_of, size_of}
-use Rattle.abi_laid.specs.Tree.{Tree, no_trees, more_trees, Variants, no_variants, more_variants, scalar, enum}
-use Rattle.abi_laid.specs.Value.{Value, no_values, more_values, variant}
+use Rattle.abi_tree.specs.Bytes.{number_of}
+use Rattle.abi_tree.specs.Holding.{Holds}
+use Rattle.abi_tree.specs.Placed.{Placed, layout_of, niche_of, size_of}
+use Rattle.abi_tree.specs.Tree.{Tree, no_trees, more_trees, Variants, no_variants, more_variants, scalar, enum}
+use Rattle.abi_tree.specs.Value.{Value, no_values, more_values, variant}
 use Rattle.reference.specs.Words.{extent_of}
 
 -- the scalar's numbers are all of so many bytes but 0

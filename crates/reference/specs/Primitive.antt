@@ -11,8 +11,8 @@ use Rattle.abi_scalar.specs.declared.scalar.Scalar.{Scalar}
 use Rattle.abi_base.specs.DataLayout.{index_integer}
 use Rattle.abi_base.specs.Integer.{integer_align}
 use Rattle.abi_scalar.specs.Scalar.{primitive_of}
-use Rattle.abi_laid.specs.Tree.{Tree, scalar, pair, unit}
-use Rattle.abi_laid.specs.Placed.{Placed, size_of}
+use Rattle.abi_tree.specs.Tree.{Tree, scalar, pair, unit}
+use Rattle.abi_tree.specs.Placed.{Placed, size_of}
 use Rattle.reference.specs.Words.{align_in_bytes, extent_of}
 
 -- `primitive.size`: the table; `bool` is a byte and `char` four

@@ -1,8 +1,8 @@
 -- `repr.rust.layout`: what the default representation promises.
 use Rattle.std.specs.Prelude.{◌≡◌, ℕ, ◌+◌, ◌≤◌, ⊤, List, [], ◌∷◌, None, IsPermutation}
 use Rattle.std.specs.Int.{◌∣◌}
-use Rattle.abi_laid.specs.Tree.{Tree, struct, union, enum}
-use Rattle.abi_laid.specs.Placed.{Placed, Parts, no_parts, part, Arms, no_arms, arm, fields, single, tagged, parts_in, size_of}
+use Rattle.abi_tree.specs.Tree.{Tree, struct, union, enum}
+use Rattle.abi_tree.specs.Placed.{Placed, Parts, no_parts, part, Arms, no_arms, arm, fields, single, tagged, parts_in, size_of}
 use Rattle.reference.specs.Words.{HasPartForEach, align_in_bytes}
 
 -- each offset is a multiple of the field's alignment, and the type's alignment is at least the field's

@@ -8,8 +8,8 @@ use Rattle.abi_base.specs.Integer.{integer_align, integer_size}
 use Rattle.abi_base.specs.IntegerType.{integer_of_type, is_signed_type}
 use Rattle.abi_scalar.specs.declared.repr.ReprOptions.{ReprOptions}
 use Rattle.abi_scalar.specs.Scalar.{primitive_of}
-use Rattle.abi_laid.specs.Tree.{Variants, no_variants, more_variants}
-use Rattle.abi_laid.specs.Placed.{Placed, scalar}
+use Rattle.abi_tree.specs.Tree.{Variants, no_variants, more_variants}
+use Rattle.abi_tree.specs.Placed.{Placed, scalar}
 use Rattle.reference.specs.Words.{Extent, extent_of}
 
 -- the size and the alignment of an integer of the target

@@ -4,8 +4,8 @@ use Rattle.std.specs.Prelude.{◌≡◌, ◌==◌, ◌&&◌, ⊤, Bool, false, t
 use Rattle.abi_scalar.specs.declared.backend_repr.BackendRepr.TheVariants.{Memory}
 use Rattle.abi_scalar.specs.declared.repr.ReprOptions.{ReprOptions}
 use Rattle.abi_scalar.specs.Repr.{is_c, is_simd, is_transparent}
-use Rattle.abi_laid.specs.Tree.{Tree, no_variants, more_variants, struct, enum}
-use Rattle.abi_laid.specs.Placed.{Placed, Parts, no_parts, part, fields, layout_of, never, niche_of, single, size_of}
+use Rattle.abi_tree.specs.Tree.{Tree, no_variants, more_variants, struct, enum}
+use Rattle.abi_tree.specs.Placed.{Placed, Parts, no_parts, part, fields, layout_of, never, niche_of, single, size_of}
 use Rattle.reference.specs.Words.{Extent, align_in_bytes, extent_of}
 
 -- size 0 and alignment 1

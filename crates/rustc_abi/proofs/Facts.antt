@@ -16,20 +16,20 @@ use Rattle.abi_scalar.specs.declared.wrapping_range.WrappingRange.{WrappingRange
 use Rattle.abi_scalar.specs.declared.backend_repr.BackendRepr.TheVariants.{Scalar as OneScalar}
 use Rattle.abi_scalar.specs.Range.{IsIn, full_range}
 use Rattle.abi_types.specs.Ty.Typed.{Marks, Typed, layout_in, marks_of, variant_in}
-use Rattle.abi_laid.specs.Tree.{Tree, never, struct, enum, coroutine, no_trees, more_trees, no_variants, more_variants, scalar as number_type}
-use Rattle.abi_laid.specs.Value.{Value, number, two, list, variant, state, bytes, no_values, more_values}
-use Rattle.abi_laid.specs.Bytes.{picked_bytes}
-use Rattle.abi_laid.specs.declared.mark.Mark.TheVariants.{Plain}
-use Rattle.abi_laid.specs.Placed.{Placed, layout_of, scalar, never as nowhere, fields, union, single, tagged, states, Parts, no_parts, part, Arms, no_arms, arm, nothing}
+use Rattle.abi_tree.specs.Tree.{Tree, never, struct, enum, coroutine, no_trees, more_trees, no_variants, more_variants, scalar as number_type}
+use Rattle.abi_tree.specs.Value.{Value, number, two, list, variant, state, bytes, no_values, more_values}
+use Rattle.abi_tree.specs.Bytes.{picked_bytes}
+use Rattle.abi_tree.specs.declared.mark.Mark.TheVariants.{Plain}
+use Rattle.abi_tree.specs.Placed.{Placed, layout_of, scalar, never as nowhere, fields, union, single, tagged, states, Parts, no_parts, part, Arms, no_arms, arm, nothing}
 use Rattle.abi_scalar.specs.Layout.{Layout}
-use Rattle.abi_laid.specs.Places.{is_data_place}
-use Rattle.abi_laid.specs.Runs.{padding_of, unused_of}
-use Rattle.abi_laid.specs.Seen.{Sees}
-use Rattle.abi_laid.specs.Tag.{Names}
-use Rattle.abi_laid.specs.Holding.{Holds}
-use Rattle.abi_laid.specs.Faithful.{EachValueIsHeld, IsFlagTrue, IsViewTrue}
-use Rattle.abi_laid.specs.Unions.{IsCommon}
-use Rattle.abi_laid.specs.Untagged.{NamesItself}
+use Rattle.abi_tree.specs.Places.{is_data_place}
+use Rattle.abi_tree.specs.Runs.{padding_of, unused_of}
+use Rattle.abi_tree.specs.Seen.{Sees}
+use Rattle.abi_tree.specs.Tag.{Names}
+use Rattle.abi_tree.specs.Holding.{Holds}
+use Rattle.abi_tree.specs.Faithful.{EachValueIsHeld, IsFlagTrue, IsViewTrue}
+use Rattle.abi_tree.specs.Unions.{IsCommon}
+use Rattle.abi_tree.specs.Untagged.{NamesItself}
 
 -- ---- the types
 

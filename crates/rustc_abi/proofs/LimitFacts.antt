@@ -5,7 +5,7 @@ use Rattle.std.specs.Prelude.{nat_le, nat_lt, not, replicate, ◌||◌, if◌the
 use Rattle.std.specs.List.{list_all, list_any}
 use Rattle.abi_base.specs.declared.data_layout.TargetDataLayout.{TargetDataLayout}
 use Rattle.abi_calc.specs.Coroutine.Lists.{default_repr}
-use Rattle.abi_laid.specs.Placed.{Placed}
+use Rattle.abi_tree.specs.Placed.{Placed}
 use Rattle.rustc_abi.specs.declared.error.LayError.TheVariants.{BadIndex, DiscriminantTooWide, DuplicateDiscriminant, LocalTwice, NoState}
 use Rattle.rustc_abi.specs.Coroutines.{names_unknown}
 use Rattle.rustc_abi.specs.Enums.{has_equal, is_discriminant}

@@ -9,16 +9,16 @@ use Rattle.abi_scalar.specs.Lawful.{IsLawfulLayout}
 use Rattle.abi_scalar.specs.Scalar.{IsReadable}
 use Rattle.rustc_abi.specs.declared.error.LayError.{LayError}
 use Rattle.rustc_abi.specs.declared.error.LayError.TheVariants.{OutOfMemory}
-use Rattle.abi_laid.specs.declared.node.Node.{Node}
-use Rattle.abi_laid.specs.Tree.{Tree, array, vector, struct, union, enum, coroutine, Trees, no_trees, more_trees, trees, Variants, no_variants, more_variants}
-use Rattle.abi_laid.specs.Placed.{Placed, layout_of, size_of, Arms}
+use Rattle.abi_tree.specs.declared.node.Node.{Node}
+use Rattle.abi_tree.specs.Tree.{Tree, array, vector, struct, union, enum, coroutine, Trees, no_trees, more_trees, trees, Variants, no_variants, more_variants}
+use Rattle.abi_tree.specs.Placed.{Placed, layout_of, size_of, Arms}
 use Rattle.abi_scalar.specs.Layout.{Layout}
-use Rattle.abi_laid.specs.Fits.{Fits}
-use Rattle.abi_laid.specs.Nodes.{types_in, placed_at, arms_in, Keeps}
-use Rattle.abi_laid.specs.Well.{AreWell, all_at}
+use Rattle.abi_tree.specs.Fits.{Fits}
+use Rattle.abi_tree.specs.Nodes.{types_in, placed_at, arms_in, Keeps}
+use Rattle.abi_tree.specs.Well.{AreWell, all_at}
 use Rattle.rustc_abi.specs.Inside.{VariantsInside}
 use Rattle.abi_calc.specs.Enums.Path.{variant_at}
-use Rattle.abi_laid.specs.Laws.{have_lists, have_places, sizes_at}
+use Rattle.abi_tree.specs.Laws.{have_lists, have_places, sizes_at}
 use Rattle.rustc_abi.specs.Enums.{discriminants_of}
 use Rattle.rustc_abi.specs.Laying.{one_scalar, IsLaying, AreLaying, VariantsLaying}
 

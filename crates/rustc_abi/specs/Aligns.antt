@@ -9,19 +9,19 @@ use Rattle.abi_scalar.specs.declared.variants.TagEncoding.{TagEncoding}
 use Rattle.abi_scalar.specs.declared.variants.TagEncoding.TheVariants.{Direct, Niche}
 use Rattle.abi_scalar.specs.Pair.{pair_align}
 use Rattle.abi_scalar.specs.Scalar.{scalar_align}
-use Rattle.abi_lists.specs.Fields.{greatest}
-use Rattle.abi_lists.specs.Least.{align_by}
-use Rattle.abi_lists.specs.Simd.{lanes_align}
-use Rattle.abi_lists.specs.Union.{union_align}
+use Rattle.abi_univariant.specs.Fields.{greatest}
+use Rattle.abi_univariant.specs.Least.{align_by}
+use Rattle.abi_univariant.specs.Simd.{lanes_align}
+use Rattle.abi_univariant.specs.Union.{union_align}
 use Rattle.abi_calc.specs.Coroutine.Lists.{first_list}
 use Rattle.abi_calc.specs.Coroutine.Promotion.{promoted_of}
 use Rattle.abi_calc.specs.Coroutine.Sizes.{align_of_all, own_lists}
 use Rattle.abi_calc.specs.Enums.Lists.{behind_tag}
 use Rattle.abi_calc.specs.Enums.Several.{IsAskedFor}
-use Rattle.abi_laid.specs.Tree.{Tree, scalar, pair, never, unit, array, vector, struct, union, enum, coroutine}
-use Rattle.abi_laid.specs.Placed.{Placed, never as nowhere, elements, vector as lanes_of_vector, fields}
-use Rattle.abi_laid.specs.Placed.{union as together, single, tagged, states as placed_states}
-use Rattle.abi_laid.specs.Placed.{element_of, layout_of, size_of}
+use Rattle.abi_tree.specs.Tree.{Tree, scalar, pair, never, unit, array, vector, struct, union, enum, coroutine}
+use Rattle.abi_tree.specs.Placed.{Placed, never as nowhere, elements, vector as lanes_of_vector, fields}
+use Rattle.abi_tree.specs.Placed.{union as together, single, tagged, states as placed_states}
+use Rattle.abi_tree.specs.Placed.{element_of, layout_of, size_of}
 use Rattle.rustc_abi.specs.Coroutines.{conflicts_of}
 use Rattle.rustc_abi.specs.Enums.{IsTagIntegerAnswer, counted, discriminants_of, layouts_of}
 use Rattle.rustc_abi.specs.Laying.{AreLaying, kind_of, randomized}

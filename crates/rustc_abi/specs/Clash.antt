@@ -1,7 +1,7 @@
 -- What the locals of a coroutine may share: those that clash share no byte, and each has one place.
 use Rattle.std.specs.Prelude.{◌≡◌, ◌≢◌, ℕ, zero, suc, ◌+◌, ◌≤◌, ◌⊎◌, Contains, List, slice_get, Some, ⊤}
-use Rattle.abi_laid.specs.Tree.{Tree, coroutine}
-use Rattle.abi_laid.specs.Placed.{Placed, states as placed_states, Parts, no_parts, part, Arms, parts_of_arm, size_of}
+use Rattle.abi_tree.specs.Tree.{Tree, coroutine}
+use Rattle.abi_tree.specs.Placed.{Placed, states as placed_states, Parts, no_parts, part, Arms, parts_of_arm, size_of}
 
 -- two locals clash where some state holds both, or a pair of the conflicts names them, in either order
 abbrev pub DoLocalsClash : (states : List (List ℕ)) → (conflicts : List (ℕ × ℕ)) → (a b : ℕ) → Type 0

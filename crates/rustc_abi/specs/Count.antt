@@ -3,13 +3,13 @@
 -- state beside a tag.
 use Rattle.std.specs.Prelude.{◌≡◌, ◌↔◌, ℕ, ◌+◌, ◌&&◌, Bool, List, length, not, true, Ok}
 use Rattle.abi_base.specs.declared.data_layout.TargetDataLayout.{TargetDataLayout}
-use Rattle.abi_laid.specs.declared.node.Node.{Node}
-use Rattle.abi_laid.specs.Tree.{Tree, array, vector, struct, union, enum, coroutine}
-use Rattle.abi_laid.specs.Tree.{Trees, no_trees, more_trees, Variants, no_variants, more_variants}
-use Rattle.abi_laid.specs.Placed.{Placed, pair as two, vector as lanes_of_vector, tagged, states as placed_states}
-use Rattle.abi_laid.specs.Placed.{Arms, no_arms, arm, layout_of}
-use Rattle.abi_laid.specs.Deciding.{are_inhabited}
-use Rattle.abi_laid.specs.Nodes.{placed_at}
+use Rattle.abi_tree.specs.declared.node.Node.{Node}
+use Rattle.abi_tree.specs.Tree.{Tree, array, vector, struct, union, enum, coroutine}
+use Rattle.abi_tree.specs.Tree.{Trees, no_trees, more_trees, Variants, no_variants, more_variants}
+use Rattle.abi_tree.specs.Placed.{Placed, pair as two, vector as lanes_of_vector, tagged, states as placed_states}
+use Rattle.abi_tree.specs.Placed.{Arms, no_arms, arm, layout_of}
+use Rattle.abi_tree.specs.Deciding.{are_inhabited}
+use Rattle.abi_tree.specs.Nodes.{placed_at}
 use Rattle.rustc_abi.specs.Inhabited.{AreInhabited, EachInhabited, VariantsInhabited}
 use Rattle.rustc_abi.specs.Laying.{IsLaying}
 

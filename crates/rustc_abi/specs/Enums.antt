@@ -19,11 +19,11 @@ use Rattle.abi_calc.specs.Enums.Answer.{IsTypeAnswer}
 use Rattle.abi_calc.specs.Enums.Discriminants.{counting_of, discr_bits}
 use Rattle.abi_calc.specs.Enums.Path.{path_of}
 use Rattle.rustc_abi.specs.declared.error.LayError.{LayError}
-use Rattle.abi_laid.specs.Tree.{Variants, no_variants, more_variants}
-use Rattle.abi_laid.specs.declared.mark.Mark.{Mark}
-use Rattle.abi_laid.specs.Placed.{Placed, layout_of, Arms, no_arms, arm}
+use Rattle.abi_tree.specs.Tree.{Variants, no_variants, more_variants}
+use Rattle.abi_tree.specs.declared.mark.Mark.{Mark}
+use Rattle.abi_tree.specs.Placed.{Placed, layout_of, Arms, no_arms, arm}
 use Rattle.abi_scalar.specs.Layout.{Layout}
-use Rattle.abi_laid.specs.Nodes.{parts_at}
+use Rattle.abi_tree.specs.Nodes.{parts_at}
 use Rattle.rustc_abi.specs.Error.{lay_error}
 
 -- each variant's discriminant

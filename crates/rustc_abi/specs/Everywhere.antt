@@ -1,14 +1,14 @@
 -- What holds of a type and of each type in it.
 use Rattle.std.specs.Prelude.{◌≡◌, ℕ, zero, suc, List, [], ◌∷◌, Ok, map, ⊤}
 use Rattle.abi_base.specs.declared.data_layout.TargetDataLayout.{TargetDataLayout}
-use Rattle.abi_laid.specs.declared.laid.Laid.{Laid}
-use Rattle.abi_laid.specs.Laid.{placed_of}
-use Rattle.abi_laid.specs.Tree.{Tree, scalar, pair, never, unit, array, vector, struct, union, enum, coroutine}
-use Rattle.abi_laid.specs.Tree.{Trees, no_trees, more_trees, Variants, no_variants, more_variants}
-use Rattle.abi_laid.specs.Placed.{Placed, never as nowhere, single, tagged, states as placed_states, Parts, Arms}
-use Rattle.abi_laid.specs.Placed.{no_arms, arm}
-use Rattle.abi_laid.specs.Placed.{element_of, parts_in, first_part, more_parts}
-use Rattle.abi_laid.specs.Nodes.{parts_at_0, placed_in}
+use Rattle.abi_tree.specs.declared.laid.Laid.{Laid}
+use Rattle.abi_tree.specs.Laid.{placed_of}
+use Rattle.abi_tree.specs.Tree.{Tree, scalar, pair, never, unit, array, vector, struct, union, enum, coroutine}
+use Rattle.abi_tree.specs.Tree.{Trees, no_trees, more_trees, Variants, no_variants, more_variants}
+use Rattle.abi_tree.specs.Placed.{Placed, never as nowhere, single, tagged, states as placed_states, Parts, Arms}
+use Rattle.abi_tree.specs.Placed.{no_arms, arm}
+use Rattle.abi_tree.specs.Placed.{element_of, parts_in, first_part, more_parts}
+use Rattle.abi_tree.specs.Nodes.{parts_at_0, placed_in}
 use Rattle.rustc_abi.specs.Laying.{AreLaying}
 use Rattle.rustc_abi.specs.Least.{fields_of}
 

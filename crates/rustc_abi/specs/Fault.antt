@@ -4,7 +4,7 @@ use Rattle.abi_base.specs.declared.data_layout.TargetDataLayout.{TargetDataLayou
 use Rattle.abi_base.specs.DataLayout.{IsLawfulDataLayout}
 use Rattle.rustc_abi.specs.declared.error.LayError.{LayError}
 use Rattle.rustc_abi.specs.declared.error.LayError.TheVariants.{UnlawfulDataLayout, OutOfMemory}
-use Rattle.abi_laid.specs.Tree.{Tree}
+use Rattle.abi_tree.specs.Tree.{Tree}
 use Rattle.rustc_abi.specs.Laying.{IsLaying}
 
 -- The first fault: of the data layout, else of a part, children before parents and left to right.

@@ -2,10 +2,10 @@
 -- them; and each of them has a value.
 use Rattle.std.specs.Prelude.{◌≡◌, false, Ok, ⊤}
 use Rattle.abi_base.specs.declared.data_layout.TargetDataLayout.{TargetDataLayout}
-use Rattle.abi_laid.specs.Tree.{Tree, array, vector, struct, union, enum, coroutine}
-use Rattle.abi_laid.specs.Tree.{Trees, no_trees, more_trees, Variants, no_variants, more_variants}
-use Rattle.abi_laid.specs.Placed.{Placed, layout_of}
-use Rattle.abi_laid.specs.Values.{HasValue}
+use Rattle.abi_tree.specs.Tree.{Tree, array, vector, struct, union, enum, coroutine}
+use Rattle.abi_tree.specs.Tree.{Trees, no_trees, more_trees, Variants, no_variants, more_variants}
+use Rattle.abi_tree.specs.Placed.{Placed, layout_of}
+use Rattle.abi_tree.specs.Values.{HasValue}
 use Rattle.rustc_abi.specs.Laying.{IsLaying}
 
 module _ (dl : TargetDataLayout) where

@@ -3,7 +3,7 @@
 use Rattle.std.specs.Prelude.{◌≡◌, ℕ, ◌+◌, ◌≤◌, List, [], ◌∷◌, map, true, ⊤}
 use Rattle.std.specs.List.{list_any}
 use Rattle.abi_scalar.specs.declared.variants.VariantLayout.{VariantLayout}
-use Rattle.abi_laid.specs.Placed.{Placed, layout_of, size_of}
+use Rattle.abi_tree.specs.Placed.{Placed, layout_of, size_of}
 
 -- parts of these sizes, at these offsets, one offset for each, end inside the whole
 abbrev pub EndInside : (whole : ℕ) → (offsets sizes : List ℕ) → Type 0

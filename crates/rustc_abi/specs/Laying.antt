@@ -16,22 +16,22 @@ use Rattle.abi_scalar.specs.Pair.{pair_layout, pair_size, second_offset}
 use Rattle.abi_scalar.specs.Repr.{has_fixed_order}
 use Rattle.abi_scalar.specs.Shape.{listed_offsets}
 use Rattle.abi_scalar.specs.Variant.{variants_of}
-use Rattle.abi_lists.specs.Array.{array_answer, elements_layout}
-use Rattle.abi_lists.specs.InOrder.{IsOrderedError, IsOrderedLayout}
-use Rattle.abi_lists.specs.List.{IsListError, IsListLayout}
-use Rattle.abi_lists.specs.Placement.{source_order}
-use Rattle.abi_lists.specs.Simd.{simd_answer}
-use Rattle.abi_lists.specs.Union.{IsUnionAnswer}
+use Rattle.abi_univariant.specs.Array.{array_answer, elements_layout}
+use Rattle.abi_univariant.specs.InOrder.{IsOrderedError, IsOrderedLayout}
+use Rattle.abi_univariant.specs.List.{IsListError, IsListLayout}
+use Rattle.abi_univariant.specs.Placement.{source_order}
+use Rattle.abi_univariant.specs.Simd.{simd_answer}
+use Rattle.abi_univariant.specs.Union.{IsUnionAnswer}
 use Rattle.abi_calc.specs.Coroutine.Layout.{IsStateTag}
 use Rattle.abi_calc.specs.Enums.Path.{variant_at}
 use Rattle.rustc_abi.specs.declared.error.LayError.{LayError}
 use Rattle.rustc_abi.specs.declared.error.LayError.TheVariants.{BadIndex, BadAlign, BadOrder, DuplicateDiscriminant, DiscriminantTooWide, NoState, LocalTwice, SizeOverflow}
-use Rattle.abi_laid.specs.Tree.{Tree, scalar, pair, never, unit, array, vector, struct, union, enum, coroutine, Trees, no_trees, more_trees, Variants, no_variants, more_variants}
-use Rattle.abi_laid.specs.Placed.{Placed, layout_of, scalar as placed_scalar, pair as placed_pair, never as placed_never, elements, vector as placed_vector, fields, union as placed_union, single as placed_single, tagged as placed_tagged, states as placed_states, no_parts, part}
+use Rattle.abi_tree.specs.Tree.{Tree, scalar, pair, never, unit, array, vector, struct, union, enum, coroutine, Trees, no_trees, more_trees, Variants, no_variants, more_variants}
+use Rattle.abi_tree.specs.Placed.{Placed, layout_of, scalar as placed_scalar, pair as placed_pair, never as placed_never, elements, vector as placed_vector, fields, union as placed_union, single as placed_single, tagged as placed_tagged, states as placed_states, no_parts, part}
 use Rattle.abi_scalar.specs.Layout.{Layout}
-use Rattle.abi_laid.specs.declared.mark.Mark.TheVariants.{Never, Plain, Unit}
-use Rattle.abi_laid.specs.Mark.{mark_of}
-use Rattle.abi_laid.specs.Nodes.{parts_at, parts_at_0, placed_in, state_tag_offset, tag_offset}
+use Rattle.abi_tree.specs.declared.mark.Mark.TheVariants.{Never, Plain, Unit}
+use Rattle.abi_tree.specs.Mark.{mark_of}
+use Rattle.abi_tree.specs.Nodes.{parts_at, parts_at_0, placed_in, state_tag_offset, tag_offset}
 use Rattle.rustc_abi.specs.Error.{named, lay_error, Follows}
 use Rattle.rustc_abi.specs.ScalarFault.{scalar_fault}
 use Rattle.rustc_abi.specs.Coroutines.{IsCoroutined, names_unknown}

@@ -15,15 +15,15 @@ use Rattle.abi_calc.specs.declared.enums.path.Path.{Path}
 use Rattle.abi_calc.specs.declared.enums.path.Path.TheVariants.{NoValue, OneList, Several}
 use Rattle.abi_calc.specs.Enums.Path.{path_of, variant_at}
 use Rattle.abi_calc.specs.Enums.Several.{HasEnumSize, IsAskedTooLarge}
-use Rattle.abi_lists.specs.Least.{IsEachOrderTooLarge, IsLeastSize, IsOrderOf, size_by}
-use Rattle.abi_lists.specs.Simd.{IsVectorTooLarge, vector_size}
-use Rattle.abi_lists.specs.Union.{IsUnionTooLarge, union_size}
-use Rattle.abi_laid.specs.Tree.{Tree, scalar, pair, never, unit, array, vector, struct, union, enum, coroutine, Trees}
-use Rattle.abi_laid.specs.Tree.{no_trees, more_trees, Variants, no_variants, more_variants}
-use Rattle.abi_laid.specs.Placed.{Placed, scalar as one_number, pair as two, never as nowhere, elements}
-use Rattle.abi_laid.specs.Placed.{vector as lanes_of_vector, fields, union as together, single, tagged}
-use Rattle.abi_laid.specs.Placed.{states as placed_states}
-use Rattle.abi_laid.specs.Placed.{Parts, no_parts, part, Arms, no_arms, arm, element_of, layout_of, size_of}
+use Rattle.abi_univariant.specs.Least.{IsEachOrderTooLarge, IsLeastSize, IsOrderOf, size_by}
+use Rattle.abi_univariant.specs.Simd.{IsVectorTooLarge, vector_size}
+use Rattle.abi_univariant.specs.Union.{IsUnionTooLarge, union_size}
+use Rattle.abi_tree.specs.Tree.{Tree, scalar, pair, never, unit, array, vector, struct, union, enum, coroutine, Trees}
+use Rattle.abi_tree.specs.Tree.{no_trees, more_trees, Variants, no_variants, more_variants}
+use Rattle.abi_tree.specs.Placed.{Placed, scalar as one_number, pair as two, never as nowhere, elements}
+use Rattle.abi_tree.specs.Placed.{vector as lanes_of_vector, fields, union as together, single, tagged}
+use Rattle.abi_tree.specs.Placed.{states as placed_states}
+use Rattle.abi_tree.specs.Placed.{Parts, no_parts, part, Arms, no_arms, arm, element_of, layout_of, size_of}
 use Rattle.rustc_abi.specs.ScalarFault.{scalar_fault}
 use Rattle.rustc_abi.specs.Coroutines.{conflicts_of}
 use Rattle.rustc_abi.specs.Enums.{IsTagIntegerAnswer, counted, discriminants_of, layouts_of}

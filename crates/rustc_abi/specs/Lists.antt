@@ -17,11 +17,11 @@ use Rattle.abi_calc.specs.Coroutine.States.{state_offsets}
 use Rattle.abi_calc.specs.Enums.Growth.{moved}
 use Rattle.abi_calc.specs.Enums.Lists.{behind_tag}
 use Rattle.abi_calc.specs.Enums.Several.{IsAskedFor}
-use Rattle.abi_lists.specs.Least.{IsLeastSize, IsPlacedBy, align_by}
-use Rattle.abi_laid.specs.Tree.{Tree, struct, enum, coroutine}
-use Rattle.abi_laid.specs.Placed.{Placed, fields, single, tagged, states as placed_states}
+use Rattle.abi_univariant.specs.Least.{IsLeastSize, IsPlacedBy, align_by}
+use Rattle.abi_tree.specs.Tree.{Tree, struct, enum, coroutine}
+use Rattle.abi_tree.specs.Placed.{Placed, fields, single, tagged, states as placed_states}
 use Rattle.abi_scalar.specs.Layout.{Layout}
-use Rattle.abi_laid.specs.Placed.{Parts, no_parts, part, Arms, no_arms, arm, layout_of, size_of}
+use Rattle.abi_tree.specs.Placed.{Parts, no_parts, part, Arms, no_arms, arm, layout_of, size_of}
 use Rattle.rustc_abi.specs.Coroutines.{conflicts_of}
 use Rattle.rustc_abi.specs.Enums.{IsTagIntegerAnswer, counted, discriminants_of, layouts_of}
 use Rattle.rustc_abi.specs.Laying.{AreLaying, kind_of}

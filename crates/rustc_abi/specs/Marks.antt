@@ -6,12 +6,12 @@ use Rattle.abi_base.specs.declared.struct_kind.StructKind.TheVariants.{AlwaysSiz
 use Rattle.abi_scalar.specs.Layout.{Layout}
 use Rattle.abi_calc.specs.Made.{AreFieldLists}
 use Rattle.abi_calc.specs.Marks.{HasCoroutineMarks, HasEnumMarks, HasListMarks, HasMarks, HasUnionMarks}
-use Rattle.abi_laid.specs.declared.mark.Mark.{Mark}
-use Rattle.abi_laid.specs.declared.mark.Mark.TheVariants.{Never, Plain, Unit}
-use Rattle.abi_laid.specs.Mark.{mark_of}
-use Rattle.abi_laid.specs.Tree.{Tree, never, unit, struct, union, enum, coroutine}
-use Rattle.abi_laid.specs.Placed.{Placed, never as nowhere, fields, union as together, single, tagged, Arms, no_arms}
-use Rattle.abi_laid.specs.Placed.{arm, states as placed_states, layout_of}
+use Rattle.abi_tree.specs.declared.mark.Mark.{Mark}
+use Rattle.abi_tree.specs.declared.mark.Mark.TheVariants.{Never, Plain, Unit}
+use Rattle.abi_tree.specs.Mark.{mark_of}
+use Rattle.abi_tree.specs.Tree.{Tree, never, unit, struct, union, enum, coroutine}
+use Rattle.abi_tree.specs.Placed.{Placed, never as nowhere, fields, union as together, single, tagged, Arms, no_arms}
+use Rattle.abi_tree.specs.Placed.{arm, states as placed_states, layout_of}
 use Rattle.rustc_abi.specs.Aligns.{IsKindOfVariants, repr_with}
 use Rattle.rustc_abi.specs.Coroutines.{conflicts_of}
 use Rattle.rustc_abi.specs.Enums.{discriminants_of, layouts_of}

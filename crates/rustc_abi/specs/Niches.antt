@@ -5,10 +5,10 @@ use Rattle.abi_scalar.specs.declared.niche.Niche.{Niche}
 use Rattle.abi_scalar.specs.declared.scalar.Scalar.{Scalar}
 use Rattle.abi_scalar.specs.Layout.{Layout}
 use Rattle.abi_scalar.specs.Niche.{niche_at}
-use Rattle.abi_lists.specs.ListNiche.{HasLargestNiche, IsNicheOfPart}
-use Rattle.abi_laid.specs.Tree.{Tree, array, vector, struct, union, enum, coroutine}
-use Rattle.abi_laid.specs.Placed.{Placed, elements, vector as lanes_of_vector, fields, union as together, single, tagged}
-use Rattle.abi_laid.specs.Placed.{states as placed_states, element_of, niche_of}
+use Rattle.abi_univariant.specs.ListNiche.{HasLargestNiche, IsNicheOfPart}
+use Rattle.abi_tree.specs.Tree.{Tree, array, vector, struct, union, enum, coroutine}
+use Rattle.abi_tree.specs.Placed.{Placed, elements, vector as lanes_of_vector, fields, union as together, single, tagged}
+use Rattle.abi_tree.specs.Placed.{states as placed_states, element_of, niche_of}
 use Rattle.rustc_abi.specs.Laying.{one_scalar}
 use Rattle.rustc_abi.specs.Lists.{offsets_of, types_of}
 

@@ -4,9 +4,9 @@ use Rattle.abi_base.specs.declared.data_layout.TargetDataLayout.{TargetDataLayou
 use Rattle.abi_base.specs.declared.struct_kind.StructKind.{StructKind}
 use Rattle.abi_base.specs.declared.struct_kind.StructKind.TheVariants.{AlwaysSized}
 use Rattle.abi_scalar.specs.declared.repr.ReprOptions.{ReprOptions}
-use Rattle.abi_lists.specs.Least.{IsPlacedBy}
-use Rattle.abi_laid.specs.Tree.{Tree, struct, enum}
-use Rattle.abi_laid.specs.Placed.{Placed, Parts, fields, single}
+use Rattle.abi_univariant.specs.Least.{IsPlacedBy}
+use Rattle.abi_tree.specs.Tree.{Tree, struct, enum}
+use Rattle.abi_tree.specs.Placed.{Placed, Parts, fields, single}
 use Rattle.abi_scalar.specs.Layout.{Layout}
 use Rattle.rustc_abi.specs.Laying.{kind_of, randomized}
 use Rattle.rustc_abi.specs.Least.{fields_of}

@@ -4,14 +4,14 @@ ghost use Rattle.std.specs.Prelude.{◌≡◌, ◌≤◌, IfOk, IsPermutation, l
 ghost use Rattle.std.specs.List.Sorted.{IsSortedByKey};
 ghost use Rattle.std.specs.Ordering.{nat_cmp};
 ghost use Rattle.abi_base.specs.DataLayout.{IsLawfulDataLayout};
-ghost use Rattle.abi_laid.specs.Tree.{trees_of_variants};
+ghost use Rattle.abi_tree.specs.Tree.{trees_of_variants};
 ghost use Rattle.rustc_abi.specs.Laying.{most_fields};
 ghost use Rattle.rustc_abi.specs.Enums.{discriminants_of, has_equal, is_discriminant, numbered_from};
 
 use abi_base::{Integer, TargetDataLayout};
 use abi_index::VariantIdx;
-use abi_laid::TypeTree;
 use abi_scalar::ReprOptions;
+use abi_tree::TypeTree;
 use std::alloc::{AllocError, Global};
 
 /// Each variant's discriminant.

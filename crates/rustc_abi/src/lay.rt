@@ -3,17 +3,17 @@
 ghost use Rattle.std.specs.Prelude.{◌≡◌, ◌↔◌, ◌⊎◌, IfOk, IfErr, Err, Ok, Result, true, ℕ};
 ghost use Rattle.std.specs.Result.{IsErrAnd};
 ghost use Rattle.abi_base.specs.DataLayout.{IsLawfulDataLayout};
-ghost use Rattle.abi_laid.specs.Tree.{tree_of};
-ghost use Rattle.abi_laid.specs.Values.{LocalsHaveValues};
-ghost use Rattle.abi_laid.specs.Deciding.{CoveredBytesDecide, EachPlaceDecides, all_inhabited_of};
-ghost use Rattle.abi_laid.specs.Faithful.{IsFaithful};
+ghost use Rattle.abi_tree.specs.Tree.{tree_of};
+ghost use Rattle.abi_tree.specs.Values.{LocalsHaveValues};
+ghost use Rattle.abi_tree.specs.Deciding.{CoveredBytesDecide, EachPlaceDecides, all_inhabited_of};
+ghost use Rattle.abi_tree.specs.Faithful.{IsFaithful};
 ghost use Rattle.abi_scalar.specs.Lawful.{IsLawfulLayout};
 ghost use Rattle.rustc_abi.specs.declared.error.LayError.{LayError};
-ghost use Rattle.abi_laid.specs.Placed.{Placed, layout_of};
+ghost use Rattle.abi_tree.specs.Placed.{Placed, layout_of};
 ghost use Rattle.abi_types.specs.Ty.Places.{is_place};
-ghost use Rattle.abi_laid.specs.Laid.{placed_of, endian_of, node_count_of, typed_of};
+ghost use Rattle.abi_tree.specs.Laid.{placed_of, endian_of, node_count_of, typed_of};
 ghost use Rattle.rustc_abi.specs.Laying.{IsLaying};
-ghost use Rattle.abi_laid.specs.Places.{is_data_place};
+ghost use Rattle.abi_tree.specs.Places.{is_data_place};
 ghost use Rattle.abi_types.specs.Ty.Walks.{is_sized};
 ghost use Rattle.rustc_abi.specs.Clash.{AreClashingLocalsApart, HaveLocalsOneOffset};
 ghost use Rattle.rustc_abi.specs.Count.{HasNodes};
@@ -25,15 +25,15 @@ ghost use Rattle.rustc_abi.specs.Lists.{HasLeastLists};
 ghost use Rattle.rustc_abi.specs.Marks.{HasMarksOfParts};
 ghost use Rattle.rustc_abi.specs.Niches.{HasNicheOfParts};
 ghost use Rattle.rustc_abi.specs.Orders.{LiesAsAsked};
-ghost use Rattle.abi_laid.specs.Unions.{Begins, IsCommon, InUnions};
-ghost use Rattle.abi_laid.specs.Untagged.{UntaggedNamed};
-ghost use Rattle.abi_laid.specs.OfTree.{KeepsTree};
+ghost use Rattle.abi_tree.specs.Unions.{Begins, IsCommon, InUnions};
+ghost use Rattle.abi_tree.specs.Untagged.{UntaggedNamed};
+ghost use Rattle.abi_tree.specs.OfTree.{KeepsTree};
 ghost use Rattle.rustc_abi.specs.Fault.{IsRefusedFor};
 
 use crate::error::LayError;
 use crate::lay_tree::lay_tree;
 use abi_base::TargetDataLayout;
-use abi_laid::{Laid, Nodes, TypeTree};
+use abi_tree::{Laid, Nodes, TypeTree};
 use std::alloc::Global;
 
 /// Refuses a data layout under which no type has a layout, as `UnlawfulDataLayout`: one that isn't lawful.

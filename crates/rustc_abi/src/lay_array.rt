@@ -3,13 +3,13 @@
 ghost use Rattle.std.specs.Prelude.{◌≡◌, ◌<◌, ℕ, Some, IfOk, IfErr, Ok, OnErr, length};
 ghost use Rattle.abi_base.specs.DataLayout.{IsLawfulDataLayout};
 ghost use Rattle.abi_scalar.specs.Lawful.{IsLawfulLayout};
-ghost use Rattle.abi_lists.specs.Array.{array_answer};
-ghost use Rattle.abi_laid.specs.Tree.{Tree, array};
-ghost use Rattle.abi_laid.specs.Placed.{layout_of};
-ghost use Rattle.abi_laid.specs.Nodes.{placed_at};
+ghost use Rattle.abi_univariant.specs.Array.{array_answer};
+ghost use Rattle.abi_tree.specs.Tree.{Tree, array};
+ghost use Rattle.abi_tree.specs.Placed.{layout_of};
+ghost use Rattle.abi_tree.specs.Nodes.{placed_at};
 ghost use Rattle.rustc_abi.specs.Laying.{IsLaying, elements_answer};
 ghost use Rattle.rustc_abi.specs.Error.{named};
-ghost use Rattle.abi_laid.specs.Fits.{Fits};
+ghost use Rattle.abi_tree.specs.Fits.{Fits};
 ghost use Rattle.rustc_abi.specs.Adding.{AreStillThere, IsAdded, IsRefusal};
 ghost use Rattle.rustc_abi.specs.Count.{IsOwnPut};
 
@@ -18,8 +18,8 @@ use crate::node::add;
 use abi_base::TargetDataLayout;
 use abi_calc::LayoutCalculator;
 use abi_index::{FieldIdx, VariantIdx};
-use abi_laid::{Nodes, Shape};
 use abi_scalar::{LayoutCalculatorError, LayoutData};
+use abi_tree::{Nodes, Shape};
 
 /// The layout of `count` elements, each as the node `element`.
 pub(crate) fn elements_layout(

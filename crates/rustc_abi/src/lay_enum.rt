@@ -6,15 +6,15 @@ ghost use Rattle.abi_base.specs.DataLayout.{IsLawfulDataLayout};
 ghost use Rattle.abi_scalar.specs.Lawful.{IsLawfulLayout};
 ghost use Rattle.abi_scalar.specs.Scalar.{IsReadable};
 ghost use Rattle.abi_scalar.specs.Variant.{variant_layout, variants_of};
-ghost use Rattle.abi_lists.specs.List.{HasLawfulAligns};
-ghost use Rattle.abi_laid.specs.Placed.{Placed, size_of, tagged};
-ghost use Rattle.abi_laid.specs.Nodes.{encoding_of, tag_offset};
+ghost use Rattle.abi_univariant.specs.List.{HasLawfulAligns};
+ghost use Rattle.abi_tree.specs.Placed.{Placed, size_of, tagged};
+ghost use Rattle.abi_tree.specs.Nodes.{encoding_of, tag_offset};
 ghost use Rattle.rustc_abi.specs.Enums.{IsEnumed, IsTagIntegerAnswer, arms_at, has_equal, is_discriminant, layouts_of};
 ghost use Rattle.rustc_abi.specs.Laying.{IsEnumOf, enum_fault, most_fields, one_scalar, placed_enum};
 ghost use Rattle.rustc_abi.specs.Inside.{VariantsInside};
-ghost use Rattle.abi_laid.specs.Laws.{have_places};
+ghost use Rattle.abi_tree.specs.Laws.{have_places};
 ghost use Rattle.rustc_abi.specs.Error.{IsRefused};
-ghost use Rattle.abi_laid.specs.Well.{IsPut};
+ghost use Rattle.abi_tree.specs.Well.{IsPut};
 ghost use Rattle.rustc_abi.specs.Adding.{AreArms, AreEachThere, AreStillThere, HasReadableTag, HasVariants, HaveLawfulLayouts, HavePlaces, IsEnumAdded, variants_in};
 ghost use Rattle.rustc_abi.specs.Count.{HasMore, IsOwnPut};
 
@@ -26,8 +26,8 @@ use crate::tag_integer::tag_integer;
 use abi_base::{Integer, NicheOptimizations, TargetDataLayout};
 use abi_calc::LayoutCalculator;
 use abi_index::{FieldIdx, IndexSlice, IndexVec, VariantIdx};
-use abi_laid::{Mark, Node, Nodes, Shape};
 use abi_scalar::{LayoutData, RangeFrom, RangeToInclusive, ReprOptions, Scalar, Variants};
+use abi_tree::{Mark, Node, Nodes, Shape};
 use std::alloc::{AllocError, Global};
 
 /// Whether each number is one of the type of the enum's discriminants.

@@ -4,14 +4,14 @@ ghost use Rattle.std.specs.Prelude.{◌≡◌, ◌<◌, ◌≤◌, ◌⊎◌, Li
 ghost use Rattle.abi_base.specs.DataLayout.{IsLawfulDataLayout};
 ghost use Rattle.abi_scalar.specs.Lawful.{IsLawfulLayout};
 ghost use Rattle.abi_scalar.specs.Shape.{listed_offsets};
-ghost use Rattle.abi_lists.specs.Apart.{AreApart};
-ghost use Rattle.abi_lists.specs.List.{HasLawfulAligns};
-ghost use Rattle.abi_lists.specs.ListNiche.{IsNicheOfPart};
-ghost use Rattle.abi_laid.specs.Tree.{struct};
-ghost use Rattle.abi_laid.specs.Placed.{Placed, layout_of, size_of};
+ghost use Rattle.abi_univariant.specs.Apart.{AreApart};
+ghost use Rattle.abi_univariant.specs.List.{HasLawfulAligns};
+ghost use Rattle.abi_univariant.specs.ListNiche.{IsNicheOfPart};
+ghost use Rattle.abi_tree.specs.Tree.{struct};
+ghost use Rattle.abi_tree.specs.Placed.{Placed, layout_of, size_of};
 ghost use Rattle.rustc_abi.specs.Laying.{IsFieldsAnswer, IsLaidList, fields_fault, has_bad_align, has_bad_index, is_above_limit, kind_of, most_fields};
 ghost use Rattle.rustc_abi.specs.Error.{IsRefused};
-ghost use Rattle.abi_laid.specs.Well.{all_at};
+ghost use Rattle.abi_tree.specs.Well.{all_at};
 ghost use Rattle.rustc_abi.specs.Adding.{AreStillThere, AreThere, HaveLawfulLayouts, IsTypeAdded};
 ghost use Rattle.rustc_abi.specs.Count.{IsOwnPut};
 
@@ -20,8 +20,8 @@ use crate::node::{add, layouts_at};
 use abi_base::{Align, StructKind, TargetDataLayout};
 use abi_calc::LayoutCalculator;
 use abi_index::{FieldIdx, VariantIdx};
-use abi_laid::{Mark, Nodes, Shape};
 use abi_scalar::{LayoutData, ReprOptions};
+use abi_tree::{Mark, Nodes, Shape};
 use std::alloc::Global;
 
 /// How many fields a list may have.

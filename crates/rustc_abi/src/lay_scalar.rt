@@ -4,13 +4,13 @@ ghost use Rattle.std.specs.Prelude.{◌≡◌, ◌<◌, IfOk, IfErr, Err, None, 
 ghost use Rattle.abi_base.specs.DataLayout.{IsLawfulDataLayout, size_bound};
 ghost use Rattle.abi_scalar.specs.Pair.{pair_layout, pair_size};
 ghost use Rattle.abi_scalar.specs.Scalar.{primitive_of};
-ghost use Rattle.abi_laid.specs.Tree.{scalar, pair, never, unit};
+ghost use Rattle.abi_tree.specs.Tree.{scalar, pair, never, unit};
 ghost use Rattle.abi_scalar.specs.Lawful.{IsLawfulLayout};
-ghost use Rattle.abi_laid.specs.Placed.{layout_of};
+ghost use Rattle.abi_tree.specs.Placed.{layout_of};
 ghost use Rattle.rustc_abi.specs.Laying.{one_scalar, pair_answer, placed_by, scalar_answer, two_scalars};
 ghost use Rattle.rustc_abi.specs.declared.error.LayError.{LayError};
 ghost use Rattle.rustc_abi.specs.ScalarFault.{is_lawful_primitive, has_range_within, scalar_fault};
-ghost use Rattle.abi_laid.specs.Well.{IsPut};
+ghost use Rattle.abi_tree.specs.Well.{IsPut};
 ghost use Rattle.rustc_abi.specs.Adding.{AreStillThere, IsAdded, IsRefusal};
 ghost use Rattle.rustc_abi.specs.Count.{HasMore, IsOwnPut};
 
@@ -18,8 +18,8 @@ use crate::error::LayError;
 use crate::node::add;
 use abi_base::{Primitive, TargetDataLayout};
 use abi_index::{FieldIdx, VariantIdx};
-use abi_laid::{Mark, Nodes, Shape};
 use abi_scalar::{LayoutData, Scalar};
+use abi_tree::{Mark, Nodes, Shape};
 use std::alloc::Global;
 
 /// Whether both ends of its range, if it has one, are numbers of its width.

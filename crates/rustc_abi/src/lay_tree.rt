@@ -2,7 +2,7 @@
 
 ghost use Rattle.std.specs.Prelude.{IfOk, IfErr, map, option_map};
 ghost use Rattle.abi_base.specs.DataLayout.{IsLawfulDataLayout};
-ghost use Rattle.abi_laid.specs.Tree.{coroutine, enum, struct, tree_of, trees, trees_of_variants};
+ghost use Rattle.abi_tree.specs.Tree.{coroutine, enum, struct, tree_of, trees, trees_of_variants};
 ghost use Rattle.rustc_abi.specs.Laying.{IsLaying, AreLaying, VariantsLaying};
 ghost use Rattle.rustc_abi.specs.Error.{IsRefused};
 ghost use Rattle.rustc_abi.specs.Adding.{AreAdded, AreStillThere, AreVariantsAdded, IsAdded};
@@ -19,8 +19,8 @@ use crate::lay_scalar::{add_never, add_pair, add_scalar, add_unit};
 use crate::lay_union::add_union;
 use crate::lay_vector::add_vector;
 use abi_base::TargetDataLayout;
-use abi_laid::{Nodes, TypeTree};
 use abi_scalar::ReprOptions;
+use abi_tree::{Nodes, TypeTree};
 use std::alloc::Global;
 
 /// Lays out a type behind the nodes that are there.

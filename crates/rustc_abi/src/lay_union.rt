@@ -3,12 +3,12 @@
 ghost use Rattle.std.specs.Prelude.{◌≡◌, ◌≤◌, IfOk, IfErr, Ok, None, length, OnErr, map};
 ghost use Rattle.abi_base.specs.DataLayout.{IsLawfulDataLayout};
 ghost use Rattle.abi_scalar.specs.Lawful.{IsLawfulLayout};
-ghost use Rattle.abi_lists.specs.List.{HasLawfulAligns};
-ghost use Rattle.abi_laid.specs.Tree.{union};
-ghost use Rattle.abi_laid.specs.Placed.{layout_of};
+ghost use Rattle.abi_univariant.specs.List.{HasLawfulAligns};
+ghost use Rattle.abi_tree.specs.Tree.{union};
+ghost use Rattle.abi_tree.specs.Placed.{layout_of};
 ghost use Rattle.rustc_abi.specs.Laying.{IsUnionOf, IsUnited, fields_fault, most_fields};
 ghost use Rattle.rustc_abi.specs.Error.{IsRefused};
-ghost use Rattle.abi_laid.specs.Well.{all_at};
+ghost use Rattle.abi_tree.specs.Well.{all_at};
 ghost use Rattle.rustc_abi.specs.Adding.{AreStillThere, AreThere, HaveLawfulLayouts, IsTypeAdded};
 ghost use Rattle.rustc_abi.specs.Count.{IsOwnPut};
 
@@ -18,8 +18,8 @@ use crate::node::{add, layouts_at};
 use abi_base::TargetDataLayout;
 use abi_calc::LayoutCalculator;
 use abi_index::{FieldIdx, IndexSlice, VariantIdx};
-use abi_laid::{Mark, Nodes, Shape};
 use abi_scalar::{LayoutData, ReprOptions};
+use abi_tree::{Mark, Nodes, Shape};
 use std::alloc::Global;
 
 /// The layout of a union of fields, each as one of the nodes.

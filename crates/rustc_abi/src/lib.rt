@@ -37,14 +37,14 @@ pub use abi_index::{
     BitMatrix, BitRowIter, BitSetIter, DenseBitSet, FIRST_VARIANT, FieldIdx, Hash64, Idx,
     IndexList, IndexSlice, IndexVec, Indices, RangeSet, TryClone, VariantIdx,
 };
-pub use abi_laid::{
-    Laid, PartBytes, PartName, TreeTy, TypeTree, Value, ValueError, read_value, write_value,
-};
 pub use abi_scalar::{
     BackendLaneCount, BackendRepr, FieldCount, FieldsShape, IncreasingOffset,
     LayoutCalculatorError, LayoutData, LayoutHandle, Niche, RangeFrom, RangeFull, RangeInclusive,
     RangeToInclusive, ReprFlags, ReprOptions, Scalar, TagEncoding, VariantLayout, Variants,
     WrappingRange,
+};
+pub use abi_tree::{
+    Laid, PartBytes, PartName, TreeTy, TypeTree, Value, ValueError, read_value, write_value,
 };
 pub use abi_types::{
     ArmCall, CVariadicStatus, CanonAbi, ExternAbi, Heterogeneous, HomogeneousAggregate,

@@ -1,19 +1,19 @@
 //! Nodes that are put behind others.
 
 ghost use Rattle.std.specs.Prelude.{◌≡◌, ◌≤◌, IfErr, IfOk, OnErr, length, map, true};
-ghost use Rattle.abi_laid.specs.Placed.{layout_of};
-ghost use Rattle.abi_laid.specs.Nodes.{types_in, meaning};
-ghost use Rattle.abi_laid.specs.Laws.{keeps_laws};
-ghost use Rattle.abi_laid.specs.Widths.{has_width};
-ghost use Rattle.abi_laid.specs.Well.{all_at, is_node, IsPut};
+ghost use Rattle.abi_tree.specs.Placed.{layout_of};
+ghost use Rattle.abi_tree.specs.Nodes.{types_in, meaning};
+ghost use Rattle.abi_tree.specs.Laws.{keeps_laws};
+ghost use Rattle.abi_tree.specs.Widths.{has_width};
+ghost use Rattle.abi_tree.specs.Well.{all_at, is_node, IsPut};
 ghost use Rattle.rustc_abi.specs.Count.{HasMore};
 ghost use Rattle.rustc_abi.specs.Adding.{AreStillThere, AreThere};
 ghost use Rattle.rustc_abi.specs.Laying.{most_fields};
 
 use crate::error::LayError;
 use abi_index::{FieldIdx, IndexVec, VariantIdx};
-use abi_laid::{Nodes, Shape};
 use abi_scalar::LayoutData;
+use abi_tree::{Nodes, Shape};
 use std::alloc::{AllocError, Global};
 
 /// Puts a node behind the others. `OutOfMemory` where memory is refused: then they are as they were.

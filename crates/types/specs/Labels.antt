@@ -1,8 +1,8 @@
 -- What fields, variants and the parts of a type are called.
 use Rattle.std.specs.Prelude.{ℕ, List, [], ◌++◌, codes, Option, None, Some, slice_get}
 use Rattle.std.specs.Fmt.{decimal}
-use Rattle.abi_laid.specs.declared.parts.PartName.{PartName}
-use Rattle.abi_laid.specs.declared.parts.PartName.TheVariants.{Number, Elements, Lanes, Field, Tag, VariantField}
+use Rattle.abi_tree.specs.declared.parts.PartName.{PartName}
+use Rattle.abi_tree.specs.declared.parts.PartName.TheVariants.{Number, Elements, Lanes, Field, Tag, VariantField}
 use Rattle.abi_rust.specs.declared.report.Label.{Label}
 use Rattle.abi_rust.specs.declared.report.VariantLabels.{VariantLabels}
 use Rattle.rust_source.specs.declared.item.FieldName.{FieldName}

@@ -1,7 +1,7 @@
 -- A type as lines, with the names of its fields and variants.
 use Rattle.std.specs.Prelude.{ℕ, ◌+◌, ◌==◌, List, [], ◌∷◌, ◌++◌, codes, get_or, slice_get, Option, None, Some, Bool, false, if◌then◌else◌}
 use Rattle.std.specs.Fmt.{decimal}
-use Rattle.abi_laid.specs.Placed.{Placed, layout_of}
+use Rattle.abi_tree.specs.Placed.{Placed, layout_of}
 use Rattle.abi_rust.specs.declared.report.Label.{Label}
 use Rattle.abi_rust.specs.declared.report.Shape.{Shape}
 use Rattle.abi_rust.specs.declared.report.Shape.TheVariants.{Plain, Struct, Union, Enum}

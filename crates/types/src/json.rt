@@ -1,15 +1,15 @@
 //! A type as JSON.
 
 ghost use Rattle.std.specs.Prelude.{◌<◌};
-ghost use Rattle.abi_laid.specs.Laid.{placed_of};
-ghost use Rattle.abi_laid.specs.Placed.{layout_of};
+ghost use Rattle.abi_tree.specs.Laid.{placed_of};
+ghost use Rattle.abi_tree.specs.Placed.{layout_of};
 
 use crate::labels::{offset_at, offsets_of, write_field_name};
 use abi_base::{Size, TargetDataLayout};
-use abi_laid::{Laid, TypeTree};
 use abi_rust::{Label, Shape, VariantLabels};
 use abi_scalar::{Niche, Scalar, TagEncoding, Variants};
 use abi_text::write_scalar;
+use abi_tree::{Laid, TypeTree};
 use rust_source::Names;
 use rustc_abi::{LayError, lay_out};
 use serde_json::{Map, Value};

@@ -2,8 +2,8 @@
 
 ghost use Rattle.std.specs.Prelude.{◌≡◌, ℕ, ◌<◌, ◌≤◌, ◌+◌, ◌++◌, OnOk, length, slice_get, string_bytes};
 ghost use Rattle.abi_index.specs.Idx.{greatest_place};
-ghost use Rattle.abi_laid.specs.Laid.{placed_of};
-ghost use Rattle.abi_laid.specs.Placed.{layout_of};
+ghost use Rattle.abi_tree.specs.Laid.{placed_of};
+ghost use Rattle.abi_tree.specs.Placed.{layout_of};
 ghost use Rattle.abi_types.specs.Ty.Runs.{IsVariantOfSeveral};
 ghost use Rattle.types.specs.Lines.{labelled_fields, labelled_niche, offsets_in, own_offsets, parts_lines, labelled_range, rest_lines, several_lines, single_lines, labelled_tag, type_lines, labelled_variant, labelled_variants};
 
@@ -11,13 +11,13 @@ use crate::labels::{offset_at, offsets_of, write_field_name};
 use crate::mapped::write_variant;
 use abi_base::Size;
 use abi_index::{FieldIdx, VariantIdx};
-use abi_laid::Laid;
 use abi_rust::{Label, Shape, VariantLabels};
 use abi_scalar::{RangeInclusive, Scalar, TagEncoding, VariantLayout, Variants};
 use abi_text::{
     listed_unused, runs_of, write_niche, write_padding, write_ranges, write_scalar, write_size,
     write_uninhabited,
 };
+use abi_tree::Laid;
 use rust_source::Names;
 use std::alloc::{AllocError, Global};
 

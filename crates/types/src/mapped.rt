@@ -4,10 +4,10 @@ ghost use Rattle.std.specs.Prelude.{◌≡◌, ◌++◌, OnOk, slice_get, string
 ghost use Rattle.types.specs.Labels.{label_text, labels_in, variant_text};
 
 use crate::labels::write_field_name;
-use abi_laid::{Laid, PartName};
 use abi_map::Called;
 use abi_rust::{Label, Shape, VariantLabels};
 use abi_scalar::Variants;
+use abi_tree::{Laid, PartName};
 use rust_source::Names;
 use std::alloc::AllocError;
 

@@ -21,9 +21,9 @@ use Rattle.abi_scalar.specs.declared.repr.ReprOptions.{ReprOptions}
 use Rattle.abi_scalar.specs.declared.variants.Variants.{Variants as LayoutVariants}
 use Rattle.abi_scalar.specs.declared.variants.Variants.TheVariants.{Empty, Single, Multiple}
 use Rattle.abi_scalar.specs.Repr.{discr_type_of, is_c}
-use Rattle.abi_lists.specs.Fields.{greatest, greatest_size}
-use Rattle.abi_lists.specs.List.{IsListAnswer}
-use Rattle.abi_lists.specs.Placement.{cut, end_from, in_order, own_align, start_of}
+use Rattle.abi_univariant.specs.Fields.{greatest, greatest_size}
+use Rattle.abi_univariant.specs.List.{IsListAnswer}
+use Rattle.abi_univariant.specs.Placement.{cut, end_from, in_order, own_align, start_of}
 use Rattle.abi_calc.specs.declared.enums.path.Path.{Path}
 use Rattle.abi_calc.specs.declared.enums.path.Path.TheVariants.{Several}
 use Rattle.abi_calc.specs.Enums.Answer.{IsTypeAnswer}
@@ -32,9 +32,9 @@ use Rattle.abi_calc.specs.Enums.Lists.{AreListLayouts, align_with_all, behind_ta
 use Rattle.abi_calc.specs.Enums.Path.{has_no_value, is_free, path_among, path_of, variant_at}
 use Rattle.abi_calc.specs.Enums.Several.{IsAskedFor, IsSeveralAnswer}
 use Rattle.abi_calc.specs.Enums.Tagged.{lists_align, lists_size}
-use Rattle.abi_laid.specs.Placed.{Placed, layout_of}
+use Rattle.abi_tree.specs.Placed.{Placed, layout_of}
 use Rattle.abi_scalar.specs.Layout.{Layout}
-use Rattle.abi_laid.specs.Tree.{Tree, enum}
+use Rattle.abi_tree.specs.Tree.{Tree, enum}
 use Rattle.rustc_abi.specs.declared.error.LayError.{LayError}
 use Rattle.rustc_abi.specs.declared.error.LayError.TheVariants.{BadAlign, BadIndex, DiscriminantTooWide, DuplicateDiscriminant}
 use Rattle.rustc_abi.specs.Enums.{IsEnumed, IsTagIntegerAnswer, counted, discriminants_of, has_equal, is_discriminant, is_negative, layouts_of, least_integer, least_tag, numbered_from, tag_integer}

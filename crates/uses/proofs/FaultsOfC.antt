@@ -2,11 +2,11 @@
 use Rattle.std.proofs.Common.{Bool, ◌≡◌, ℕ, List, [], ◌∷◌, Vec, length, map, refl, ap, sym, ◌∙◌, arith}
 use Rattle.std.specs.declared.alloc.Global.{Global}
 use Rattle.abi_scalar.specs.declared.repr.ReprOptions.{ReprOptions}
-use Rattle.abi_laid.specs.declared.tree.TypeTree.{TypeTree, Struct, Union, Enum, fold-roll-TypeTree}
-use Rattle.abi_laid.specs.declared.tree.TypeTree.TheVariants.{rolls-Enum}
-use Rattle.abi_laid.specs.declared.tree.TypeTree.TheShapes.{former-TypeTree-Enum-1-at-3}
-use Rattle.abi_laid.specs.declared.tree.TypeTree.TheOpen as layer
-use Rattle.abi_laid.specs.Tree.{Tree, tree_of, layer_tree, trees, variants}
+use Rattle.abi_tree.specs.declared.tree.TypeTree.{TypeTree, Struct, Union, Enum, fold-roll-TypeTree}
+use Rattle.abi_tree.specs.declared.tree.TypeTree.TheVariants.{rolls-Enum}
+use Rattle.abi_tree.specs.declared.tree.TypeTree.TheShapes.{former-TypeTree-Enum-1-at-3}
+use Rattle.abi_tree.specs.declared.tree.TypeTree.TheOpen as layer
+use Rattle.abi_tree.specs.Tree.{Tree, tree_of, layer_tree, trees, variants}
 use Rattle.uses.specs.FieldOfC.{c_enum_fault, field_fault, list_fault, tree_count, variants_count}
 use Rattle.uses.proofs.Trees.{tree_of-Struct, tree_of-Union}
 

@@ -5,12 +5,12 @@ use Rattle.abi_base.specs.declared.endian.Endian.{Endian}
 use Rattle.abi_scalar.specs.Shape.{field_count, field_offset}
 use Rattle.abi_types.specs.Ty.Lawful.{IsLawfulType}
 use Rattle.abi_types.specs.Ty.Typed.{Typed, typed, no_type, field_in, layout_in}
-use Rattle.abi_laid.specs.Bytes.{bytes_at}
-use Rattle.abi_laid.specs.Holding.{HoldParts, Holds, IsAt}
-use Rattle.abi_laid.specs.Placed.{Placed, scalar, pair, never, elements, vector, fields, union, single, tagged, states, Parts, no_parts, part, layout_of, size_of}
+use Rattle.abi_tree.specs.Bytes.{bytes_at}
+use Rattle.abi_tree.specs.Holding.{HoldParts, Holds, IsAt}
+use Rattle.abi_tree.specs.Placed.{Placed, scalar, pair, never, elements, vector, fields, union, single, tagged, states, Parts, no_parts, part, layout_of, size_of}
 use Rattle.abi_scalar.specs.Layout.{Layout}
-use Rattle.abi_laid.specs.Seen.{HasOffset, Sees, SeesParts}
-use Rattle.abi_laid.specs.Value.{Value, Values, no_values, more_values, list}
+use Rattle.abi_tree.specs.Seen.{HasOffset, Sees, SeesParts}
+use Rattle.abi_tree.specs.Value.{Value, Values, no_values, more_values, list}
 use Rattle.uses.specs.Field.{HasFieldAt, IsPartOf, value_at}
 
 -- ---- as handles see them

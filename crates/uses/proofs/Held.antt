@@ -5,17 +5,17 @@ use Rattle.std.specs.Option.{option_map}
 use Rattle.std.specs.declared.alloc.Global.{Global}
 use Rattle.abi_base.specs.declared.data_layout.TargetDataLayout.{TargetDataLayout}
 use Rattle.abi_base.specs.declared.endian.Endian.{Endian}
-use Rattle.abi_laid.specs.declared.laid.Laid.{Laid}
-use Rattle.abi_laid.specs.declared.value.Value.{Value as Kept, List as ListKept, Pair as PairKept, State as StateKept, Variant as VariantKept, fold-roll-Value}
-use Rattle.abi_laid.specs.declared.value.Value.TheVariants.{rolls-List, rolls-State, rolls-Variant}
-use Rattle.abi_laid.specs.declared.value.Value.TheOpen as layer
-use Rattle.abi_laid.specs.Holding.{Holds}
-use Rattle.abi_laid.specs.Laid.{endian_of, placed_of}
-use Rattle.abi_laid.specs.OfTree.{IsOfTree}
-use Rattle.abi_laid.specs.Placed.{Placed, scalar, pair, never, elements, vector, fields, union, single, tagged, states, size_of}
-use Rattle.abi_laid.specs.Reading.{KeepsValues}
-use Rattle.abi_laid.specs.Tree.{Tree}
-use Rattle.abi_laid.specs.Value.{Value, number, two, list, variant, state, bytes, Values, more_values, layer_value, value_of, values_of}
+use Rattle.abi_tree.specs.declared.laid.Laid.{Laid}
+use Rattle.abi_tree.specs.declared.value.Value.{Value as Kept, List as ListKept, Pair as PairKept, State as StateKept, Variant as VariantKept, fold-roll-Value}
+use Rattle.abi_tree.specs.declared.value.Value.TheVariants.{rolls-List, rolls-State, rolls-Variant}
+use Rattle.abi_tree.specs.declared.value.Value.TheOpen as layer
+use Rattle.abi_tree.specs.Holding.{Holds}
+use Rattle.abi_tree.specs.Laid.{endian_of, placed_of}
+use Rattle.abi_tree.specs.OfTree.{IsOfTree}
+use Rattle.abi_tree.specs.Placed.{Placed, scalar, pair, never, elements, vector, fields, union, single, tagged, states, size_of}
+use Rattle.abi_tree.specs.Reading.{KeepsValues}
+use Rattle.abi_tree.specs.Tree.{Tree}
+use Rattle.abi_tree.specs.Value.{Value, number, two, list, variant, state, bytes, Values, more_values, layer_value, value_of, values_of}
 use Rattle.uses.specs.Field.{IsValueFound, value_at, with_value}
 
 -- bytes that hold a value are as many as the type is large
@@ -102,7 +102,7 @@ pub value_of-Variant : (i : ℕ) (vs : Vec Kept Global) → value_of (VariantKep
 value_of-Variant i vs = ap value_of (sym (rolls-Variant i vs)) ∙ fold-roll-Value Value layer_value (layer.Variant i vs)
 
 pub value_of-Pair : (n m : ℕ) → value_of (PairKept n m) ≡ two n m
-unfolding Rattle.abi_laid.specs.declared.value.Value.TheViews.roll-Value denote.Hole.Carrier.roll
+unfolding Rattle.abi_tree.specs.declared.value.Value.TheViews.roll-Value denote.Hole.Carrier.roll
 value_of-Pair n m = fold-roll-Value Value layer_value (layer.Pair n m)
 
 pub value_of-State : (i : ℕ) (ps vs : Vec Kept Global) → value_of (StateKept i ps vs) ≡ state i (values_of ps.items) (values_of vs.items)

@@ -12,20 +12,20 @@ use Rattle.abi_scalar.specs.declared.niche.Niche.{Niche}
 use Rattle.abi_scalar.specs.declared.repr.ReprOptions.{ReprOptions}
 use Rattle.abi_scalar.specs.Repr.{has_fixed_order}
 use Rattle.abi_scalar.specs.Shape.{listed_offsets}
-use Rattle.abi_lists.specs.declared.list_repr.ListRepr.{ListRepr}
-use Rattle.abi_lists.specs.declared.order.NicheBias.TheVariants.{Start, End}
-use Rattle.abi_lists.specs.declared.part.Part.{Part}
-use Rattle.abi_lists.specs.Least.{IsPlacedBy}
-use Rattle.abi_lists.specs.ListNiche.{begins_after, niche_in}
-use Rattle.abi_lists.specs.Order.{IsNamedOrder}
-use Rattle.abi_lists.specs.Part.{part_of, parts_of}
-use Rattle.abi_lists.specs.Placement.{IsAllowed, align_of as list_align, cut, end_from, in_order, list_repr, no_part, offsets_from, own_align, place_of, source_order}
-use Rattle.abi_lists.specs.Union.{raised_to}
-use Rattle.abi_lists.specs.Run.{IsPlacedIn, IsRun, space_wanted}
-use Rattle.abi_laid.specs.Nodes.{parts_at}
-use Rattle.abi_laid.specs.Placed.{Parts, Placed, layout_of, size_of}
+use Rattle.abi_univariant.specs.declared.list_repr.ListRepr.{ListRepr}
+use Rattle.abi_univariant.specs.declared.order.NicheBias.TheVariants.{Start, End}
+use Rattle.abi_univariant.specs.declared.part.Part.{Part}
+use Rattle.abi_univariant.specs.Least.{IsPlacedBy}
+use Rattle.abi_univariant.specs.ListNiche.{begins_after, niche_in}
+use Rattle.abi_univariant.specs.Order.{IsNamedOrder}
+use Rattle.abi_univariant.specs.Part.{part_of, parts_of}
+use Rattle.abi_univariant.specs.Placement.{IsAllowed, align_of as list_align, cut, end_from, in_order, list_repr, no_part, offsets_from, own_align, place_of, source_order}
+use Rattle.abi_univariant.specs.Union.{raised_to}
+use Rattle.abi_univariant.specs.Run.{IsPlacedIn, IsRun, space_wanted}
+use Rattle.abi_tree.specs.Nodes.{parts_at}
+use Rattle.abi_tree.specs.Placed.{Parts, Placed, layout_of, size_of}
 use Rattle.abi_scalar.specs.Layout.{Layout}
-use Rattle.abi_laid.specs.Tree.{Tree, Trees, struct}
+use Rattle.abi_tree.specs.Tree.{Tree, Trees, struct}
 use Rattle.rustc_abi.specs.declared.error.LayError.{LayError}
 use Rattle.rustc_abi.specs.Error.{Follows}
 use Rattle.rustc_abi.specs.Everywhere.{Everywhere}

@@ -3,17 +3,17 @@ use Rattle.std.proofs.Common.{◌≡◌, ◌≢◌, ℕ, List, Bool, true, false
 use Rattle.std.specs.declared.alloc.AllocError.{AllocError}
 use Rattle.std.specs.Prelude.{IfOk, Result, Ok, Err, Option, None, Some, ◌↔◌, not, nat_lt, ◌&&◌, slice_set, if◌then◌else◌}
 use Rattle.std.proofs.lemmas.Bool.{and_parts, true≢false}
-use Rattle.abi_laid.specs.declared.laid.Laid.{Laid}
-use Rattle.abi_laid.specs.declared.value.Value.{Value as Kept}
-use Rattle.abi_laid.specs.Faithful.{AgreeOn}
-use Rattle.abi_laid.specs.Holding.{Holds}
-use Rattle.abi_laid.specs.Laid.{endian_of, placed_of}
-use Rattle.abi_laid.specs.OfTree.{IsOfTree}
-use Rattle.abi_laid.specs.Placed.{Placed, size_of}
-use Rattle.abi_laid.specs.Places.{is_data_place}
-use Rattle.abi_laid.specs.Reading.{Finds}
-use Rattle.abi_laid.specs.Runs.{is_padding_of}
-use Rattle.abi_laid.specs.Value.{Value, value_of}
+use Rattle.abi_tree.specs.declared.laid.Laid.{Laid}
+use Rattle.abi_tree.specs.declared.value.Value.{Value as Kept}
+use Rattle.abi_tree.specs.Faithful.{AgreeOn}
+use Rattle.abi_tree.specs.Holding.{Holds}
+use Rattle.abi_tree.specs.Laid.{endian_of, placed_of}
+use Rattle.abi_tree.specs.OfTree.{IsOfTree}
+use Rattle.abi_tree.specs.Placed.{Placed, size_of}
+use Rattle.abi_tree.specs.Places.{is_data_place}
+use Rattle.abi_tree.specs.Reading.{Finds}
+use Rattle.abi_tree.specs.Runs.{is_padding_of}
+use Rattle.abi_tree.specs.Value.{Value, value_of}
 use Rattle.uses.specs.Ignored.{DecidesNothing, with_padding}
 use Rattle.uses.proofs.Held.{length-Holds}
 

@@ -11,14 +11,14 @@ use Rattle.abi_scalar.specs.declared.scalar.Scalar.TheVariants.{Initialized, Uni
 use Rattle.abi_scalar.specs.Lawful.{IsLawfulLayout, IsLawfulView}
 use Rattle.abi_scalar.specs.Range.{IsIn, numbers_of}
 use Rattle.abi_scalar.specs.Scalar.{IsBool, IsLawfulScalar, IsNumberOf, scalar_size}
-use Rattle.abi_laid.specs.Bytes.{bytes_at, number_of}
-use Rattle.abi_laid.specs.declared.laid.Laid.{Laid}
-use Rattle.abi_laid.specs.Faithful.{IsScalarTrue, IsTrueOf, IsViewTrue}
-use Rattle.abi_laid.specs.Holding.{Holds}
-use Rattle.abi_laid.specs.Laid.{endian_of, placed_of}
-use Rattle.abi_laid.specs.Placed.{Placed, layout_of, size_of}
-use Rattle.abi_laid.specs.Tree.{Tree}
-use Rattle.abi_laid.specs.Value.{Value}
+use Rattle.abi_tree.specs.Bytes.{bytes_at, number_of}
+use Rattle.abi_tree.specs.declared.laid.Laid.{Laid}
+use Rattle.abi_tree.specs.Faithful.{IsScalarTrue, IsTrueOf, IsViewTrue}
+use Rattle.abi_tree.specs.Holding.{Holds}
+use Rattle.abi_tree.specs.Laid.{endian_of, placed_of}
+use Rattle.abi_tree.specs.Placed.{Placed, layout_of, size_of}
+use Rattle.abi_tree.specs.Tree.{Tree}
+use Rattle.abi_tree.specs.Value.{Value}
 use Rattle.rustc_abi.specs.declared.error.LayError.{LayError}
 use Rattle.rustc_abi.specs.Laying.{IsLaying}
 use Rattle.uses.specs.Loaded.{IsNumberAt, IsSeenAs, IsSeenAsPair}

@@ -10,18 +10,18 @@ use Rattle.abi_scalar.specs.declared.variants.Variants.TheVariants.{Empty, Singl
 use Rattle.abi_scalar.specs.Layout.{Layout}
 use Rattle.abi_types.specs.Ty.Runs.{AreUnused, IsVariantIndex, IsVariantOfSeveral, variant_count}
 use Rattle.abi_types.specs.Ty.Typed.{layout_in}
-use Rattle.abi_laid.specs.declared.laid.Laid.{Laid}
-use Rattle.abi_laid.specs.Covering.{is_covered}
-use Rattle.abi_laid.specs.Holding.{Holds}
-use Rattle.abi_laid.specs.Laid.{endian_of, placed_of, typed_of}
-use Rattle.abi_laid.specs.OfTree.{IsOfTree}
-use Rattle.abi_laid.specs.Placed.{layout_of}
-use Rattle.abi_laid.specs.Places.{is_data_place}
-use Rattle.abi_laid.specs.Runs.{is_place_of_variant}
-use Rattle.abi_laid.specs.Unused.{IsOfVariant, is_left_unused}
-use Rattle.abi_laid.specs.declared.value.Value.{Value as Kept}
-use Rattle.abi_laid.specs.Reading.{Finds}
-use Rattle.abi_laid.specs.Value.{Value, bytes, list, number, state, two, value_of, variant}
+use Rattle.abi_tree.specs.declared.laid.Laid.{Laid}
+use Rattle.abi_tree.specs.Covering.{is_covered}
+use Rattle.abi_tree.specs.Holding.{Holds}
+use Rattle.abi_tree.specs.Laid.{endian_of, placed_of, typed_of}
+use Rattle.abi_tree.specs.OfTree.{IsOfTree}
+use Rattle.abi_tree.specs.Placed.{layout_of}
+use Rattle.abi_tree.specs.Places.{is_data_place}
+use Rattle.abi_tree.specs.Runs.{is_place_of_variant}
+use Rattle.abi_tree.specs.Unused.{IsOfVariant, is_left_unused}
+use Rattle.abi_tree.specs.declared.value.Value.{Value as Kept}
+use Rattle.abi_tree.specs.Reading.{Finds}
+use Rattle.abi_tree.specs.Value.{Value, bytes, list, number, state, two, value_of, variant}
 use Rattle.uses.specs.Field.{IsValueFound}
 use Rattle.uses.specs.Spared.{is_in_set_of, is_spared, with_spared}
 

@@ -1,6 +1,6 @@
 -- The bytes of a number, one by one.
 use Rattle.std.proofs.Common.{◌≡◌, ℕ, suc, ◌+◌, ◌-◌, ◌*◌, ◌/◌, ◌%◌, ◌<◌, ◌≤◌, List, [], ◌∷◌, ◌++◌, length, length-append, arith, ap, ◌∙◌, subst}
-use Rattle.abi_laid.specs.Bytes.{little}
+use Rattle.abi_tree.specs.Bytes.{little}
 use Rattle.abi_scalar.specs.Range.{numbers_of}
 use Rattle.uses.proofs.Numbers.{numbers_of-more}
 

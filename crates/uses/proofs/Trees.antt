@@ -3,11 +3,11 @@ use Rattle.std.proofs.Common.{Bool, None, ◌≡◌, ℕ, suc, ◌+◌, ◌<◌,
 use Rattle.std.proofs.Math.Seq.{take-suc}
 use Rattle.std.specs.declared.alloc.Global.{Global}
 use Rattle.abi_scalar.specs.declared.repr.ReprOptions.{ReprOptions}
-use Rattle.abi_laid.specs.declared.tree.TypeTree.{TypeTree, Struct, Union, Enum, fold-roll-TypeTree}
-use Rattle.abi_laid.specs.declared.tree.TypeTree.TheVariants.{rolls-Struct, rolls-Union, rolls-Enum}
-use Rattle.abi_laid.specs.declared.tree.TypeTree.TheShapes.{former-TypeTree-Enum-1-at-3}
-use Rattle.abi_laid.specs.declared.tree.TypeTree.TheOpen as layer
-use Rattle.abi_laid.specs.Tree.{Tree, tree_of, layer_tree, trees, trees_of_variants, variants, struct, union, enum, no_trees, more_variants, no_variants}
+use Rattle.abi_tree.specs.declared.tree.TypeTree.{TypeTree, Struct, Union, Enum, fold-roll-TypeTree}
+use Rattle.abi_tree.specs.declared.tree.TypeTree.TheVariants.{rolls-Struct, rolls-Union, rolls-Enum}
+use Rattle.abi_tree.specs.declared.tree.TypeTree.TheShapes.{former-TypeTree-Enum-1-at-3}
+use Rattle.abi_tree.specs.declared.tree.TypeTree.TheOpen as layer
+use Rattle.abi_tree.specs.Tree.{Tree, tree_of, layer_tree, trees, trees_of_variants, variants, struct, union, enum, no_trees, more_variants, no_variants}
 use Rattle.uses.specs.EnumInC.{without_fields}
 
 pub tree_of-Struct : (repr : ReprOptions) (always_sized : Bool) (fields : Vec TypeTree Global) →

@@ -8,20 +8,20 @@ use Rattle.abi_base.specs.declared.data_layout.TargetDataLayout.{TargetDataLayou
 use Rattle.abi_base.specs.declared.endian.Endian.{Endian}
 use Rattle.abi_scalar.specs.declared.variants.TagEncoding.{TagEncoding}
 use Rattle.abi_scalar.specs.declared.variants.TagEncoding.TheVariants.{Direct, Niche}
-use Rattle.abi_laid.specs.declared.laid.Laid.{Laid}
-use Rattle.abi_laid.specs.declared.value.Value.{Value as Kept}
-use Rattle.abi_laid.specs.Bytes.{bytes_at, number_of, picked_bytes, put_if}
-use Rattle.abi_laid.specs.Covering.{are_covered, each_covered, is_arm_covered, is_byte_at, is_covered, is_told}
-use Rattle.abi_laid.specs.Holding.{HoldArm, HoldEach, HoldParts, Holds, IsAt, tag_at}
-use Rattle.abi_laid.specs.Laid.{endian_of, placed_of}
-use Rattle.abi_laid.specs.OfTree.{IsOfTree}
-use Rattle.abi_laid.specs.Placed.{Placed, scalar, pair, never, elements, vector, fields, union, single, tagged, states, Parts, no_parts, part, Arms, no_arms, arm, size_of}
-use Rattle.abi_laid.specs.Places.{is_data_place}
-use Rattle.abi_laid.specs.Reading.{Finds, KeepsValues}
-use Rattle.abi_laid.specs.Tag.{Names}
-use Rattle.abi_laid.specs.Tree.{Tree}
-use Rattle.abi_laid.specs.Untagged.{NamesItself, UntaggedNamed, UntaggedNamedOf, UntaggedNamedOfArms}
-use Rattle.abi_laid.specs.Value.{Value, number, two, list, variant, state, bytes, Values, no_values, more_values, value_of}
+use Rattle.abi_tree.specs.declared.laid.Laid.{Laid}
+use Rattle.abi_tree.specs.declared.value.Value.{Value as Kept}
+use Rattle.abi_tree.specs.Bytes.{bytes_at, number_of, picked_bytes, put_if}
+use Rattle.abi_tree.specs.Covering.{are_covered, each_covered, is_arm_covered, is_byte_at, is_covered, is_told}
+use Rattle.abi_tree.specs.Holding.{HoldArm, HoldEach, HoldParts, Holds, IsAt, tag_at}
+use Rattle.abi_tree.specs.Laid.{endian_of, placed_of}
+use Rattle.abi_tree.specs.OfTree.{IsOfTree}
+use Rattle.abi_tree.specs.Placed.{Placed, scalar, pair, never, elements, vector, fields, union, single, tagged, states, Parts, no_parts, part, Arms, no_arms, arm, size_of}
+use Rattle.abi_tree.specs.Places.{is_data_place}
+use Rattle.abi_tree.specs.Reading.{Finds, KeepsValues}
+use Rattle.abi_tree.specs.Tag.{Names}
+use Rattle.abi_tree.specs.Tree.{Tree}
+use Rattle.abi_tree.specs.Untagged.{NamesItself, UntaggedNamed, UntaggedNamedOf, UntaggedNamedOfArms}
+use Rattle.abi_tree.specs.Value.{Value, number, two, list, variant, state, bytes, Values, no_values, more_values, value_of}
 use Rattle.uses.specs.Field.{IsValueFound}
 
 -- the byte lists are equally long, and agree wherever the test takes a byte

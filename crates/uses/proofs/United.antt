@@ -4,12 +4,12 @@ use Rattle.std.specs.Prelude.{All, MatchOption, Ok, Err, if◌then◌else◌, is
 use Rattle.std.specs.Int.{next_multiple_of}
 use Rattle.abi_base.specs.declared.data_layout.TargetDataLayout.{TargetDataLayout}
 use Rattle.abi_scalar.specs.declared.repr.ReprOptions.{ReprOptions}
-use Rattle.abi_lists.specs.Fields.{greatest, greatest_size}
-use Rattle.abi_lists.specs.Placement.{cut}
-use Rattle.abi_lists.specs.Union.{raised_to, union_align, union_size}
-use Rattle.abi_laid.specs.Placed.{Placed, layout_of, size_of}
+use Rattle.abi_univariant.specs.Fields.{greatest, greatest_size}
+use Rattle.abi_univariant.specs.Placement.{cut}
+use Rattle.abi_univariant.specs.Union.{raised_to, union_align, union_size}
+use Rattle.abi_tree.specs.Placed.{Placed, layout_of, size_of}
 use Rattle.abi_scalar.specs.Layout.{Layout}
-use Rattle.abi_laid.specs.Tree.{Tree, Trees, union}
+use Rattle.abi_tree.specs.Tree.{Tree, Trees, union}
 use Rattle.rustc_abi.specs.declared.error.LayError.{LayError}
 use Rattle.rustc_abi.specs.Error.{Follows}
 use Rattle.rustc_abi.specs.Laying.{AreLaying, IsLaying, IsUnited, fields_fault, placed_together}

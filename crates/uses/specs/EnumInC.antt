@@ -6,7 +6,7 @@ use Rattle.abi_base.specs.declared.data_layout.TargetDataLayout.{TargetDataLayou
 use Rattle.abi_base.specs.declared.integer.Integer.{Integer}
 use Rattle.abi_scalar.specs.declared.repr.ReprOptions.{ReprOptions}
 use Rattle.abi_scalar.specs.Repr.{is_c}
-use Rattle.abi_laid.specs.Tree.{Tree, Variants, enum, more_variants, no_trees, no_variants}
+use Rattle.abi_tree.specs.Tree.{Tree, Variants, enum, more_variants, no_trees, no_variants}
 use Rattle.rustc_abi.specs.Enums.{is_negative}
 use Rattle.uses.specs.InC.{IsLeastMultiple}
 

@@ -1,8 +1,8 @@
 -- One of the values of a list, and one of the fields of a struct.
 use Rattle.std.specs.Prelude.{◌≡◌, ℕ, zero, suc, Option, None, Some, MatchOption}
-use Rattle.abi_laid.specs.declared.value.Value.{Value as Kept}
-use Rattle.abi_laid.specs.Placed.{Placed, fields, Parts, no_parts, part}
-use Rattle.abi_laid.specs.Value.{Value, Values, no_values, more_values, value_of}
+use Rattle.abi_tree.specs.declared.value.Value.{Value as Kept}
+use Rattle.abi_tree.specs.Placed.{Placed, fields, Parts, no_parts, part}
+use Rattle.abi_tree.specs.Value.{Value, Values, no_values, more_values, value_of}
 
 -- the value with this index, if there are so many
 abbrev pub value_at : Values → ℕ → Option Value

@@ -1,9 +1,9 @@
 -- Bytes that decide nothing, changed.
 use Rattle.std.specs.Prelude.{ℕ, List, slice_set, if◌then◌else◌}
 use Rattle.abi_base.specs.declared.endian.Endian.{Endian}
-use Rattle.abi_laid.specs.Deciding.{Decide}
-use Rattle.abi_laid.specs.Placed.{Placed}
-use Rattle.abi_laid.specs.Runs.{is_padding_of}
+use Rattle.abi_tree.specs.Deciding.{Decide}
+use Rattle.abi_tree.specs.Placed.{Placed}
+use Rattle.abi_tree.specs.Runs.{is_padding_of}
 
 -- the bytes with this one at the place, where the place is one of the type's padding
 abbrev pub with_padding : Placed → List ℕ → (place byte : ℕ) → List ℕ

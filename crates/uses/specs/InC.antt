@@ -6,10 +6,10 @@ use Rattle.abi_base.specs.declared.data_layout.TargetDataLayout.{TargetDataLayou
 use Rattle.abi_scalar.specs.declared.repr.ReprOptions.{ReprOptions}
 use Rattle.abi_scalar.specs.Repr.{has_fixed_order}
 use Rattle.abi_scalar.specs.Shape.{listed_offsets}
-use Rattle.abi_lists.specs.Placement.{cut}
-use Rattle.abi_lists.specs.Union.{raised_to}
-use Rattle.abi_laid.specs.Placed.{Placed, layout_of, size_of}
-use Rattle.abi_laid.specs.Tree.{Tree, Trees, struct, union}
+use Rattle.abi_univariant.specs.Placement.{cut}
+use Rattle.abi_univariant.specs.Union.{raised_to}
+use Rattle.abi_tree.specs.Placed.{Placed, layout_of, size_of}
+use Rattle.abi_tree.specs.Tree.{Tree, Trees, struct, union}
 use Rattle.rustc_abi.specs.Laying.{IsLaying}
 
 -- the tree is a struct of these fields, under a repr that fixes their order, as `repr(C)` does, and names this pack and this

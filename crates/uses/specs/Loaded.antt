@@ -6,11 +6,11 @@ use Rattle.abi_scalar.specs.declared.backend_repr.BackendRepr.TheVariants.{Scala
 use Rattle.abi_scalar.specs.declared.scalar.Scalar.{Scalar}
 use Rattle.abi_scalar.specs.Scalar.{IsNumberOf, scalar_size}
 use Rattle.abi_base.specs.declared.endian.Endian.{Endian}
-use Rattle.abi_laid.specs.Bytes.{bytes_at, number_of}
-use Rattle.abi_laid.specs.Holding.{tag_at}
-use Rattle.abi_laid.specs.Placed.{Placed, layout_of, single, size_of, tagged}
-use Rattle.abi_laid.specs.Tag.{Names}
-use Rattle.abi_laid.specs.Tree.{Tree}
+use Rattle.abi_tree.specs.Bytes.{bytes_at, number_of}
+use Rattle.abi_tree.specs.Holding.{tag_at}
+use Rattle.abi_tree.specs.Placed.{Placed, layout_of, single, size_of, tagged}
+use Rattle.abi_tree.specs.Tag.{Names}
+use Rattle.abi_tree.specs.Tree.{Tree}
 use Rattle.rustc_abi.specs.Laying.{IsLaying}
 
 -- the tree has a layout, under a lawful data layout

@@ -1,9 +1,9 @@
 -- Bytes that the present variant leaves unused, changed.
 use Rattle.std.specs.Prelude.{ℕ, Bool, List, [], false, get_or, slice_set, if◌then◌else◌}
 use Rattle.abi_index.specs.RangeSet.{is_in_ranges}
-use Rattle.abi_laid.specs.Placed.{Placed}
-use Rattle.abi_laid.specs.Unused.{is_left_unused}
-use Rattle.abi_laid.specs.Value.{Value, state, variant}
+use Rattle.abi_tree.specs.Placed.{Placed}
+use Rattle.abi_tree.specs.Unused.{is_left_unused}
+use Rattle.abi_tree.specs.Value.{Value, state, variant}
 
 -- byte k is one that the value's variant or state leaves unused
 abbrev pub is_spared : Placed → Value → (k : ℕ) → Bool

@@ -6,8 +6,8 @@ mod unions;
 
 ghost use Rattle.std.specs.Prelude.{◌≡◌, IfErr, IfOk, List, None, Ok, Option, map, true, ℕ};
 ghost use Rattle.abi_scalar.specs.Repr.{has_fixed_order, is_c};
-ghost use Rattle.abi_laid.specs.Placed.{Placed};
-ghost use Rattle.abi_laid.specs.Tree.{Tree, Trees, tree_of, trees};
+ghost use Rattle.abi_tree.specs.Placed.{Placed};
+ghost use Rattle.abi_tree.specs.Tree.{Tree, Trees, tree_of, trees};
 ghost use Rattle.rustc_abi.specs.Fault.{IsRefusedFor};
 ghost use Rattle.rustc_abi.specs.Laying.{AreLaying};
 ghost use Rattle.uses.specs.InC.{HasExtent, IsInC, IsLaidOutAs, LieAsInC, least_align};

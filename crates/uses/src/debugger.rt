@@ -5,13 +5,13 @@ mod slices;
 
 ghost use Rattle.std.specs.Prelude.{◌≡◌, IfErr, IfOk, None, slice_get};
 ghost use Rattle.abi_base.specs.declared.data_layout.TargetDataLayout.{TargetDataLayout as Target};
-ghost use Rattle.abi_laid.specs.Holding.{Holds};
-ghost use Rattle.abi_laid.specs.Laid.{endian_of, placed_of};
-ghost use Rattle.abi_laid.specs.OfTree.{IsOfTree};
-ghost use Rattle.abi_laid.specs.Reading.{KeepsValues};
-ghost use Rattle.abi_laid.specs.Tree.{Tree};
-ghost use Rattle.abi_laid.specs.Value.{Values, list, value_of};
-ghost use Rattle.abi_laid.specs.Values.{IsValueOf};
+ghost use Rattle.abi_tree.specs.Holding.{Holds};
+ghost use Rattle.abi_tree.specs.Laid.{endian_of, placed_of};
+ghost use Rattle.abi_tree.specs.OfTree.{IsOfTree};
+ghost use Rattle.abi_tree.specs.Reading.{KeepsValues};
+ghost use Rattle.abi_tree.specs.Tree.{Tree};
+ghost use Rattle.abi_tree.specs.Value.{Values, list, value_of};
+ghost use Rattle.abi_tree.specs.Values.{IsValueOf};
 ghost use Rattle.uses.specs.Field.{IsValueFound, value_at};
 
 pub use parts::{field_of_variant, local_of_state, numbers_of};

@@ -2,9 +2,9 @@
 
 ghost use Rattle.std.specs.Prelude.{IfOk};
 ghost use Rattle.abi_base.specs.declared.data_layout.TargetDataLayout.{TargetDataLayout as Target};
-ghost use Rattle.abi_laid.specs.Tree.{tree_of};
-ghost use Rattle.abi_laid.specs.Values.{LocalsHaveValues};
-ghost use Rattle.abi_laid.specs.OfTree.{IsOfTree};
+ghost use Rattle.abi_tree.specs.Tree.{tree_of};
+ghost use Rattle.abi_tree.specs.Values.{LocalsHaveValues};
+ghost use Rattle.abi_tree.specs.OfTree.{IsOfTree};
 
 use crate::binding_generator::c_offsets;
 use crate::code_generator::load;

@@ -5,13 +5,13 @@ mod unused;
 
 ghost use Rattle.std.specs.Prelude.{◌≡◌, ◌↔◌, ◌&&◌, ◌⊎◌, IfErr, IfOk, IfSome, None, false, true, if◌then◌else◌, slice_set};
 ghost use Rattle.abi_index.specs.RangeSet.{is_in_ranges};
-ghost use Rattle.abi_laid.specs.Deciding.{DifferAt, all_inhabited_of};
-ghost use Rattle.abi_laid.specs.Holding.{Holds};
-ghost use Rattle.abi_laid.specs.Laid.{endian_of, placed_of};
-ghost use Rattle.abi_laid.specs.Places.{is_data_place};
-ghost use Rattle.abi_laid.specs.Reading.{Finds};
-ghost use Rattle.abi_laid.specs.Value.{Value as Meant, value_of};
-ghost use Rattle.abi_laid.specs.OfTree.{IsOfTree};
+ghost use Rattle.abi_tree.specs.Deciding.{DifferAt, all_inhabited_of};
+ghost use Rattle.abi_tree.specs.Holding.{Holds};
+ghost use Rattle.abi_tree.specs.Laid.{endian_of, placed_of};
+ghost use Rattle.abi_tree.specs.Places.{is_data_place};
+ghost use Rattle.abi_tree.specs.Reading.{Finds};
+ghost use Rattle.abi_tree.specs.Value.{Value as Meant, value_of};
+ghost use Rattle.abi_tree.specs.OfTree.{IsOfTree};
 ghost use Rattle.uses.specs.Ignored.{DecidesNothing, with_padding};
 
 use rustc_abi::{Laid, RangeSet, Value, read_value};

@@ -1,7 +1,7 @@
 //! Parts of bytes.
 
 ghost use Rattle.std.specs.Prelude.{◌≡◌, ◌+◌, ◌≤◌, MatchOption, length};
-ghost use Rattle.abi_laid.specs.Bytes.{bytes_at};
+ghost use Rattle.abi_tree.specs.Bytes.{bytes_at};
 
 /// The `size` bytes from the offset on; `None` where there are fewer.
 pub(crate) fn bytes_from(bytes: &[u8], offset: u64, size: u64) -> Option<&[u8]>

@@ -17,8 +17,8 @@ use Rattle.abi_index.specs.Relation.{Relation, column_count, is_entry, row_count
 use Rattle.abi_scalar.specs.declared.layout_data.LayoutData.{LayoutData}
 use Rattle.abi_scalar.specs.declared.variants.VariantLayout.{VariantLayout}
 use Rattle.abi_scalar.specs.Shape.{listed_offsets}
-use Rattle.abi_lists.specs.Apart.{AreApart}
-use Rattle.abi_lists.proofs.Offsets.Rounding.{rounded_to}
+use Rattle.abi_univariant.specs.Apart.{AreApart}
+use Rattle.abi_univariant.proofs.Offsets.Rounding.{rounded_to}
 use Rattle.abi_calc.specs.Coroutine.Clash.{AreClashingApart, DoClash, HasLocalAt, HaveOneOffset}
 use Rattle.abi_calc.specs.Coroutine.Lists.{behind, default_repr, first_list, own_list, own_of, picked}
 use Rattle.abi_calc.specs.Coroutine.Promotion.{holder_of, promoted_of}

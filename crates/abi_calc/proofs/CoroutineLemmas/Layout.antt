@@ -14,9 +14,9 @@ use Rattle.abi_scalar.specs.declared.layout_data.LayoutData.{LayoutData}
 use Rattle.abi_scalar.specs.declared.variants.VariantLayout.{VariantLayout}
 use Rattle.abi_scalar.specs.Lawful.{IsLawfulLayout}
 use Rattle.abi_scalar.specs.Shape.{listed_order}
-use Rattle.abi_lists.specs.Fields.{greatest_align, greatest_size}
-use Rattle.abi_lists.specs.Placement.{source_order}
-use Rattle.abi_lists.proofs.Sorted.Sorting.{within_order}
+use Rattle.abi_univariant.specs.Fields.{greatest_align, greatest_size}
+use Rattle.abi_univariant.specs.Placement.{source_order}
+use Rattle.abi_univariant.proofs.Sorted.Sorting.{within_order}
 use Rattle.abi_calc.specs.Coroutine.Layout.{whole_align}
 use Rattle.abi_calc.specs.Coroutine.States.{HasFields, ranks_of, state_layout, state_layouts}
 use Rattle.abi_calc.proofs.AtIndex.{left_at}

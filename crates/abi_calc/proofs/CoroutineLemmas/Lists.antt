@@ -14,7 +14,7 @@ use Rattle.abi_scalar.specs.declared.error.LayoutCalculatorError.TheVariants.{Ou
 use Rattle.abi_scalar.specs.declared.layout_data.LayoutData.{LayoutData}
 use Rattle.abi_scalar.specs.declared.repr.ReprOptions.{ReprOptions}
 use Rattle.abi_index.specs.BitSet.{is_member}
-use Rattle.abi_lists.specs.List.{IsListError}
+use Rattle.abi_univariant.specs.List.{IsListError}
 use Rattle.abi_calc.specs.Coroutine.Lists.{default_repr, own_list, own_of, picked}
 use Rattle.abi_calc.specs.Coroutine.Sizes.{own_lists}
 use Rattle.abi_calc.specs.Enums.Lists.{AreGoodLists, IsFirstListError, IsGoodList}

@@ -30,13 +30,13 @@ use Rattle.abi_scalar.specs.declared.scalar.Scalar.{Scalar}
 use Rattle.abi_scalar.specs.Order.{HasOrder, IsAscending}
 use Rattle.abi_scalar.specs.Shape.{IsListed, listed_offsets, listed_order}
 use Rattle.abi_scalar.specs.Variant.{IsOrderedVariant}
-use Rattle.abi_lists.specs.Apart.{AreApart}
-use Rattle.abi_lists.specs.List.{IsListAnswer}
-use Rattle.abi_lists.specs.Placement.{IsNonEmptyIfUnsized, list_repr, source_order, start_of}
-use Rattle.abi_lists.proofs.Sorted.Least.{allowed_permutes}
-use Rattle.abi_lists.proofs.Promised.LeastLemmas.{keeps_apart, lies_after, lies_in_order}
-use Rattle.abi_lists.proofs.Offsets.Rounding.{rounded_to}
-use Rattle.abi_lists.proofs.Sorted.Sorting.{within_order}
+use Rattle.abi_univariant.specs.Apart.{AreApart}
+use Rattle.abi_univariant.specs.List.{IsListAnswer}
+use Rattle.abi_univariant.specs.Placement.{IsNonEmptyIfUnsized, list_repr, source_order, start_of}
+use Rattle.abi_univariant.proofs.Sorted.Least.{allowed_permutes}
+use Rattle.abi_univariant.proofs.Promised.LeastLemmas.{keeps_apart, lies_after, lies_in_order}
+use Rattle.abi_univariant.proofs.Offsets.Rounding.{rounded_to}
+use Rattle.abi_univariant.proofs.Sorted.Sorting.{within_order}
 use Rattle.abi_calc.specs.Coroutine.Answer.{IsCoroutineAnswer}
 use Rattle.abi_calc.specs.Coroutine.Lists.{AreOwnLists, behind, default_repr, first_list, own_list, own_of}
 use Rattle.abi_calc.specs.Coroutine.Promotion.{promoted_of}

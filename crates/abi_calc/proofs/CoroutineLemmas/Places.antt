@@ -4,7 +4,7 @@ use Rattle.std.specs.Prelude.{Some, if◌then◌else◌, slice_get, slice_index}
 use Rattle.std.proofs.lemmas.List.Elements.{All-head, All-tail}
 use Rattle.std.proofs.lemmas.Option.{get_or_from_slice_get, same_Some, slice_get-get_or, slice_get_within}
 use Rattle.abi_index.specs.BitSet.{is_member, members_of}
-use Rattle.abi_lists.specs.Apart.{AreApart, IsBeside}
+use Rattle.abi_univariant.specs.Apart.{AreApart, IsBeside}
 use Rattle.abi_calc.specs.Coroutine.Lists.{own_of, picked}
 use Rattle.abi_calc.specs.Coroutine.States.{rank_of, state_offsets}
 use Rattle.abi_calc.proofs.CoroutineLemmas.States.{members_below, rank_member}

@@ -22,16 +22,16 @@ use Rattle.abi_scalar.specs.Lawful.{IsLawfulLayout}
 use Rattle.abi_scalar.specs.Scalar.{IsLawfulScalar}
 use Rattle.abi_scalar.specs.Simple.{scalar_layout}
 use Rattle.abi_index.specs.BitSet.{is_member, members_of}
-use Rattle.abi_lists.specs.Answer.{IsAnswer}
-use Rattle.abi_lists.specs.Fields.{greatest, greatest_size}
-use Rattle.abi_lists.specs.Least.{IsEachOrderTooLarge, align_by}
-use Rattle.abi_lists.specs.List.{AreSized, IsListError}
-use Rattle.abi_lists.specs.Part.{is_unsized}
-use Rattle.abi_lists.specs.Placement.{list_repr, source_order}
-use Rattle.abi_lists.proofs.Sorted.Least.{allowed_permutes}
-use Rattle.abi_lists.proofs.Sorted.Sorting.{within_order}
-use Rattle.abi_lists.proofs.Promised.LeastLemmas.{large_in_each, sized_error}
-use Rattle.abi_lists.proofs.Offsets.Rounding.{rounded_to}
+use Rattle.abi_univariant.specs.Answer.{IsAnswer}
+use Rattle.abi_univariant.specs.Fields.{greatest, greatest_size}
+use Rattle.abi_univariant.specs.Least.{IsEachOrderTooLarge, align_by}
+use Rattle.abi_univariant.specs.List.{AreSized, IsListError}
+use Rattle.abi_univariant.specs.Part.{is_unsized}
+use Rattle.abi_univariant.specs.Placement.{list_repr, source_order}
+use Rattle.abi_univariant.proofs.Sorted.Least.{allowed_permutes}
+use Rattle.abi_univariant.proofs.Sorted.Sorting.{within_order}
+use Rattle.abi_univariant.proofs.Promised.LeastLemmas.{large_in_each, sized_error}
+use Rattle.abi_univariant.proofs.Offsets.Rounding.{rounded_to}
 use Rattle.abi_calc.specs.Coroutine.Answer.{IsPromotedAnswer}
 use Rattle.abi_calc.specs.Coroutine.Layout.{IsStateTag, coroutine_layout, whole_align, whole_size}
 use Rattle.abi_calc.specs.Coroutine.Lists.{AreOwnLists, IsFirstOwnError, behind, default_repr, first_list, own_list, own_of, picked}

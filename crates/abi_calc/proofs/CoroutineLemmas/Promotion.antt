@@ -9,7 +9,7 @@ use Rattle.std.proofs.lemmas.List.FromFn.{get_or-map-range_with_len, length-map-
 use Rattle.abi_index.specs.Ascending.{has_number}
 use Rattle.abi_index.specs.BitSet.{is_member, members_of}
 use Rattle.abi_index.specs.Relation.{Relation, column_count, columns_of, is_entry, row_count}
-use Rattle.abi_lists.specs.Placement.{source_order}
+use Rattle.abi_univariant.specs.Placement.{source_order}
 use Rattle.abi_calc.specs.Coroutine.Promotion.{after_conflict, after_row, after_rows, are_settled, given_up, held_by_several, holder_count, holder_of, promote, promoted_of, used_count}
 use Rattle.abi_calc.specs.Coroutine.Sizes.{MayOverlap}
 use Rattle.abi_calc.specs.Enums.Path.{variant_at}

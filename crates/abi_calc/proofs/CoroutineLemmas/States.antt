@@ -15,7 +15,7 @@ use Rattle.std.proofs.lemmas.List.Kept.{AllPairs-cons, AllPairs-filter}
 use Rattle.std.proofs.lemmas.List.FromFn.{fill_by_all, get_or-map-range_with_len, get_or-range_with_len, length-map-range_with_len, length-range_with_len}
 use Rattle.std.proofs.lemmas.List.Sorted.{length_permutation}
 use Rattle.abi_index.specs.BitSet.{is_member, members_of}
-use Rattle.abi_lists.specs.Placement.{source_order}
+use Rattle.abi_univariant.specs.Placement.{source_order}
 use Rattle.abi_calc.specs.Coroutine.Lists.{own_of}
 use Rattle.abi_calc.specs.Coroutine.States.{joined_places, own_places, places_with, rank_of, state_offsets, state_order}
 use Rattle.abi_calc.proofs.CoroutineLemmas.Lists.{kept_more, own_next}

@@ -9,7 +9,7 @@ use Rattle.std.proofs.lemmas.List.Filters.{length-filter_more}
 use Rattle.std.proofs.lemmas.List.FromFn.{fill_by_all, get_or-map-range_with_len, get_or-range_with_len, length-map-range_with_len, length-range_with_len}
 use Rattle.abi_index.specs.BitSet.{is_member}
 use Rattle.abi_index.specs.Relation.{Relation, column_count, columns_of, is_entry}
-use Rattle.abi_lists.specs.Placement.{source_order}
+use Rattle.abi_univariant.specs.Placement.{source_order}
 use Rattle.abi_calc.specs.Coroutine.Promotion.{holder_of, holders_of, promote, used_count}
 use Rattle.abi_calc.proofs.CoroutineLemmas.Holders.{numbers_there}
 

@@ -5,7 +5,7 @@ use Rattle.std.specs.List.{AllPairs, cons_option}
 use Rattle.std.proofs.lemmas.List.{append-nil, get_or-map, length-map}
 use Rattle.std.proofs.lemmas.List.Elements.{All-head, All-tail}
 use Rattle.abi_index.specs.BitSet.{is_member, members_of}
-use Rattle.abi_lists.specs.Apart.{AreApart, IsBeside}
+use Rattle.abi_univariant.specs.Apart.{AreApart, IsBeside}
 use Rattle.abi_calc.specs.Coroutine.Lists.{own_of, picked}
 use Rattle.abi_calc.specs.Coroutine.States.{rank_of, state_offsets}
 use Rattle.abi_calc.proofs.CoroutineLemmas.Places.{AreTwoApart, apart_count, apart_inside, apart_two, beside_at, two_swap}

@@ -23,11 +23,11 @@ use Rattle.abi_scalar.specs.Scalar.{scalar_size}
 use Rattle.abi_scalar.specs.Shape.{listed_offsets}
 use Rattle.abi_scalar.specs.Variant.{variant_of}
 use Rattle.abi_scalar.proofs.ReserveLemmas.{reserved_hands_out}
-use Rattle.abi_lists.specs.Apart.{AreApart, IsBeside}
-use Rattle.abi_lists.specs.Fields.{greatest_size}
-use Rattle.abi_lists.specs.ListNiche.{IsNicheOfPart}
-use Rattle.abi_lists.specs.Placement.{source_order}
-use Rattle.abi_lists.proofs.Offsets.Rounding.{rounded_to}
+use Rattle.abi_univariant.specs.Apart.{AreApart, IsBeside}
+use Rattle.abi_univariant.specs.Fields.{greatest_size}
+use Rattle.abi_univariant.specs.ListNiche.{IsNicheOfPart}
+use Rattle.abi_univariant.specs.Placement.{source_order}
+use Rattle.abi_univariant.proofs.Offsets.Rounding.{rounded_to}
 use Rattle.abi_calc.specs.declared.enums.niche.Room.{Room}
 use Rattle.abi_calc.specs.Enums.Beside.{AreApartBeside, AreNumbersInNiche, HasTagAt, IsToldByNiche}
 use Rattle.abi_calc.specs.Enums.Lists.{AreGoodLists, IsGoodList}

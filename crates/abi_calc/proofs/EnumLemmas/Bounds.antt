@@ -25,13 +25,13 @@ use Rattle.abi_scalar.specs.Lawful.{IsLawfulLayout}
 use Rattle.abi_scalar.specs.Niche.{niche_at}
 use Rattle.abi_scalar.specs.Range.{free_count, numbers_of}
 use Rattle.abi_scalar.specs.Repr.{is_c}
-use Rattle.abi_lists.specs.Fields.{greatest, greatest_size}
-use Rattle.abi_lists.specs.Least.{IsEachOrderTooLarge, align_by, size_by}
-use Rattle.abi_lists.specs.List.{AreSized, HasLawfulAligns}
-use Rattle.abi_lists.specs.Part.{free_numbers, parts_of}
-use Rattle.abi_lists.specs.Placement.{list_repr}
-use Rattle.abi_lists.proofs.Offsets.Rounding.{round_below, round_multiple, rounded_to}
-use Rattle.abi_lists.proofs.Sorted.Prefixes.{round_lower}
+use Rattle.abi_univariant.specs.Fields.{greatest, greatest_size}
+use Rattle.abi_univariant.specs.Least.{IsEachOrderTooLarge, align_by, size_by}
+use Rattle.abi_univariant.specs.List.{AreSized, HasLawfulAligns}
+use Rattle.abi_univariant.specs.Part.{free_numbers, parts_of}
+use Rattle.abi_univariant.specs.Placement.{list_repr}
+use Rattle.abi_univariant.proofs.Offsets.Rounding.{round_below, round_multiple, rounded_to}
+use Rattle.abi_univariant.proofs.Sorted.Prefixes.{round_lower}
 use Rattle.abi_calc.specs.Enums.Discriminants.{IsTagRange}
 use Rattle.abi_calc.specs.Enums.Sizes.{IsTaggedSize}
 use Rattle.abi_calc.specs.Enums.Bounds.{fits_behind, least_left, most_tag, outdoes, room_of_tag, wins}

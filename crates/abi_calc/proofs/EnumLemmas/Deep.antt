@@ -29,9 +29,9 @@ use Rattle.abi_scalar.specs.Lawful.{IsLawfulLayout}
 use Rattle.abi_scalar.specs.Pair.{second_offset}
 use Rattle.abi_scalar.specs.Reserve.{reserved}
 use Rattle.abi_scalar.specs.Scalar.{primitive_of, scalar_size}
-use Rattle.abi_lists.specs.Answer.{IsAnswer}
-use Rattle.abi_lists.specs.List.{AreSized, HasLawfulAligns}
-use Rattle.abi_lists.specs.Part.{is_unsized}
+use Rattle.abi_univariant.specs.Answer.{IsAnswer}
+use Rattle.abi_univariant.specs.List.{AreSized, HasLawfulAligns}
+use Rattle.abi_univariant.specs.Part.{is_unsized}
 use Rattle.abi_calc.specs.declared.enums.payload.Payload.{Payload}
 use Rattle.abi_calc.specs.declared.enums.payload.Payload.TheVariants.{Nothing, One, Other}
 use Rattle.abi_calc.specs.Enums.Answer.{HasOneEach}

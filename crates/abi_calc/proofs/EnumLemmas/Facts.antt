@@ -20,9 +20,9 @@ use Rattle.abi_scalar.specs.declared.scalar.Scalar.{Scalar}
 use Rattle.abi_scalar.specs.declared.scalar.Scalar.TheVariants.{Initialized, Union}
 use Rattle.abi_scalar.specs.declared.variants.Variants.TheVariants.{Single}
 use Rattle.abi_scalar.proofs.LeastLemmas.{IsBestSoFar, best_first, best_taken, least_from_best}
-use Rattle.abi_lists.specs.Least.{IsLeastSize, size_by}
-use Rattle.abi_lists.specs.Placement.{source_order}
-use Rattle.abi_lists.proofs.Sorted.Sorting.{within_order}
+use Rattle.abi_univariant.specs.Least.{IsLeastSize, size_by}
+use Rattle.abi_univariant.specs.Placement.{source_order}
+use Rattle.abi_univariant.proofs.Sorted.Sorting.{within_order}
 use Rattle.abi_calc.specs.declared.enums.path.Path.TheVariants.{NoValue, OneList, Several}
 use Rattle.abi_calc.specs.declared.enums.payload.Payload.TheVariants.{Nothing, One, Other}
 use Rattle.abi_calc.specs.Enums.Discriminants.{IsAskedWith, IsTagRange, counting_of, meant_by}

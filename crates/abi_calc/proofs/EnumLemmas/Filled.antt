@@ -24,8 +24,8 @@ use Rattle.abi_scalar.specs.Pair.{pair_align, pair_size, second_offset}
 use Rattle.abi_scalar.specs.Scalar.{primitive_of, scalar_size}
 use Rattle.abi_scalar.specs.Shape.{listed_offsets}
 use Rattle.abi_scalar.specs.Variant.{variant_of, variants_of}
-use Rattle.abi_lists.specs.Part.{is_empty_view}
-use Rattle.abi_lists.proofs.Views.LawfulList.{by_test}
+use Rattle.abi_univariant.specs.Part.{is_empty_view}
+use Rattle.abi_univariant.proofs.Views.LawfulList.{by_test}
 use Rattle.abi_calc.specs.declared.enums.payload.Payload.{Payload}
 use Rattle.abi_calc.specs.declared.enums.payload.Payload.TheVariants.{Nothing, One, Other}
 use Rattle.abi_calc.specs.Enums.Filled.{EachHasNumberAt, HasNumberAt, IsFilled, IsNumber}

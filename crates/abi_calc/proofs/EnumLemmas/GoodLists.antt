@@ -13,16 +13,16 @@ use Rattle.abi_scalar.specs.declared.layout_data.LayoutData.{LayoutData}
 use Rattle.abi_scalar.specs.declared.repr.ReprOptions.{ReprOptions}
 use Rattle.abi_scalar.specs.Lawful.{IsLawfulLayout}
 use Rattle.abi_scalar.specs.Repr.{is_abi_fixed, is_c}
-use Rattle.abi_lists.specs.List.{HasLawfulAligns, IsListAnswer}
-use Rattle.abi_lists.specs.Part.{parts_of}
-use Rattle.abi_lists.specs.Placement.{IsLawfulPrefix, IsNonEmptyIfUnsized, IsSized, align_of, end_from, in_order, list_repr, size_in, start_of}
-use Rattle.abi_lists.proofs.Promised.DeepLemmas.{biased_index, biased_inside}
-use Rattle.abi_lists.proofs.Placed.FaultLemmas.{clear_of}
-use Rattle.abi_lists.proofs.Views.LawfulList.{made_lawful}
-use Rattle.abi_lists.proofs.Sorted.Least.{align_small}
-use Rattle.abi_lists.proofs.Promised.LeastLemmas.{has_greatest_niche, has_least, has_own_niche, has_places, keeps_apart, lies_after, lies_in_order}
-use Rattle.abi_lists.proofs.Layouts.ListLemmas.{length-parts, parts_lawful, repr_lawful}
-use Rattle.abi_lists.proofs.Placed.RunLemmas.{aligned_parts, biased_of}
+use Rattle.abi_univariant.specs.List.{HasLawfulAligns, IsListAnswer}
+use Rattle.abi_univariant.specs.Part.{parts_of}
+use Rattle.abi_univariant.specs.Placement.{IsLawfulPrefix, IsNonEmptyIfUnsized, IsSized, align_of, end_from, in_order, list_repr, size_in, start_of}
+use Rattle.abi_univariant.proofs.Promised.DeepLemmas.{biased_index, biased_inside}
+use Rattle.abi_univariant.proofs.Placed.FaultLemmas.{clear_of}
+use Rattle.abi_univariant.proofs.Views.LawfulList.{made_lawful}
+use Rattle.abi_univariant.proofs.Sorted.Least.{align_small}
+use Rattle.abi_univariant.proofs.Promised.LeastLemmas.{has_greatest_niche, has_least, has_own_niche, has_places, keeps_apart, lies_after, lies_in_order}
+use Rattle.abi_univariant.proofs.Layouts.ListLemmas.{length-parts, parts_lawful, repr_lawful}
+use Rattle.abi_univariant.proofs.Placed.RunLemmas.{aligned_parts, biased_of}
 use Rattle.abi_calc.specs.Enums.Lists.{AreGoodLists, AreListLayouts, IsGoodList, align_with_all, behind_tag}
 use Rattle.abi_calc.proofs.EnumLemmas.Lists.{align_small_all, good_of, integer_below, integer_small}
 use Rattle.abi_calc.proofs.EnumLemmas.Sizes.{tail_of_sized}

@@ -11,7 +11,7 @@ use Rattle.abi_base.specs.Integer.{integer_align, integer_size, integers, is_of_
 use Rattle.abi_scalar.specs.declared.layout_data.LayoutData.{LayoutData}
 use Rattle.abi_scalar.specs.declared.repr.ReprOptions.{ReprOptions}
 use Rattle.abi_scalar.specs.Order.{indices_by_offset}
-use Rattle.abi_lists.specs.Part.{max_align}
+use Rattle.abi_univariant.specs.Part.{max_align}
 use Rattle.abi_calc.proofs.AtIndex.{left_at}
 use Rattle.abi_calc.specs.Enums.Growth.{first_align, grown_tag, larger_integer, start_align}
 use Rattle.abi_calc.specs.Enums.Lists.{AreListsOf, ListsFields}

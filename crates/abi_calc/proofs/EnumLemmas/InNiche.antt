@@ -23,10 +23,10 @@ use Rattle.abi_scalar.specs.Range.{AreWithin}
 use Rattle.abi_scalar.specs.Reserve.{moves_start, reserved}
 use Rattle.abi_scalar.specs.Scalar.{IsLawfulScalar, primitive_of, range_of}
 use Rattle.abi_scalar.specs.Shape.{listed_offsets}
-use Rattle.abi_lists.specs.Apart.{AreApart}
-use Rattle.abi_lists.specs.Placement.{source_order}
-use Rattle.abi_lists.proofs.Views.Lawful.{bound_small}
-use Rattle.abi_lists.proofs.Sorted.Sorting.{within_order}
+use Rattle.abi_univariant.specs.Apart.{AreApart}
+use Rattle.abi_univariant.specs.Placement.{source_order}
+use Rattle.abi_univariant.proofs.Views.Lawful.{bound_small}
+use Rattle.abi_univariant.proofs.Sorted.Sorting.{within_order}
 use Rattle.abi_calc.specs.Enums.Path.{is_absent, variant_at}
 use Rattle.abi_calc.specs.Enums.Lists.{AreGoodLists, IsGoodList}
 use Rattle.abi_calc.specs.Enums.Niche.{IsSmallList, if_list, if_niche, if_placed, if_span, last_greatest, last_or, needing_numbers, niche_layout, niche_of_list, room_beside, span_count, span_of, untagged_of, variants_from}

@@ -12,23 +12,23 @@ use Rattle.abi_scalar.specs.declared.error.LayoutCalculatorError.TheVariants.{Ou
 use Rattle.abi_scalar.specs.declared.layout_data.LayoutData.{LayoutData}
 use Rattle.abi_scalar.specs.declared.repr.ReprOptions.{ReprOptions}
 use Rattle.abi_scalar.specs.Lawful.{IsLawfulLayout}
-use Rattle.abi_lists.specs.declared.list_repr.ListRepr.{ListRepr}
-use Rattle.abi_lists.specs.declared.order.NicheBias.TheVariants.{Start}
-use Rattle.abi_lists.specs.declared.part.Part.{Part}
-use Rattle.abi_lists.specs.declared.placing.ListFault.{ListFault}
-use Rattle.abi_lists.specs.declared.placing.ListFault.TheVariants.{Unsized, TooLarge, OutOfMemory}
-use Rattle.abi_lists.specs.Fault.{IsErrorOf, fault_in, is_maybe_unsized}
-use Rattle.abi_lists.specs.Fields.{greatest}
-use Rattle.abi_lists.specs.Least.{IsEachOrderTooLarge, IsLeastSize, align_by, size_by}
-use Rattle.abi_lists.specs.List.{AreSized, IsListError}
-use Rattle.abi_lists.specs.Order.{IsNamedOrder}
-use Rattle.abi_lists.specs.Part.{is_unsized, parts_of}
-use Rattle.abi_lists.specs.Placement.{IsNonEmptyIfUnsized, in_order, list_repr, no_part, source_order, start_of}
-use Rattle.abi_lists.proofs.Placed.FaultLemmas.{IsSizedAt, clear_of, memory_in, sized_of_faultless}
-use Rattle.abi_lists.proofs.Sorted.Least.{allowed_permutes, named_allowed}
-use Rattle.abi_lists.proofs.Promised.LeastLemmas.{large_in_each, sized_error}
-use Rattle.abi_lists.proofs.Sorted.Prefixes.{align_of-grows, round_lower, size_by-prefixed}
-use Rattle.abi_lists.proofs.Sorted.Sorting.{in_order-permutation}
+use Rattle.abi_univariant.specs.declared.list_repr.ListRepr.{ListRepr}
+use Rattle.abi_univariant.specs.declared.order.NicheBias.TheVariants.{Start}
+use Rattle.abi_univariant.specs.declared.part.Part.{Part}
+use Rattle.abi_univariant.specs.declared.placing.ListFault.{ListFault}
+use Rattle.abi_univariant.specs.declared.placing.ListFault.TheVariants.{Unsized, TooLarge, OutOfMemory}
+use Rattle.abi_univariant.specs.Fault.{IsErrorOf, fault_in, is_maybe_unsized}
+use Rattle.abi_univariant.specs.Fields.{greatest}
+use Rattle.abi_univariant.specs.Least.{IsEachOrderTooLarge, IsLeastSize, align_by, size_by}
+use Rattle.abi_univariant.specs.List.{AreSized, IsListError}
+use Rattle.abi_univariant.specs.Order.{IsNamedOrder}
+use Rattle.abi_univariant.specs.Part.{is_unsized, parts_of}
+use Rattle.abi_univariant.specs.Placement.{IsNonEmptyIfUnsized, in_order, list_repr, no_part, source_order, start_of}
+use Rattle.abi_univariant.proofs.Placed.FaultLemmas.{IsSizedAt, clear_of, memory_in, sized_of_faultless}
+use Rattle.abi_univariant.proofs.Sorted.Least.{allowed_permutes, named_allowed}
+use Rattle.abi_univariant.proofs.Promised.LeastLemmas.{large_in_each, sized_error}
+use Rattle.abi_univariant.proofs.Sorted.Prefixes.{align_of-grows, round_lower, size_by-prefixed}
+use Rattle.abi_univariant.proofs.Sorted.Sorting.{in_order-permutation}
 use Rattle.abi_calc.specs.Enums.Lists.{AreGoodLists, IsFirstListError, IsGoodList}
 use Rattle.abi_calc.specs.Enums.Sizes.{AreLeastSizes, IsTaggedSize}
 

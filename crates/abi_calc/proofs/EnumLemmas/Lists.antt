@@ -19,12 +19,12 @@ use Rattle.abi_scalar.specs.declared.fields_shape.FieldsShape.TheVariants.{Arbit
 use Rattle.abi_scalar.specs.Lawful.{IsLawfulLayout}
 use Rattle.abi_scalar.specs.Order.{HasPlaceForEach}
 use Rattle.abi_scalar.specs.Shape.{IsListed, listed_offsets}
-use Rattle.abi_lists.specs.Apart.{AreApart}
-use Rattle.abi_lists.specs.ListNiche.{HasLargestNiche, IsNicheOfPart}
-use Rattle.abi_lists.specs.Least.{IsLeastSize, LiesInSomeOrder}
-use Rattle.abi_lists.specs.Placement.{start_of}
-use Rattle.abi_lists.specs.List.{IsListAnswer, IsListError}
-use Rattle.abi_lists.specs.Fields.{greatest_align}
+use Rattle.abi_univariant.specs.Apart.{AreApart}
+use Rattle.abi_univariant.specs.ListNiche.{HasLargestNiche, IsNicheOfPart}
+use Rattle.abi_univariant.specs.Least.{IsLeastSize, LiesInSomeOrder}
+use Rattle.abi_univariant.specs.Placement.{start_of}
+use Rattle.abi_univariant.specs.List.{IsListAnswer, IsListError}
+use Rattle.abi_univariant.specs.Fields.{greatest_align}
 use Rattle.abi_calc.specs.Enums.Lists.{AreGoodLists, AreListLayouts, AreListsOf, IsFirstListError, IsGoodList, align_with_all}
 
 large_bound_at : (bytes : ℕ) → IsPointerWidth bytes → 16 < bound_of_pointer bytes

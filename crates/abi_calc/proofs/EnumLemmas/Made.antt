@@ -30,8 +30,8 @@ use Rattle.abi_scalar.specs.Niche.{niche_size}
 use Rattle.abi_scalar.specs.Reserve.{reserved}
 use Rattle.abi_scalar.specs.Shape.{listed_offsets}
 use Rattle.abi_scalar.specs.Variant.{variant_of, variants_of}
-use Rattle.abi_lists.specs.List.{HasLawfulAligns}
-use Rattle.abi_lists.specs.Part.{is_unsized}
+use Rattle.abi_univariant.specs.List.{HasLawfulAligns}
+use Rattle.abi_univariant.specs.Part.{is_unsized}
 use Rattle.abi_calc.specs.declared.enums.niche.Room.{Room}
 use Rattle.abi_calc.specs.Enums.Choice.{IsNicheAnswer, better, takes_niche}
 use Rattle.abi_calc.specs.Enums.Discriminants.{counting_of}

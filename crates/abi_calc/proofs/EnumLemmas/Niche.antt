@@ -9,8 +9,8 @@ use Rattle.abi_scalar.specs.declared.layout_data.LayoutData.{LayoutData}
 use Rattle.abi_scalar.specs.declared.variants.VariantLayout.{VariantLayout}
 use Rattle.abi_scalar.specs.Variant.{variant_of}
 use Rattle.abi_calc.specs.declared.enums.niche.Room.{Room}
-use Rattle.abi_lists.specs.Placement.{source_order}
-use Rattle.abi_lists.proofs.Views.ViewLemmas.{bulky_else, bulky_then}
+use Rattle.abi_univariant.specs.Placement.{source_order}
+use Rattle.abi_univariant.proofs.Views.ViewLemmas.{bulky_else, bulky_then}
 use Rattle.abi_calc.specs.Enums.Niche.{beside_niche, last_greatest, last_or, needing_numbers, others_empty, span_of, variants_from, with_first}
 use Rattle.abi_calc.specs.Enums.Path.{is_absent, variant_at}
 use Rattle.abi_calc.proofs.AtIndex.{left_at}

@@ -22,10 +22,10 @@ use Rattle.abi_scalar.specs.Reserve.{reserved}
 use Rattle.abi_scalar.specs.Scalar.{IsLawfulScalar, primitive_of, scalar_size}
 use Rattle.abi_scalar.proofs.RangeLemmas.{free_after}
 use Rattle.abi_scalar.proofs.ReserveLemmas.{reserved_hands_out}
-use Rattle.abi_lists.specs.Fields.{greatest_size}
-use Rattle.abi_lists.proofs.Views.LawfulList.{by_test}
-use Rattle.abi_lists.proofs.Views.NicheLemmas.{readable_size}
-use Rattle.abi_lists.proofs.Offsets.Rounding.{rounded_to}
+use Rattle.abi_univariant.specs.Fields.{greatest_size}
+use Rattle.abi_univariant.proofs.Views.LawfulList.{by_test}
+use Rattle.abi_univariant.proofs.Views.NicheLemmas.{readable_size}
+use Rattle.abi_univariant.proofs.Offsets.Rounding.{rounded_to}
 use Rattle.abi_calc.specs.Enums.Beside.{HasTagAt}
 use Rattle.abi_calc.specs.Enums.Niche.{if_list, if_niche, if_placed, if_span, layout_in_niche, needing_numbers, niche_layout, niche_view, others_empty, room_beside, span_count, span_of, untagged_of, variants_from, view_with}
 use Rattle.abi_calc.specs.Enums.Tagged.{lists_align, lists_size}

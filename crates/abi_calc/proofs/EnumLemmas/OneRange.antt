@@ -17,7 +17,7 @@ use Rattle.abi_scalar.specs.LeastRange.{IsLeastRange, IsNoWorse, IsPreferred, Is
 use Rattle.abi_scalar.proofs.CountLemmas.{range_counted}
 use Rattle.abi_scalar.proofs.LeastLemmas.{IsBestSoFar, best_first, best_kept, best_taken, least_from_best, least_in_order}
 use Rattle.abi_scalar.proofs.RangeLemmas.{between_from_in, in_from_between, steps_are}
-use Rattle.abi_lists.proofs.Layouts.SomeOrder.{some_sorted_list}
+use Rattle.abi_univariant.proofs.Layouts.SomeOrder.{some_sorted_list}
 use Rattle.abi_calc.specs.Enums.Discriminants.{IsTagRange}
 use Rattle.abi_calc.proofs.EnumLemmas.Discriminants.{cut_within}
 

@@ -13,10 +13,10 @@ use Rattle.abi_scalar.specs.declared.layout_data.LayoutData.{LayoutData}
 use Rattle.abi_scalar.specs.declared.repr.ReprOptions.{ReprOptions}
 use Rattle.abi_scalar.specs.Order.{indices_by_offset}
 use Rattle.abi_scalar.specs.Shape.{listed_offsets}
-use Rattle.abi_lists.specs.Least.{IsOrderOf}
-use Rattle.abi_lists.specs.Part.{max_align}
-use Rattle.abi_lists.specs.Placement.{list_repr}
-use Rattle.abi_lists.proofs.Sorted.Least.{allowed_permutes}
+use Rattle.abi_univariant.specs.Least.{IsOrderOf}
+use Rattle.abi_univariant.specs.Part.{max_align}
+use Rattle.abi_univariant.specs.Placement.{list_repr}
+use Rattle.abi_univariant.proofs.Sorted.Least.{allowed_permutes}
 use Rattle.abi_calc.specs.Enums.Bounds.{least_only, most_tag, only_align}
 use Rattle.abi_calc.specs.Enums.Growth.{align_or, first_align, grown_tag, start_align}
 use Rattle.abi_calc.specs.Enums.Lists.{AreGoodLists, IsGoodList}

@@ -20,16 +20,16 @@ use Rattle.abi_scalar.specs.declared.variants.VariantLayout.{VariantLayout}
 use Rattle.abi_scalar.specs.Order.{HasOrder, HasPlaceForEach, IsAscending}
 use Rattle.abi_scalar.specs.Shape.{listed_offsets, listed_order}
 use Rattle.abi_scalar.specs.Variant.{IsOrderedVariant, variant_of}
-use Rattle.abi_lists.specs.declared.part.Part.{Part}
-use Rattle.abi_lists.specs.Apart.{AreAligned}
-use Rattle.abi_lists.specs.List.{IsListAnswer}
-use Rattle.abi_lists.specs.Part.{parts_of}
-use Rattle.abi_lists.specs.Placement.{IsNonEmptyIfUnsized, IsSized, cut, list_repr, prefix_align}
-use Rattle.abi_lists.proofs.Promised.LeastLemmas.{ascends, biased, has_places, lies_aligned, lies_in_order}
-use Rattle.abi_lists.proofs.Sorted.Least.{allowed_permutes}
-use Rattle.abi_lists.proofs.Offsets.Rounding.{pow_dvd, rounded_to}
-use Rattle.abi_lists.proofs.Sorted.Sorting.{within_order}
-use Rattle.abi_lists.proofs.Sorted.Tight.{greatest_above}
+use Rattle.abi_univariant.specs.declared.part.Part.{Part}
+use Rattle.abi_univariant.specs.Apart.{AreAligned}
+use Rattle.abi_univariant.specs.List.{IsListAnswer}
+use Rattle.abi_univariant.specs.Part.{parts_of}
+use Rattle.abi_univariant.specs.Placement.{IsNonEmptyIfUnsized, IsSized, cut, list_repr, prefix_align}
+use Rattle.abi_univariant.proofs.Promised.LeastLemmas.{ascends, biased, has_places, lies_aligned, lies_in_order}
+use Rattle.abi_univariant.proofs.Sorted.Least.{allowed_permutes}
+use Rattle.abi_univariant.proofs.Offsets.Rounding.{pow_dvd, rounded_to}
+use Rattle.abi_univariant.proofs.Sorted.Sorting.{within_order}
+use Rattle.abi_univariant.proofs.Sorted.Tight.{greatest_above}
 use Rattle.abi_calc.specs.Enums.Growth.{moved}
 use Rattle.abi_calc.specs.Enums.Lists.{AreListLayouts}
 use Rattle.abi_calc.specs.Enums.Made.{AreBehindTag, AreBesideNiche, AreVariantsAligned, IsBesideNiche, IsMovedBy}

@@ -7,7 +7,7 @@ use Rattle.abi_scalar.specs.declared.layout_data.LayoutData.{LayoutData}
 use Rattle.abi_base.specs.Primitive.{KnowsPrimitive}
 use Rattle.abi_scalar.specs.declared.scalar.Scalar.{Scalar}
 use Rattle.abi_scalar.specs.Scalar.{IsLawfulScalar, primitive_of}
-use Rattle.abi_lists.proofs.Views.NicheLemmas.{readable_size}
+use Rattle.abi_univariant.proofs.Views.NicheLemmas.{readable_size}
 use Rattle.abi_calc.specs.declared.enums.payload.Payload.{Payload}
 use Rattle.abi_calc.specs.declared.enums.payload.Payload.TheVariants.{Nothing, One, Other}
 use Rattle.abi_calc.proofs.AtIndex.{left_at}

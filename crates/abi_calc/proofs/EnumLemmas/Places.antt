@@ -22,16 +22,16 @@ use Rattle.abi_scalar.specs.Repr.{is_c}
 use Rattle.abi_scalar.specs.Order.{indices_by_offset}
 use Rattle.abi_scalar.specs.Shape.{listed_offsets}
 use Rattle.abi_scalar.specs.Variant.{variant_of}
-use Rattle.abi_lists.specs.declared.part.Part.{Part}
-use Rattle.abi_lists.specs.Apart.{AreApart, IsBeside}
-use Rattle.abi_lists.specs.Fields.{greatest_size}
-use Rattle.abi_lists.specs.Part.{is_unsized, max_align, part_of, parts_of}
-use Rattle.abi_lists.specs.Placement.{IsAllowed, align_of, cut, end_from, in_order, list_repr, no_part, offsets_from, place_of, start_of}
-use Rattle.abi_lists.proofs.Offsets.Ends.{end_from-above}
-use Rattle.abi_lists.proofs.Sorted.Least.{allowed_permutes}
-use Rattle.abi_lists.proofs.Sorted.Sorting.{within_order}
-use Rattle.abi_lists.proofs.Offsets.Rounding.{round_multiple, rounded_to}
-use Rattle.abi_lists.proofs.Placed.SourceLemmas.{Lies, field_at, length-in, offset_at, part_in, stands}
+use Rattle.abi_univariant.specs.declared.part.Part.{Part}
+use Rattle.abi_univariant.specs.Apart.{AreApart, IsBeside}
+use Rattle.abi_univariant.specs.Fields.{greatest_size}
+use Rattle.abi_univariant.specs.Part.{is_unsized, max_align, part_of, parts_of}
+use Rattle.abi_univariant.specs.Placement.{IsAllowed, align_of, cut, end_from, in_order, list_repr, no_part, offsets_from, place_of, start_of}
+use Rattle.abi_univariant.proofs.Offsets.Ends.{end_from-above}
+use Rattle.abi_univariant.proofs.Sorted.Least.{allowed_permutes}
+use Rattle.abi_univariant.proofs.Sorted.Sorting.{within_order}
+use Rattle.abi_univariant.proofs.Offsets.Rounding.{round_multiple, rounded_to}
+use Rattle.abi_univariant.proofs.Placed.SourceLemmas.{Lies, field_at, length-in, offset_at, part_in, stands}
 use Rattle.abi_calc.specs.Enums.Growth.{align_or, first_align, grown_tag, grown_variant, moved, start_align}
 use Rattle.abi_calc.specs.Enums.Lists.{AreGoodLists, IsGoodList, align_with_all, behind_tag, tag_align}
 use Rattle.abi_calc.specs.Enums.Path.{is_free, takes_no_room}

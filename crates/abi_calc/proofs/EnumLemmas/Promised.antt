@@ -14,11 +14,11 @@ use Rattle.abi_scalar.specs.declared.wrapping_range.WrappingRange.{WrappingRange
 use Rattle.abi_scalar.specs.LeastRange.{IsSmallestOf}
 use Rattle.abi_scalar.specs.Range.{IsIn, numbers_of}
 use Rattle.abi_scalar.specs.Scalar.{IsLawfulScalar}
-use Rattle.abi_lists.proofs.Offsets.Rounding.{pow_dvd, rounded_to}
-use Rattle.abi_lists.specs.Answer.{IsAnswer}
-use Rattle.abi_lists.specs.List.{AreSized}
-use Rattle.abi_lists.specs.Placement.{IsSized}
-use Rattle.abi_lists.specs.Fields.{greatest_size}
+use Rattle.abi_univariant.proofs.Offsets.Rounding.{pow_dvd, rounded_to}
+use Rattle.abi_univariant.specs.Answer.{IsAnswer}
+use Rattle.abi_univariant.specs.List.{AreSized}
+use Rattle.abi_univariant.specs.Placement.{IsSized}
+use Rattle.abi_univariant.specs.Fields.{greatest_size}
 use Rattle.abi_calc.specs.Enums.Discriminants.{IsTagRange}
 use Rattle.abi_calc.specs.Enums.Growth.{grown_tag, start_align}
 use Rattle.abi_calc.specs.Enums.Payload.{tagged_view}

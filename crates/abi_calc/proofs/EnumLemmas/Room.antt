@@ -18,7 +18,7 @@ use Rattle.abi_scalar.specs.Range.{AreWithin, IsFree, free_count}
 use Rattle.abi_scalar.specs.Shape.{listed_offsets}
 use Rattle.abi_scalar.specs.Variant.{variant_of}
 use Rattle.abi_scalar.proofs.CountLemmas.{free_counted}
-use Rattle.abi_lists.specs.ListNiche.{HasLargestNiche, HasNoMoreFree, IsNicheAt, IsNicheOfPart}
+use Rattle.abi_univariant.specs.ListNiche.{HasLargestNiche, HasNoMoreFree, IsNicheAt, IsNicheOfPart}
 use Rattle.abi_calc.specs.declared.enums.niche.Room.{Room}
 use Rattle.abi_calc.specs.Enums.Lists.{AreGoodLists, IsGoodList}
 use Rattle.abi_calc.specs.Enums.Niche.{beside_niche, if_list, if_niche, if_placed, if_span, moved_on, needing_numbers, niche_layout, niche_of_list, place_after, room_beside, span_count, span_of, untagged_of, variants_from, with_first, without_niche}

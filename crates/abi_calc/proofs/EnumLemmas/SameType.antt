@@ -15,14 +15,14 @@ use Rattle.abi_scalar.specs.declared.repr.ReprOptions.{ReprOptions}
 use Rattle.abi_scalar.specs.declared.variants.RangeFrom.{RangeFrom}
 use Rattle.abi_scalar.specs.declared.variants.RangeToInclusive.{RangeToInclusive}
 use Rattle.abi_scalar.specs.Simple.{never_layout}
-use Rattle.abi_lists.specs.declared.order.NicheBias.TheVariants.{Start}
-use Rattle.abi_lists.specs.declared.placing.ListFault.{ListFault}
-use Rattle.abi_lists.specs.declared.placing.ListFault.TheVariants as fault
-use Rattle.abi_lists.specs.Fault.{IsErrorOf, fault_in}
-use Rattle.abi_lists.specs.List.{IsListAnswer, IsListError, IsListLayout}
-use Rattle.abi_lists.specs.Order.{IsNamedOrder}
-use Rattle.abi_lists.specs.Part.{parts_of}
-use Rattle.abi_lists.specs.Placement.{list_repr}
+use Rattle.abi_univariant.specs.declared.order.NicheBias.TheVariants.{Start}
+use Rattle.abi_univariant.specs.declared.placing.ListFault.{ListFault}
+use Rattle.abi_univariant.specs.declared.placing.ListFault.TheVariants as fault
+use Rattle.abi_univariant.specs.Fault.{IsErrorOf, fault_in}
+use Rattle.abi_univariant.specs.List.{IsListAnswer, IsListError, IsListLayout}
+use Rattle.abi_univariant.specs.Order.{IsNamedOrder}
+use Rattle.abi_univariant.specs.Part.{parts_of}
+use Rattle.abi_univariant.specs.Placement.{list_repr}
 use Rattle.abi_calc.specs.declared.enums.path.Path.{Path}
 use Rattle.abi_calc.specs.declared.enums.path.Path.TheVariants.{NoValue, OneList, Several}
 use Rattle.abi_calc.specs.Enums.Answer.{IsTypeAnswer, kind_at}

@@ -8,7 +8,7 @@ use Rattle.abi_scalar.specs.declared.error.LayoutCalculatorError.{LayoutCalculat
 use Rattle.abi_scalar.specs.declared.layout_data.LayoutData.{LayoutData}
 use Rattle.abi_scalar.specs.declared.repr.ReprOptions.{ReprOptions}
 use Rattle.abi_scalar.specs.Lawful.{IsLawfulLayout}
-use Rattle.abi_lists.specs.Placement.{IsNonEmptyIfUnsized}
+use Rattle.abi_univariant.specs.Placement.{IsNonEmptyIfUnsized}
 use Rattle.abi_calc.specs.declared.enums.path.Path.{Path}
 use Rattle.abi_calc.specs.declared.enums.path.Path.TheVariants.{OneList}
 use Rattle.abi_calc.specs.Enums.Answer.{kind_at}

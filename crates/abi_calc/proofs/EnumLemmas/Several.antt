@@ -16,8 +16,8 @@ use Rattle.abi_scalar.specs.declared.repr.ReprOptions.{ReprOptions}
 use Rattle.abi_scalar.specs.declared.variants.RangeFrom.{RangeFrom}
 use Rattle.abi_scalar.specs.declared.variants.RangeToInclusive.{RangeToInclusive}
 use Rattle.abi_scalar.specs.Lawful.{IsLawfulLayout, IsLawfulNiche}
-use Rattle.abi_lists.specs.Answer.{IsAnswer}
-use Rattle.abi_lists.specs.Part.{free_numbers}
+use Rattle.abi_univariant.specs.Answer.{IsAnswer}
+use Rattle.abi_univariant.specs.Part.{free_numbers}
 use Rattle.abi_calc.specs.Enums.Beside.{AreToldApart, IsToldByTag}
 use Rattle.abi_calc.specs.Enums.Choice.{IsNicheAnswer, better, takes_niche}
 use Rattle.abi_calc.specs.Enums.Discriminants.{counting_of}

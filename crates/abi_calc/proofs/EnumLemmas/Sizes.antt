@@ -12,14 +12,14 @@ use Rattle.abi_scalar.specs.declared.error.LayoutCalculatorError.TheVariants.{Ou
 use Rattle.abi_scalar.specs.declared.layout_data.LayoutData.{LayoutData}
 use Rattle.abi_scalar.specs.declared.repr.ReprOptions.{ReprOptions}
 use Rattle.abi_scalar.specs.Lawful.{IsLawfulLayout}
-use Rattle.abi_lists.specs.declared.part.Part.{Part}
-use Rattle.abi_lists.specs.Fields.{greatest, greatest_size}
-use Rattle.abi_lists.specs.Least.{IsEachOrderTooLarge, IsLeastSize, align_by, size_by}
-use Rattle.abi_lists.specs.List.{AreSized}
-use Rattle.abi_lists.specs.Part.{parts_of}
-use Rattle.abi_lists.specs.Placement.{IsNonEmptyIfUnsized, IsSized, cut, list_repr, own_align, prefix_align}
-use Rattle.abi_lists.proofs.Promised.LeastLemmas.{large_in_each, sized_error}
-use Rattle.abi_lists.proofs.Sorted.Tight.{greatest_from}
+use Rattle.abi_univariant.specs.declared.part.Part.{Part}
+use Rattle.abi_univariant.specs.Fields.{greatest, greatest_size}
+use Rattle.abi_univariant.specs.Least.{IsEachOrderTooLarge, IsLeastSize, align_by, size_by}
+use Rattle.abi_univariant.specs.List.{AreSized}
+use Rattle.abi_univariant.specs.Part.{parts_of}
+use Rattle.abi_univariant.specs.Placement.{IsNonEmptyIfUnsized, IsSized, cut, list_repr, own_align, prefix_align}
+use Rattle.abi_univariant.proofs.Promised.LeastLemmas.{large_in_each, sized_error}
+use Rattle.abi_univariant.proofs.Sorted.Tight.{greatest_from}
 use Rattle.abi_calc.specs.Enums.Lists.{AreGoodLists, IsFirstListError, IsGoodList}
 use Rattle.abi_calc.specs.Enums.Sizes.{AreLeastSizes, IsTaggedSize, IsTaggedTooLarge}
 use Rattle.abi_calc.specs.Enums.Tagged.{lists_align, lists_size}

@@ -24,20 +24,20 @@ use Rattle.abi_scalar.specs.declared.variants.Variants.TheVariants.{Single}
 use Rattle.abi_scalar.specs.Lawful.{IsLawfulLayout}
 use Rattle.abi_scalar.specs.Repr.{is_abi_fixed}
 use Rattle.abi_scalar.specs.Simple.{never_layout}
-use Rattle.abi_lists.specs.declared.order.NicheBias.TheVariants.{Start}
-use Rattle.abi_lists.specs.declared.placing.ListFault.{ListFault}
-use Rattle.abi_lists.specs.declared.placing.ListFault.TheVariants.{Unsized, TooLarge, OutOfMemory}
-use Rattle.abi_lists.specs.Fault.{IsErrorOf, IsFaultIndex, fault_in}
-use Rattle.abi_lists.specs.Fields.{greatest_repr_align, lies_as_in_c}
-use Rattle.abi_lists.specs.List.{IsListAnswer, IsListError, IsListLayout, list_seed, unadjusted_of}
-use Rattle.abi_lists.specs.ListView.{list_view}
-use Rattle.abi_lists.specs.Order.{IsNamedOrder}
-use Rattle.abi_lists.specs.Part.{parts_of}
-use Rattle.abi_lists.specs.Placement.{IsNonEmptyIfUnsized, list_repr}
-use Rattle.abi_lists.specs.Run.{IsNamedLayout}
-use Rattle.abi_lists.proofs.Placed.FaultLemmas.{memory_in}
-use Rattle.abi_lists.proofs.Layouts.ListLemmas.{fault_named, length-parts, parts_lawful}
-use Rattle.abi_lists.proofs.Layouts.SomeOrder.{some_layout}
+use Rattle.abi_univariant.specs.declared.order.NicheBias.TheVariants.{Start}
+use Rattle.abi_univariant.specs.declared.placing.ListFault.{ListFault}
+use Rattle.abi_univariant.specs.declared.placing.ListFault.TheVariants.{Unsized, TooLarge, OutOfMemory}
+use Rattle.abi_univariant.specs.Fault.{IsErrorOf, IsFaultIndex, fault_in}
+use Rattle.abi_univariant.specs.Fields.{greatest_repr_align, lies_as_in_c}
+use Rattle.abi_univariant.specs.List.{IsListAnswer, IsListError, IsListLayout, list_seed, unadjusted_of}
+use Rattle.abi_univariant.specs.ListView.{list_view}
+use Rattle.abi_univariant.specs.Order.{IsNamedOrder}
+use Rattle.abi_univariant.specs.Part.{parts_of}
+use Rattle.abi_univariant.specs.Placement.{IsNonEmptyIfUnsized, list_repr}
+use Rattle.abi_univariant.specs.Run.{IsNamedLayout}
+use Rattle.abi_univariant.proofs.Placed.FaultLemmas.{memory_in}
+use Rattle.abi_univariant.proofs.Layouts.ListLemmas.{fault_named, length-parts, parts_lawful}
+use Rattle.abi_univariant.proofs.Layouts.SomeOrder.{some_layout}
 use Rattle.abi_calc.specs.declared.enums.path.Path.{Path}
 use Rattle.abi_calc.specs.declared.enums.path.Path.TheVariants.{NoValue, OneList, Several}
 use Rattle.abi_calc.specs.Enums.Answer.{IsTypeAnswer, kind_at}

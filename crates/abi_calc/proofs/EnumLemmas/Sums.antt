@@ -14,17 +14,17 @@ use Rattle.abi_base.specs.declared.struct_kind.StructKind.TheVariants.{AlwaysSiz
 use Rattle.abi_scalar.specs.declared.layout_data.LayoutData.{LayoutData}
 use Rattle.abi_scalar.specs.declared.repr.ReprOptions.{ReprOptions}
 use Rattle.abi_scalar.specs.declared.variants.VariantLayout.{VariantLayout}
-use Rattle.abi_lists.specs.declared.part.Part.{Part}
-use Rattle.abi_lists.specs.Apart.{AreApart, IsBeside}
-use Rattle.abi_lists.specs.Least.{IsOrderOf, align_by, size_by}
-use Rattle.abi_lists.specs.Part.{part_of, parts_of}
-use Rattle.abi_lists.specs.Placement.{IsAllowed, cut, end_from, in_order, list_repr, place_of, start_of}
-use Rattle.abi_lists.proofs.Offsets.Ends.{Capped, end_from-mono}
-use Rattle.abi_lists.proofs.Offsets.Rounding.{pow_dvd, round_add, round_mono, rounded_to}
-use Rattle.abi_lists.proofs.Sorted.Least.{allowed_permutes}
-use Rattle.abi_lists.proofs.Sorted.Prefixes.{round_lower}
-use Rattle.abi_lists.proofs.Sorted.Sorting.{in_order-permutation}
-use Rattle.abi_lists.proofs.Sorted.Tight.{capped, greatest, greatest_above, greatest_from}
+use Rattle.abi_univariant.specs.declared.part.Part.{Part}
+use Rattle.abi_univariant.specs.Apart.{AreApart, IsBeside}
+use Rattle.abi_univariant.specs.Least.{IsOrderOf, align_by, size_by}
+use Rattle.abi_univariant.specs.Part.{part_of, parts_of}
+use Rattle.abi_univariant.specs.Placement.{IsAllowed, cut, end_from, in_order, list_repr, place_of, start_of}
+use Rattle.abi_univariant.proofs.Offsets.Ends.{Capped, end_from-mono}
+use Rattle.abi_univariant.proofs.Offsets.Rounding.{pow_dvd, round_add, round_mono, rounded_to}
+use Rattle.abi_univariant.proofs.Sorted.Least.{allowed_permutes}
+use Rattle.abi_univariant.proofs.Sorted.Prefixes.{round_lower}
+use Rattle.abi_univariant.proofs.Sorted.Sorting.{in_order-permutation}
+use Rattle.abi_univariant.proofs.Sorted.Tight.{capped, greatest, greatest_above, greatest_from}
 use Rattle.abi_calc.specs.Enums.Bounds.{least_left, left_beside}
 use Rattle.abi_calc.specs.Enums.Places.{AreApartBehind}
 

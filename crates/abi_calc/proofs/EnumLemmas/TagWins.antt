@@ -23,15 +23,15 @@ use Rattle.abi_scalar.specs.Range.{AreWithin, free_count, numbers_of}
 use Rattle.abi_scalar.specs.Reserve.{end_moved, moves_start, reserved, start_moved}
 use Rattle.abi_scalar.specs.Shape.{listed_offsets}
 use Rattle.abi_scalar.proofs.RangeLemmas.{cut_once, free_by_comparison}
-use Rattle.abi_lists.specs.declared.part.Part.{Part}
-use Rattle.abi_lists.specs.Apart.{AreApart}
-use Rattle.abi_lists.specs.Fields.{greatest, greatest_align, greatest_size}
-use Rattle.abi_lists.specs.Least.{align_by}
-use Rattle.abi_lists.specs.List.{HasLawfulAligns}
-use Rattle.abi_lists.specs.Part.{free_numbers, part_of, parts_of}
-use Rattle.abi_lists.specs.Placement.{cut, list_repr}
-use Rattle.abi_lists.proofs.Sorted.Prefixes.{round_lower}
-use Rattle.abi_lists.proofs.Sorted.Tight.{greatest_above}
+use Rattle.abi_univariant.specs.declared.part.Part.{Part}
+use Rattle.abi_univariant.specs.Apart.{AreApart}
+use Rattle.abi_univariant.specs.Fields.{greatest, greatest_align, greatest_size}
+use Rattle.abi_univariant.specs.Least.{align_by}
+use Rattle.abi_univariant.specs.List.{HasLawfulAligns}
+use Rattle.abi_univariant.specs.Part.{free_numbers, part_of, parts_of}
+use Rattle.abi_univariant.specs.Placement.{cut, list_repr}
+use Rattle.abi_univariant.proofs.Sorted.Prefixes.{round_lower}
+use Rattle.abi_univariant.proofs.Sorted.Tight.{greatest_above}
 use Rattle.abi_calc.specs.Enums.Bounds.{greatest_free, greatest_of_all, least_left, least_whole, left_beside, most_free, tag_wins}
 use Rattle.abi_calc.specs.Enums.Choice.{IsNicheAnswer, better, takes_niche}
 use Rattle.abi_calc.specs.Enums.Lists.{AreGoodLists, AreListLayouts, IsGoodList, align_with_all}

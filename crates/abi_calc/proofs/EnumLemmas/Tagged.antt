@@ -26,9 +26,9 @@ use Rattle.abi_scalar.specs.declared.error.LayoutCalculatorError.{LayoutCalculat
 use Rattle.abi_scalar.specs.declared.error.LayoutCalculatorError.TheVariants.{OutOfMemory, SizeOverflow}
 use Rattle.abi_scalar.specs.declared.layout_data.LayoutData.{LayoutData}
 use Rattle.abi_scalar.specs.Lawful.{IsLawfulLayout}
-use Rattle.abi_lists.specs.Fields.{greatest_align, greatest_size}
-use Rattle.abi_lists.proofs.Views.Lawful.{aggregate_small}
-use Rattle.abi_lists.proofs.UnionsVectors.UnionLawful.{greatest_size_small}
+use Rattle.abi_univariant.specs.Fields.{greatest_align, greatest_size}
+use Rattle.abi_univariant.proofs.Views.Lawful.{aggregate_small}
+use Rattle.abi_univariant.proofs.UnionsVectors.UnionLawful.{greatest_size_small}
 use Rattle.abi_calc.specs.Enums.Tagged.{IsTaggedAnswer, IsTaggedBy, layout_seen_as, lists_align, lists_size, payloads_of, tagged_layout}
 use Rattle.abi_calc.proofs.EnumLemmas.Lists.{align_small}
 

@@ -20,9 +20,9 @@ use Rattle.abi_scalar.specs.Pair.{pair_align, pair_size, second_offset}
 use Rattle.abi_scalar.specs.Scalar.{IsLawfulScalar, primitive_of, scalar_size}
 use Rattle.abi_scalar.specs.Shape.{listed_offsets}
 use Rattle.abi_scalar.proofs.LawfulLemmas.{niche_lawful, niche_viewed}
-use Rattle.abi_lists.specs.Part.{is_empty_view}
-use Rattle.abi_lists.proofs.Views.Lawful.{niche_within}
-use Rattle.abi_lists.proofs.Views.LawfulList.{by_test, pair_lawful}
+use Rattle.abi_univariant.specs.Part.{is_empty_view}
+use Rattle.abi_univariant.proofs.Views.Lawful.{niche_within}
+use Rattle.abi_univariant.proofs.Views.LawfulList.{by_test, pair_lawful}
 use Rattle.abi_calc.specs.declared.enums.payload.Payload.{Payload}
 use Rattle.abi_calc.specs.declared.enums.payload.Payload.TheVariants.{Nothing, One, Other}
 use Rattle.abi_calc.specs.Enums.Growth.{moved}

@@ -9,8 +9,8 @@ use Rattle.abi_scalar.specs.declared.variants.TagEncoding.TheVariants.{Direct}
 use Rattle.abi_scalar.specs.declared.variants.VariantLayout.{VariantLayout}
 use Rattle.abi_scalar.specs.declared.variants.Variants.TheVariants.{Multiple}
 use Rattle.abi_scalar.specs.Scalar.{IsNumberOf, scalar_size}
-use Rattle.abi_lists.specs.Apart.{AreApart}
-use Rattle.abi_lists.specs.Placement.{source_order}
+use Rattle.abi_univariant.specs.Apart.{AreApart}
+use Rattle.abi_univariant.specs.Placement.{source_order}
 use Rattle.abi_calc.specs.Coroutine.Lists.{picked}
 
 -- two locals clash where some state holds both, or the conflicts name them in either direction

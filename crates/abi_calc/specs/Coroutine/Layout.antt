@@ -13,7 +13,7 @@ use Rattle.abi_scalar.specs.declared.scalar.Scalar.TheVariants.{Initialized}
 use Rattle.abi_scalar.specs.declared.variants.TagEncoding.TheVariants.{Direct}
 use Rattle.abi_scalar.specs.declared.variants.Variants.TheVariants.{Multiple}
 use Rattle.abi_scalar.specs.Shape.{listed_offsets, listed_order}
-use Rattle.abi_lists.specs.Fields.{greatest_align, greatest_size}
+use Rattle.abi_univariant.specs.Fields.{greatest_align, greatest_size}
 use Rattle.abi_calc.specs.Coroutine.States.{state_layouts}
 
 -- the least integer whose unsigned type has the number

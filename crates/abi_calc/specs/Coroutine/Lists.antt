@@ -8,7 +8,7 @@ use Rattle.abi_scalar.specs.declared.error.LayoutCalculatorError.{LayoutCalculat
 use Rattle.abi_scalar.specs.declared.layout_data.LayoutData.{LayoutData}
 use Rattle.abi_scalar.specs.declared.repr.ReprOptions.{ReprOptions}
 use Rattle.abi_index.specs.BitSet.{is_member, members_of}
-use Rattle.abi_lists.specs.List.{IsListAnswer, IsListError}
+use Rattle.abi_univariant.specs.List.{IsListAnswer, IsListError}
 
 -- a `repr` that asks for nothing
 abbrev pub default_repr : ReprOptions

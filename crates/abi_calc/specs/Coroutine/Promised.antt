@@ -8,8 +8,8 @@ use Rattle.abi_scalar.specs.declared.error.LayoutCalculatorError.{LayoutCalculat
 use Rattle.abi_scalar.specs.declared.error.LayoutCalculatorError.TheVariants.{OutOfMemory, SizeOverflow}
 use Rattle.abi_scalar.specs.declared.layout_data.LayoutData.{LayoutData}
 use Rattle.abi_scalar.specs.Variant.{variants_of}
-use Rattle.abi_lists.specs.Answer.{IsAnswer}
-use Rattle.abi_lists.specs.List.{AreSized}
+use Rattle.abi_univariant.specs.Answer.{IsAnswer}
+use Rattle.abi_univariant.specs.List.{AreSized}
 use Rattle.abi_calc.specs.Coroutine.Clash.{AreClashingApart, HaveOneOffset, IsToldByState}
 use Rattle.abi_calc.specs.Coroutine.Made.{IsAlignedAsLists, IsMadeOfStates}
 use Rattle.abi_calc.specs.Coroutine.Promotion.{promoted_of}

@@ -5,7 +5,7 @@ use Rattle.std.specs.List.{list_any}
 use Rattle.abi_index.specs.Ascending.{has_number}
 use Rattle.abi_index.specs.BitSet.{is_member}
 use Rattle.abi_index.specs.Relation.{Relation, columns_of, row_count}
-use Rattle.abi_lists.specs.Placement.{source_order}
+use Rattle.abi_univariant.specs.Placement.{source_order}
 
 -- how many states hold a local
 abbrev pub holder_count : (states : List (List ℕ)) → (local : ℕ) → ℕ

@@ -8,8 +8,8 @@ use Rattle.abi_base.specs.declared.struct_kind.StructKind.TheVariants.{AlwaysSiz
 use Rattle.abi_base.specs.DataLayout.{size_bound}
 use Rattle.abi_index.specs.Relation.{Relation, is_entry}
 use Rattle.abi_scalar.specs.declared.layout_data.LayoutData.{LayoutData}
-use Rattle.abi_lists.specs.Fields.{greatest}
-use Rattle.abi_lists.specs.Least.{IsEachOrderTooLarge, IsLeastSize, align_by}
+use Rattle.abi_univariant.specs.Fields.{greatest}
+use Rattle.abi_univariant.specs.Least.{IsEachOrderTooLarge, IsLeastSize, align_by}
 use Rattle.abi_calc.specs.Coroutine.Lists.{default_repr, first_list, own_list, picked}
 use Rattle.abi_calc.specs.Coroutine.Promotion.{holder_count, holder_of}
 use Rattle.abi_calc.specs.Enums.Path.{variant_at}

@@ -6,7 +6,7 @@ use Rattle.abi_scalar.specs.declared.variants.VariantLayout.{VariantLayout}
 use Rattle.abi_scalar.specs.Shape.{IsListed, listed_offsets, listed_order}
 use Rattle.abi_scalar.specs.Variant.{variant_of}
 use Rattle.abi_index.specs.BitSet.{domain_size, is_member, members_of}
-use Rattle.abi_lists.specs.Placement.{source_order}
+use Rattle.abi_univariant.specs.Placement.{source_order}
 
 -- the places at which a list has a number
 abbrev pub places_with : (numbers : List ℕ) → (number : ℕ) → List ℕ

@@ -12,9 +12,9 @@ use Rattle.abi_scalar.specs.declared.variants.RangeToInclusive.{RangeToInclusive
 use Rattle.abi_scalar.specs.Order.{HasPlaceForEach, IsAscending}
 use Rattle.abi_scalar.specs.Shape.{listed_offsets}
 use Rattle.abi_scalar.specs.Simple.{never_layout}
-use Rattle.abi_lists.specs.Apart.{AreApart}
-use Rattle.abi_lists.specs.Least.{IsLeastSize, LiesInSomeOrder}
-use Rattle.abi_lists.specs.Placement.{source_order}
+use Rattle.abi_univariant.specs.Apart.{AreApart}
+use Rattle.abi_univariant.specs.Least.{IsLeastSize, LiesInSomeOrder}
+use Rattle.abi_univariant.specs.Placement.{source_order}
 use Rattle.abi_calc.specs.declared.enums.path.Path.{Path}
 use Rattle.abi_calc.specs.declared.enums.path.Path.TheVariants.{NoValue, OneList, Several}
 use Rattle.abi_calc.specs.Enums.Path.{variant_at}

@@ -17,8 +17,8 @@ use Rattle.abi_scalar.specs.Niche.{niche_at, niche_size}
 use Rattle.abi_scalar.specs.Range.{numbers_of}
 use Rattle.abi_scalar.specs.Reserve.{HandsOut}
 use Rattle.abi_scalar.specs.Scalar.{IsNumberOf, primitive_of, range_of, scalar_size}
-use Rattle.abi_lists.specs.Apart.{AreApart}
-use Rattle.abi_lists.specs.ListNiche.{IsNicheOfPart}
+use Rattle.abi_univariant.specs.Apart.{AreApart}
+use Rattle.abi_univariant.specs.ListNiche.{IsNicheOfPart}
 use Rattle.abi_calc.specs.Enums.Discriminants.{inhabited_of}
 use Rattle.abi_calc.specs.Enums.Filled.{IsFilled}
 use Rattle.abi_calc.specs.Enums.Path.{is_absent, variant_at}

@@ -8,7 +8,7 @@ use Rattle.abi_base.specs.Integer.{integer_align, integer_size}
 use Rattle.abi_scalar.specs.declared.layout_data.LayoutData.{LayoutData}
 use Rattle.abi_scalar.specs.declared.repr.ReprOptions.{ReprOptions}
 use Rattle.abi_scalar.specs.Range.{numbers_of}
-use Rattle.abi_lists.specs.Part.{free_numbers, max_align}
+use Rattle.abi_univariant.specs.Part.{free_numbers, max_align}
 use Rattle.abi_calc.specs.declared.enums.bounds.First.{First}
 use Rattle.abi_calc.specs.declared.enums.bounds.First.TheVariants.{Niche, OnlyTagged, Tagged}
 use Rattle.abi_calc.specs.Enums.Growth.{align_or}

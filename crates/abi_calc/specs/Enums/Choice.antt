@@ -6,7 +6,7 @@ use Rattle.abi_base.specs.declared.struct_kind.StructKind.TheVariants.{AlwaysSiz
 use Rattle.abi_scalar.specs.declared.error.LayoutCalculatorError.{LayoutCalculatorError}
 use Rattle.abi_scalar.specs.declared.layout_data.LayoutData.{LayoutData}
 use Rattle.abi_scalar.specs.declared.repr.ReprOptions.{ReprOptions}
-use Rattle.abi_lists.specs.Part.{free_numbers}
+use Rattle.abi_univariant.specs.Part.{free_numbers}
 use Rattle.abi_calc.specs.Enums.Lists.{IsFirstListError}
 use Rattle.abi_calc.specs.Enums.Niche.{niche_layout}
 use Rattle.abi_calc.specs.Enums.Path.{is_free}

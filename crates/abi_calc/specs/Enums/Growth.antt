@@ -8,7 +8,7 @@ use Rattle.abi_scalar.specs.declared.layout_data.LayoutData.{LayoutData}
 use Rattle.abi_scalar.specs.declared.repr.ReprOptions.{ReprOptions}
 use Rattle.abi_scalar.specs.declared.variants.VariantLayout.{VariantLayout}
 use Rattle.abi_scalar.specs.Order.{indices_by_offset}
-use Rattle.abi_lists.specs.Part.{max_align}
+use Rattle.abi_univariant.specs.Part.{max_align}
 use Rattle.abi_calc.specs.Enums.Path.{is_free, takes_no_room}
 
 -- the field's alignment where it takes room, else what comes later

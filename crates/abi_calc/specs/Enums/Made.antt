@@ -25,8 +25,8 @@ use Rattle.abi_scalar.specs.Niche.{niche_size}
 use Rattle.abi_scalar.specs.Scalar.{primitive_of}
 use Rattle.abi_scalar.specs.Shape.{listed_offsets, listed_order}
 use Rattle.abi_scalar.specs.Variant.{variant_of}
-use Rattle.abi_lists.specs.Apart.{AreAligned}
-use Rattle.abi_lists.specs.Fields.{greatest_align}
+use Rattle.abi_univariant.specs.Apart.{AreAligned}
+use Rattle.abi_univariant.specs.Fields.{greatest_align}
 use Rattle.abi_calc.specs.Enums.Discriminants.{IsTagRange}
 use Rattle.abi_calc.specs.Enums.Growth.{grown_tag, moved, start_align}
 use Rattle.abi_calc.specs.Enums.Lists.{behind_tag}

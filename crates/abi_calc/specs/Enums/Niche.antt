@@ -20,9 +20,9 @@ use Rattle.abi_scalar.specs.Reserve.{reserved}
 use Rattle.abi_scalar.specs.Scalar.{primitive_of}
 use Rattle.abi_scalar.specs.Shape.{listed_offsets}
 use Rattle.abi_scalar.specs.Variant.{variant_of}
-use Rattle.abi_lists.specs.Fields.{greatest_repr_align, greatest_unadjusted, seed_with}
-use Rattle.abi_lists.specs.Part.{max_align}
-use Rattle.abi_lists.specs.Placement.{source_order}
+use Rattle.abi_univariant.specs.Fields.{greatest_repr_align, greatest_unadjusted, seed_with}
+use Rattle.abi_univariant.specs.Part.{max_align}
+use Rattle.abi_univariant.specs.Placement.{source_order}
 use Rattle.abi_calc.specs.declared.enums.niche.Room.{Room}
 use Rattle.abi_calc.specs.Enums.Path.{is_absent, variant_at}
 use Rattle.abi_calc.specs.Enums.Tagged.{lists_align, lists_size}

@@ -4,8 +4,8 @@ use Rattle.std.specs.List.{list_all, list_any}
 use Rattle.abi_scalar.specs.declared.layout_data.LayoutData.{LayoutData}
 use Rattle.abi_scalar.specs.declared.repr.ReprOptions.{ReprOptions}
 use Rattle.abi_scalar.specs.Repr.{is_c}
-use Rattle.abi_lists.specs.Part.{is_unsized}
-use Rattle.abi_lists.specs.Placement.{source_order}
+use Rattle.abi_univariant.specs.Part.{is_unsized}
+use Rattle.abi_univariant.specs.Placement.{source_order}
 use Rattle.abi_calc.specs.declared.enums.path.Path.{Path}
 use Rattle.abi_calc.specs.declared.enums.path.Path.TheVariants.{NoValue, OneList, Several}
 

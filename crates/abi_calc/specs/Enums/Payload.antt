@@ -15,8 +15,8 @@ use Rattle.abi_scalar.specs.declared.scalar.Scalar.TheVariants.{Initialized, Uni
 use Rattle.abi_scalar.specs.declared.variants.VariantLayout.{VariantLayout}
 use Rattle.abi_scalar.specs.Range.{full_range}
 use Rattle.abi_scalar.specs.Scalar.{IsLawfulScalar, primitive_of, scalar_size}
-use Rattle.abi_lists.specs.ListView.{pair_view}
-use Rattle.abi_lists.specs.Part.{is_empty_view}
+use Rattle.abi_univariant.specs.ListView.{pair_view}
+use Rattle.abi_univariant.specs.Part.{is_empty_view}
 use Rattle.abi_calc.specs.declared.enums.payload.Payload.{Payload}
 use Rattle.abi_calc.specs.declared.enums.payload.Payload.TheVariants.{Nothing, One, Other}
 use Rattle.abi_calc.specs.Enums.Single.{widened}

@@ -9,7 +9,7 @@ use Rattle.abi_scalar.specs.declared.variants.Variants.{Variants}
 use Rattle.abi_scalar.specs.declared.variants.Variants.TheVariants.{Multiple}
 use Rattle.abi_scalar.specs.Range.{numbers_of}
 use Rattle.abi_scalar.specs.Scalar.{IsNumberOf, scalar_size}
-use Rattle.abi_lists.specs.Apart.{AreApart}
+use Rattle.abi_univariant.specs.Apart.{AreApart}
 use Rattle.abi_calc.specs.Enums.Payload.{BeginsWithTag}
 
 -- a tag of so many bytes at the start, and each variant's fields: parts that share no byte and end inside the whole

@@ -15,10 +15,10 @@ use Rattle.abi_scalar.specs.declared.variants.RangeFrom.{RangeFrom}
 use Rattle.abi_scalar.specs.declared.variants.RangeToInclusive.{RangeToInclusive}
 use Rattle.abi_scalar.specs.Simple.{never_layout}
 use Rattle.abi_scalar.specs.Variant.{variants_of}
-use Rattle.abi_lists.specs.Answer.{IsAnswer}
-use Rattle.abi_lists.specs.Least.{IsEachOrderTooLarge}
-use Rattle.abi_lists.specs.List.{AreSized}
-use Rattle.abi_lists.specs.Part.{is_unsized}
+use Rattle.abi_univariant.specs.Answer.{IsAnswer}
+use Rattle.abi_univariant.specs.Least.{IsEachOrderTooLarge}
+use Rattle.abi_univariant.specs.List.{AreSized}
+use Rattle.abi_univariant.specs.Part.{is_unsized}
 use Rattle.abi_calc.specs.Enums.Answer.{IsGoodSingle, kind_at}
 use Rattle.abi_calc.specs.Enums.Beside.{AreToldApart}
 use Rattle.abi_calc.specs.Enums.Discriminants.{counting_of}

@@ -8,7 +8,7 @@ use Rattle.abi_scalar.specs.declared.layout_data.LayoutData.{LayoutData}
 use Rattle.abi_scalar.specs.declared.niche.Niche.{Niche}
 use Rattle.abi_scalar.specs.declared.repr.ReprOptions.{ReprOptions}
 use Rattle.abi_scalar.specs.Niche.{niche_size}
-use Rattle.abi_lists.specs.ListNiche.{HasFree}
+use Rattle.abi_univariant.specs.ListNiche.{HasFree}
 use Rattle.abi_calc.specs.Enums.Lists.{AreListLayouts}
 use Rattle.abi_calc.specs.Enums.Niche.{needing_numbers, niche_of_list, span_count, span_of, untagged_of}
 use Rattle.abi_calc.specs.Enums.Path.{is_free, variant_at}

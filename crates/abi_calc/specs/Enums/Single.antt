@@ -17,7 +17,7 @@ use Rattle.abi_scalar.specs.declared.scalar.Scalar.TheVariants.{Initialized, Uni
 use Rattle.abi_scalar.specs.declared.variants.Variants.TheVariants.{Single}
 use Rattle.abi_scalar.specs.Range.{full_range}
 use Rattle.abi_scalar.specs.Scalar.{IsLawfulScalar}
-use Rattle.abi_lists.specs.List.{IsListAnswer}
+use Rattle.abi_univariant.specs.List.{IsListAnswer}
 
 -- an enum's list is always sized; a struct's may lose its size where it has fields and isn't said to be sized
 abbrev pub single_kind : (is_enum always_sized : Bool) → (count : ℕ) → StructKind

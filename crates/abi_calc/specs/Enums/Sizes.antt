@@ -6,8 +6,8 @@ use Rattle.abi_base.specs.declared.struct_kind.StructKind.{StructKind}
 use Rattle.abi_base.specs.DataLayout.{size_bound}
 use Rattle.abi_scalar.specs.declared.layout_data.LayoutData.{LayoutData}
 use Rattle.abi_scalar.specs.declared.repr.ReprOptions.{ReprOptions}
-use Rattle.abi_lists.specs.Fields.{greatest}
-use Rattle.abi_lists.specs.Least.{IsEachOrderTooLarge, IsLeastSize, align_by}
+use Rattle.abi_univariant.specs.Fields.{greatest}
+use Rattle.abi_univariant.specs.Least.{IsEachOrderTooLarge, IsLeastSize, align_by}
 
 -- these are the least sizes of the variants' lists
 abbrev pub AreLeastSizes : {F V : Type 0} → TargetDataLayout → ReprOptions → StructKind → (variants : List (List (LayoutData F V))) → (sizes : List ℕ) → Type 0

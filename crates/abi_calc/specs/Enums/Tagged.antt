@@ -22,7 +22,7 @@ use Rattle.abi_scalar.specs.Niche.{niche_at}
 use Rattle.abi_scalar.specs.Repr.{is_c}
 use Rattle.abi_scalar.specs.Shape.{listed_offsets}
 use Rattle.abi_scalar.specs.Variant.{variant_of}
-use Rattle.abi_lists.specs.Fields.{greatest_align, greatest_repr_align, greatest_size, greatest_unadjusted, seed_with}
+use Rattle.abi_univariant.specs.Fields.{greatest_align, greatest_repr_align, greatest_size, greatest_unadjusted, seed_with}
 use Rattle.abi_calc.specs.declared.enums.payload.Payload.{Payload}
 use Rattle.abi_calc.specs.Enums.Discriminants.{IsTagRange}
 use Rattle.abi_calc.specs.Enums.Growth.{grown_tag, grown_variant, moved, start_align}

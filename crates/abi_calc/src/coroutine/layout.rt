@@ -14,11 +14,11 @@ ghost use Rattle.abi_calc.specs.Coroutine.States.{HasFields, ranks_of, state_lay
 use crate::coroutine::states::{Promoted, place_state, ranks_below};
 use abi_base::{AbiAlign, Align, HasDataLayout, Integer, Primitive, Size, TargetDataLayout};
 use abi_index::{DenseBitSet, Hash64, Idx, IndexList, IndexVec};
-use abi_lists::{ListLayout, ListLayouts, field_offsets, rounded};
 use abi_scalar::{
     BackendRepr, FieldsShape, LayoutCalculatorError, LayoutData, Scalar, TagEncoding,
     VariantLayout, Variants, WrappingRange,
 };
+use abi_univariant::{ListLayout, ListLayouts, field_offsets, rounded};
 use std::alloc::{AllocError, Global};
 
 /// The states of a coroutine, and which of its locals, of so many, are promoted.

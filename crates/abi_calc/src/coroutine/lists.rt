@@ -4,8 +4,8 @@ ghost use Rattle.std.specs.Prelude.{◌≡◌, ◌+◌, ◌<◌, ◌≤◌, ◌�
 ghost use Rattle.abi_base.specs.DataLayout.{IsLawfulDataLayout, size_bound};
 ghost use Rattle.abi_index.specs.BitSet.{domain_size};
 ghost use Rattle.abi_scalar.specs.Lawful.{IsLawfulLayout};
-ghost use Rattle.abi_lists.specs.List.{IsListError};
-ghost use Rattle.abi_lists.specs.Placement.{IsLawfulPrefix, IsSized};
+ghost use Rattle.abi_univariant.specs.List.{IsListError};
+ghost use Rattle.abi_univariant.specs.Placement.{IsLawfulPrefix, IsSized};
 ghost use Rattle.abi_calc.specs.Coroutine.Lists.{behind, default_repr, first_list, own_list};
 ghost use Rattle.abi_calc.specs.Coroutine.Sizes.{own_lists};
 ghost use Rattle.abi_calc.specs.Enums.Lists.{AreGoodLists, IsFirstListError, IsGoodList};
@@ -13,8 +13,8 @@ ghost use Rattle.abi_calc.specs.Enums.Lists.{AreGoodLists, IsFirstListError, IsG
 use crate::calculator::LayoutCalculator;
 use abi_base::{HasDataLayout, StructKind};
 use abi_index::{DenseBitSet, Idx, IndexVec};
-use abi_lists::{ListLayout, ListLayouts};
 use abi_scalar::{LayoutCalculatorError, LayoutHandle, ReprOptions};
+use abi_univariant::{ListLayout, ListLayouts};
 use std::alloc::{AllocError, Global};
 
 /// The `repr` of each list: it asks for nothing.

@@ -5,7 +5,7 @@ ghost use Rattle.std.specs.List.{list_any};
 ghost use Rattle.abi_index.specs.Ascending.{has_number};
 ghost use Rattle.abi_index.specs.BitSet.{domain_size, is_member};
 ghost use Rattle.abi_index.specs.Relation.{column_count, row_count};
-ghost use Rattle.abi_lists.specs.Placement.{source_order};
+ghost use Rattle.abi_univariant.specs.Placement.{source_order};
 ghost use Rattle.abi_calc.specs.Coroutine.Promotion.{after_conflict, after_row, are_settled, given_up, held_by_several, holder_of, holders_of, promote, promoted_of, used_count};
 
 use abi_index::{BitMatrix, DenseBitSet, Idx, IndexVec};

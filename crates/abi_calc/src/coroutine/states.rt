@@ -4,7 +4,7 @@ ghost use Rattle.std.specs.Prelude.{◌≡◌, ◌≢◌, ℕ, ◌+◌, ◌<◌,
 ghost use Rattle.std.specs.List.{AllPairs};
 ghost use Rattle.std.specs.Option.{option_to_list};
 ghost use Rattle.abi_index.specs.BitSet.{domain_size, is_member, members_of};
-ghost use Rattle.abi_lists.specs.Placement.{source_order};
+ghost use Rattle.abi_univariant.specs.Placement.{source_order};
 ghost use Rattle.abi_calc.specs.Coroutine.Lists.{own_of};
 ghost use Rattle.abi_calc.specs.Coroutine.States.{ArePlaced, joined_places, own_places, places_with, rank_of, state_offsets, state_order, stitched};
 

@@ -4,7 +4,7 @@ ghost use Rattle.std.specs.Prelude.{◌≡◌, ◌-◌, ◌^◌, ◌<◌, ◌≤
 ghost use Rattle.abi_base.specs.DataLayout.{IsLawfulDataLayout};
 ghost use Rattle.abi_scalar.specs.Lawful.{IsLawfulLayout, IsLawfulNiche};
 ghost use Rattle.abi_scalar.specs.Range.{numbers_of};
-ghost use Rattle.abi_lists.specs.Part.{max_align};
+ghost use Rattle.abi_univariant.specs.Part.{max_align};
 ghost use Rattle.abi_calc.specs.Enums.Bounds.{fits_behind, greatest_free, greatest_of_all, least_left, least_only, least_whole, left_beside, most_free, most_tag, only_align, outdoes, room_of_tag, tag_first, tag_wins, which_first, wins};
 
 use crate::enums::growth::align_at;
@@ -12,8 +12,8 @@ use crate::enums::lists::align_with_all;
 use crate::enums::path::is_free;
 use abi_base::{Align, Integer, Size, TargetDataLayout};
 use abi_index::{Idx, IndexVec};
-use abi_lists::{free_numbers, rounded};
 use abi_scalar::{LayoutData, LayoutHandle, ReprOptions};
+use abi_univariant::{free_numbers, rounded};
 
 /// Which layout of an enum is made first.
 #[derive(Clone, Copy)]

@@ -6,8 +6,8 @@ ghost use Rattle.abi_calc.specs.Enums.Choice.{better, takes_niche};
 
 use abi_base::TargetDataLayout;
 use abi_index::Idx;
-use abi_lists::free_numbers;
 use abi_scalar::LayoutData;
+use abi_univariant::free_numbers;
 
 /// Whether the layout with a niche is the better one: it is smaller, or as large with more free numbers left.
 fn takes_niche<FieldIdx: Idx, VariantIdx: Idx>(

@@ -9,8 +9,8 @@ ghost use Rattle.abi_calc.specs.Enums.Discriminants.{IsAskedWith, IsGreatestOf, 
 
 use abi_base::{Integer, Size, TargetDataLayout};
 use abi_index::{Idx, IndexVec};
-use abi_lists::any_uninhabited;
 use abi_scalar::{LayoutHandle, ReprOptions, WrappingRange};
+use abi_univariant::any_uninhabited;
 use std::alloc::{AllocError, Global};
 
 /// The least and the greatest number that a tag has to hold.

@@ -1,15 +1,15 @@
 //! A tag that grows into the space before the variants' fields.
 
 ghost use Rattle.std.specs.Prelude.{◌≡◌, ◌+◌, ◌≤◌, IfOk, None, OnOk, Some, length, map, min, slice_get, unwrap_or};
-ghost use Rattle.abi_lists.specs.Part.{max_align};
+ghost use Rattle.abi_univariant.specs.Part.{max_align};
 ghost use Rattle.abi_calc.specs.Enums.Growth.{align_or, first_align, grown_tag, grown_variant, moved, start_align};
 ghost use Rattle.abi_calc.specs.Enums.Lists.{AreListsOf};
 
 use crate::enums::path::{is_free, takes_no_room};
 use abi_base::{Align, Integer, Size, TargetDataLayout};
 use abi_index::{Idx, IndexVec};
-use abi_lists::ListLayouts;
 use abi_scalar::{LayoutData, LayoutHandle, ReprOptions, VariantLayout};
+use abi_univariant::ListLayouts;
 use std::alloc::{AllocError, Global};
 
 /// The field's alignment, if it takes room.

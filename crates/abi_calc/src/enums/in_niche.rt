@@ -8,7 +8,7 @@ ghost use Rattle.abi_scalar.specs.declared.variants.TagEncoding.TheVariants.{Nic
 ghost use Rattle.abi_scalar.specs.Niche.{IsReadableNiche, niche_size};
 ghost use Rattle.abi_scalar.specs.Reserve.{reserved};
 ghost use Rattle.abi_scalar.specs.Scalar.{IsLawfulScalar};
-ghost use Rattle.abi_lists.specs.List.{HasLawfulAligns};
+ghost use Rattle.abi_univariant.specs.List.{HasLawfulAligns};
 ghost use Rattle.abi_calc.specs.Enums.Choice.{IsNicheAnswer};
 ghost use Rattle.abi_calc.specs.Enums.Lists.{AreGoodLists, AreListLayouts};
 ghost use Rattle.abi_calc.specs.Enums.Niche.{IsRoomy, IsSmallList, if_placed, niche_layout, niche_of_list, others_empty, room_beside, span_count, variants_from, view_with};
@@ -19,11 +19,11 @@ use crate::enums::path::is_free;
 use crate::enums::tagged::{lists_align, lists_size};
 use abi_base::{AbiAlign, Align, HasDataLayout, Size, StructKind, TargetDataLayout};
 use abi_index::{Idx, IndexList, IndexVec};
-use abi_lists::{LentList, ListLayouts, one};
 use abi_scalar::{
     BackendRepr, FieldsShape, LayoutCalculatorError, LayoutData, LayoutHandle, Niche,
     RangeInclusive, ReprOptions, Scalar, TagEncoding, VariantLayout, Variants,
 };
+use abi_univariant::{LentList, ListLayouts, one};
 use std::alloc::{AllocError, Global};
 
 /// The room beside a niche of the untagged variant, in an enum of this size.

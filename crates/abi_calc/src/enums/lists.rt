@@ -3,15 +3,15 @@
 ghost use Rattle.std.specs.Prelude.{◌≡◌, ◌+◌, ◌≤◌, ◌⊎◌, All, IfErr, IfOk, length, map};
 ghost use Rattle.abi_base.specs.DataLayout.{IsLawfulDataLayout, size_bound};
 ghost use Rattle.abi_scalar.specs.Lawful.{IsLawfulLayout};
-ghost use Rattle.abi_lists.specs.List.{HasLawfulAligns, IsListError};
-ghost use Rattle.abi_lists.specs.Placement.{IsLawfulPrefix, IsSized};
+ghost use Rattle.abi_univariant.specs.List.{HasLawfulAligns, IsListError};
+ghost use Rattle.abi_univariant.specs.Placement.{IsLawfulPrefix, IsSized};
 ghost use Rattle.abi_calc.specs.Enums.Lists.{AreGoodLists, AreListLayouts, AreListsOf, IsFirstListError, IsGoodList, align_with_all, behind_tag};
 
 use crate::calculator::LayoutCalculator;
 use abi_base::{Align, HasDataLayout, Integer, StructKind, TargetDataLayout};
 use abi_index::{Idx, IndexVec};
-use abi_lists::{ListLayout, ListLayouts, greatest_align, list_of_fields};
 use abi_scalar::{LayoutCalculatorError, LayoutHandle, ReprOptions};
+use abi_univariant::{ListLayout, ListLayouts, greatest_align, list_of_fields};
 use std::alloc::Global;
 
 /// The greatest alignment of all variants' fields, and no less than this one.

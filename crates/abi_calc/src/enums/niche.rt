@@ -1,16 +1,16 @@
 //! The layout of an enum whose tag lies in a niche of one variant.
 
 ghost use Rattle.std.specs.Prelude.{◌≡◌, ◌==◌, ◌&&◌, ◌||◌, ◌+◌, ◌++◌, ◌∷◌, ◌^◌, ◌<◌, ◌≤◌, [], All, IfOk, List, MatchOption, OnOk, Some, false, if◌then◌else◌, length, map, nat_le, not, true, ℕ};
-ghost use Rattle.abi_lists.specs.Part.{max_align};
+ghost use Rattle.abi_univariant.specs.Part.{max_align};
 ghost use Rattle.abi_calc.specs.Enums.Path.{is_absent};
 ghost use Rattle.abi_calc.specs.Enums.Niche.{IsRoomy, IsSmallList, beside_niche, moved_on, needing_numbers, others_empty, place_after, span_of, untagged_of, variants_from, view_with};
 
 use crate::enums::path::is_absent;
 use abi_base::{Align, Size};
 use abi_index::{Idx, IndexList, IndexVec};
-use abi_lists::{LentList, ListLayouts, rounded};
 use abi_scalar::variant_parts::forget_niche;
 use abi_scalar::{BackendRepr, LayoutHandle, Scalar, VariantLayout};
+use abi_univariant::{LentList, ListLayouts, rounded};
 use std::alloc::{AllocError, Global};
 
 /// Where a niche of the untagged variant leaves room.

@@ -5,8 +5,8 @@ ghost use Rattle.std.specs.List.{find, list_all, range_with_len};
 ghost use Rattle.abi_calc.specs.Enums.Path.{is_absent, is_free, is_present, path_of, takes_no_room, variant_at};
 
 use abi_index::{Idx, IndexVec};
-use abi_lists::any_uninhabited;
 use abi_scalar::{LayoutData, LayoutHandle, ReprOptions};
+use abi_univariant::any_uninhabited;
 
 /// Which way a type with variants is laid out.
 #[derive(Clone, Copy)]

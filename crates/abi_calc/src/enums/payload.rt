@@ -15,8 +15,8 @@ use crate::enums::growth::moved;
 use crate::enums::single::widened;
 use abi_base::{Align, HasDataLayout, Primitive, Size, TargetDataLayout};
 use abi_index::{Idx, IndexVec};
-use abi_lists::{ListLayouts, pair_view};
 use abi_scalar::{BackendRepr, LayoutData, LayoutHandle, Scalar, VariantLayout, WrappingRange};
+use abi_univariant::{ListLayouts, pair_view};
 
 /// What one variant holds beside the tag.
 #[derive(Clone, Copy)]

@@ -7,11 +7,11 @@ ghost use Rattle.abi_scalar.specs.Lawful.{IsLawfulLayout};
 ghost use Rattle.abi_scalar.specs.Scalar.{IsLawfulScalar};
 ghost use Rattle.abi_scalar.specs.Order.{HasPlaceForEach, IsAscending};
 ghost use Rattle.abi_scalar.specs.Shape.{listed_offsets};
-ghost use Rattle.abi_lists.specs.Answer.{IsAnswer};
-ghost use Rattle.abi_lists.specs.Apart.{AreApart};
-ghost use Rattle.abi_lists.specs.Least.{IsEachOrderTooLarge, IsLeastSize, LiesInSomeOrder};
-ghost use Rattle.abi_lists.specs.List.{AreSized, HasLawfulAligns};
-ghost use Rattle.abi_lists.specs.Placement.{IsLawfulPrefix, IsNonEmptyIfUnsized};
+ghost use Rattle.abi_univariant.specs.Answer.{IsAnswer};
+ghost use Rattle.abi_univariant.specs.Apart.{AreApart};
+ghost use Rattle.abi_univariant.specs.Least.{IsEachOrderTooLarge, IsLeastSize, LiesInSomeOrder};
+ghost use Rattle.abi_univariant.specs.List.{AreSized, HasLawfulAligns};
+ghost use Rattle.abi_univariant.specs.Placement.{IsLawfulPrefix, IsNonEmptyIfUnsized};
 ghost use Rattle.abi_calc.specs.Enums.Single.{HasLawfulScalars, IsSingleAnswer, allowed_niche, allowed_view, single_kind, widened, widened_view};
 
 use crate::calculator::LayoutCalculator;

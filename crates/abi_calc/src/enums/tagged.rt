@@ -5,7 +5,7 @@ ghost use Rattle.abi_base.specs.DataLayout.{IsLawfulDataLayout, size_bound};
 ghost use Rattle.abi_scalar.specs.Lawful.{IsLawfulLayout};
 ghost use Rattle.abi_scalar.specs.Scalar.{IsLawfulScalar, scalar_size};
 ghost use Rattle.abi_scalar.specs.Variant.{variant_of};
-ghost use Rattle.abi_lists.specs.List.{HasLawfulAligns};
+ghost use Rattle.abi_univariant.specs.List.{HasLawfulAligns};
 ghost use Rattle.abi_calc.specs.Enums.Growth.{grown_variant};
 ghost use Rattle.abi_calc.specs.Enums.Lists.{AreListsOf, behind_tag};
 ghost use Rattle.abi_calc.specs.Enums.Payload.{seen_as};
@@ -19,11 +19,11 @@ use crate::enums::lists::behind_tag;
 use crate::enums::payload::{see_as, tagged_view};
 use abi_base::{AbiAlign, Align, HasDataLayout, Integer, Primitive, Size, TargetDataLayout};
 use abi_index::{Idx, IndexList, IndexVec};
-use abi_lists::{ListLayouts, one, rounded};
 use abi_scalar::{
     BackendRepr, FieldsShape, LayoutCalculatorError, LayoutData, LayoutHandle, Niche, ReprOptions,
     Scalar, TagEncoding, VariantLayout, Variants,
 };
+use abi_univariant::{ListLayouts, one, rounded};
 use std::alloc::{AllocError, Global};
 
 /// The greatest alignment of the variants' lists, and no less than that of aggregates.

@@ -1,15 +1,15 @@
 //! What has been read of a type.
 
 ghost use Rattle.std.specs.Prelude.{◌≡◌, ◌++◌, ◌∷◌, [], IfOk, IfErr, OnOk};
-ghost use Rattle.abi_laid.specs.Tree.{tree_of, vector};
+ghost use Rattle.abi_tree.specs.Tree.{tree_of, vector};
 ghost use Rattle.abi_text.specs.Reading.{begun_by, begun_in, coroutine_with, parts_by, put, put_primitive, put_scalar, state_of, waiting, with_member, with_type};
 
 use crate::fault::Fault;
 use crate::reader::repr_text::StructRepr;
 use crate::reader::scalars::full;
 use abi_base::{Primitive, TargetDataLayout};
-use abi_laid::TypeTree;
 use abi_scalar::{ReprOptions, Scalar};
+use abi_tree::TypeTree;
 use std::alloc::{AllocError, Global};
 
 /// What comes next in a coroutine's text, where no type may come.

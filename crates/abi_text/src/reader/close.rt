@@ -1,7 +1,7 @@
 //! Reads closing parentheses.
 
 ghost use Rattle.std.specs.Prelude.{◌≡◌, IfErr, OnOk, Some, map};
-ghost use Rattle.abi_laid.specs.Tree.{coroutine, enum, struct, tree_of, trees};
+ghost use Rattle.abi_tree.specs.Tree.{coroutine, enum, struct, tree_of, trees};
 ghost use Rattle.abi_text.specs.Reading.{Agrees, begun_in, closed, indices_by, part_closed, parts_by, state_of, variant_by, variants_read};
 
 use crate::fault::Fault;
@@ -9,8 +9,8 @@ use crate::reader::begun::{
     CoroutineParts, CoroutineWant, Open, OrderWant, Reader, Want, put, wait_for,
 };
 use crate::reader::repr_text::StructRepr;
-use abi_laid::TypeTree;
 use abi_scalar::ReprOptions;
+use abi_tree::TypeTree;
 use std::alloc::Global;
 
 /// A struct with this order.

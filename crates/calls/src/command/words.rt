@@ -3,9 +3,9 @@
 use crate::command::{Command, Place};
 use crate::stop::{Name, Stop};
 use abi_base::{Align, Integer, Primitive, Size, TargetDataLayout};
-use abi_laid::TypeTree;
 use abi_scalar::{ReprOptions, Scalar};
 use abi_text::{Fault, StructRepr, decimal, next_word, read_type, short, struct_repr, wide};
+use abi_tree::TypeTree;
 
 /// What the word stands for by a table, if it is there.
 pub(crate) fn named<T: Copy>(table: &[(&[u8], T)], word: &[u8]) -> Option<T> {

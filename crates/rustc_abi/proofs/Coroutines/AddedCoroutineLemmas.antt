@@ -21,22 +21,22 @@ use Rattle.abi_calc.specs.Coroutine.Promotion.{promoted_of}
 use Rattle.abi_calc.proofs.CoroutineLemmas.Promised.{IsAsked, map_first, map_picked}
 use Rattle.abi_calc.proofs.CoroutineLemmas.Deep.{coroutine_promised, coroutine_told}
 use Rattle.rustc_abi.specs.declared.error.LayError.{LayError}
-use Rattle.abi_laid.specs.declared.node.Node.{Node}
-use Rattle.abi_laid.specs.Tree.{Tree, Trees, coroutine, trees}
-use Rattle.abi_laid.specs.Placed.{Placed, layout_of, size_of}
+use Rattle.abi_tree.specs.declared.node.Node.{Node}
+use Rattle.abi_tree.specs.Tree.{Tree, Trees, coroutine, trees}
+use Rattle.abi_tree.specs.Placed.{Placed, layout_of, size_of}
 use Rattle.abi_scalar.specs.Layout.{Layout}
-use Rattle.abi_laid.specs.Fits.{Fits}
-use Rattle.abi_laid.specs.Nodes.{placed_in, types_in}
+use Rattle.abi_tree.specs.Fits.{Fits}
+use Rattle.abi_tree.specs.Nodes.{placed_in, types_in}
 use Rattle.rustc_abi.specs.Coroutines.{IsCoroutined, conflicts_of}
 use Rattle.rustc_abi.specs.Error.{IsRefused}
 use Rattle.rustc_abi.specs.Laying.{AreLaying, IsCoroutineOf, IsLaying, coroutine_fault, one_scalar, placed_coroutine}
-use Rattle.abi_laid.specs.Well.{IsPut, all_at}
+use Rattle.abi_tree.specs.Well.{IsPut, all_at}
 use Rattle.rustc_abi.specs.Adding.{AreAdded, EachFits, IsAdded}
 use Rattle.rustc_abi.proofs.Faults.CoroutineFaultLemmas.{conflict_rows, some_state, states_once, states_within}
 use Rattle.rustc_abi.proofs.Coroutines.CoroutineLemmas.{Fits-states, IsStatesLayout}
 use Rattle.rustc_abi.proofs.Trees.LayLemmas.{IsAdded-put, all_at-kept}
 use Rattle.rustc_abi.proofs.Trees.ListLemmas.{map_sizes}
-use Rattle.abi_laid.proofs.Meaning.NodesLemmas.{Keeps-trans, length-types_in}
+use Rattle.abi_tree.proofs.Meaning.NodesLemmas.{Keeps-trans, length-types_in}
 use Rattle.rustc_abi.proofs.Coroutines.StateFlagLemmas.{HaveOwnFlags, IsFlaggedBy, flagged_by, sizes_picked}
 use Rattle.rustc_abi.proofs.Coroutines.StatePlacesLemmas.{EachStateApart}
 

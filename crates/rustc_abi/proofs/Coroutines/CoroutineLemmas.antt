@@ -14,18 +14,18 @@ use Rattle.abi_scalar.specs.declared.variants.VariantLayout.{VariantLayout}
 use Rattle.abi_scalar.specs.Lawful.{IsLawfulLayout}
 use Rattle.abi_scalar.specs.Range.{numbers_of}
 use Rattle.abi_scalar.specs.Scalar.{scalar_size, IsNumberOf}
-use Rattle.abi_lists.specs.Apart.{AreApart}
-use Rattle.abi_lists.specs.Placement.{source_order}
-use Rattle.abi_laid.specs.Tree.{Tree, coroutine, Trees, no_trees, more_trees}
-use Rattle.abi_laid.specs.Value.{Value, number, two, list, variant, state, bytes, Values, no_values, more_values}
-use Rattle.abi_laid.specs.declared.mark.Mark.TheVariants.{Plain}
-use Rattle.abi_laid.specs.Placed.{Placed, Parts, part, first_part, more_parts, Arms, layout_of, size_of, states, parts_of_arm}
+use Rattle.abi_univariant.specs.Apart.{AreApart}
+use Rattle.abi_univariant.specs.Placement.{source_order}
+use Rattle.abi_tree.specs.Tree.{Tree, coroutine, Trees, no_trees, more_trees}
+use Rattle.abi_tree.specs.Value.{Value, number, two, list, variant, state, bytes, Values, no_values, more_values}
+use Rattle.abi_tree.specs.declared.mark.Mark.TheVariants.{Plain}
+use Rattle.abi_tree.specs.Placed.{Placed, Parts, part, first_part, more_parts, Arms, layout_of, size_of, states, parts_of_arm}
 use Rattle.abi_scalar.specs.Layout.{Layout}
-use Rattle.abi_laid.specs.Values.{EachAt, IsValueOf, IsValueAt, HasValue, HaveValues, LocalsHaveValues, LocalsOfEach, VectorsHaveValues}
-use Rattle.abi_laid.specs.Room.{has_room}
-use Rattle.abi_laid.specs.Faithful.{IsFaithful, IsFlagTrue}
-use Rattle.abi_laid.specs.Fits.{Fits}
-use Rattle.abi_laid.specs.Nodes.{parts_at}
+use Rattle.abi_tree.specs.Values.{EachAt, IsValueOf, IsValueAt, HasValue, HaveValues, LocalsHaveValues, LocalsOfEach, VectorsHaveValues}
+use Rattle.abi_tree.specs.Room.{has_room}
+use Rattle.abi_tree.specs.Faithful.{IsFaithful, IsFlagTrue}
+use Rattle.abi_tree.specs.Fits.{Fits}
+use Rattle.abi_tree.specs.Nodes.{parts_at}
 use Rattle.rustc_abi.specs.Enums.{arms_at}
 use Rattle.rustc_abi.specs.Laying.{one_scalar}
 use Rattle.rustc_abi.specs.Adding.{EachFits}
@@ -34,7 +34,7 @@ use Rattle.rustc_abi.proofs.Values.FieldsLemmas.{common_each, room_of, together,
 use Rattle.rustc_abi.proofs.Values.FlagLemmas.{HaveSome, each_flag, flags_true}
 use Rattle.rustc_abi.proofs.Values.AnywhereLemmas.{value_anywhere}
 use Rattle.rustc_abi.proofs.Enums.TaggedLemmas.{unflagged}
-use Rattle.abi_laid.proofs.Places.RoomLemmas.{within_room}
+use Rattle.abi_tree.proofs.Places.RoomLemmas.{within_room}
 use Rattle.rustc_abi.proofs.Enums.EnumLemmas.{some_niche}
 use Rattle.rustc_abi.proofs.Coroutines.StateArmsLemmas.{StatesFit, few_states, tree_at, value_at}
 use Rattle.rustc_abi.proofs.Coroutines.StatesLemmas.{states_exists, states_only, states_padding, states_unique}

@@ -12,7 +12,7 @@ use Rattle.abi_calc.specs.Coroutine.Promotion.{promoted_of}
 use Rattle.abi_calc.proofs.CoroutineLemmas.Promotion.{same_promoted}
 use Rattle.abi_calc.proofs.CoroutineLemmas.SameCoroutine.{same_coroutine}
 use Rattle.abi_calc.proofs.EnumLemmas.SameType.{of_err, of_ok}
-use Rattle.abi_laid.specs.Placed.{Placed, layout_of}
+use Rattle.abi_tree.specs.Placed.{Placed, layout_of}
 use Rattle.abi_scalar.specs.Layout.{Layout}
 use Rattle.rustc_abi.specs.Coroutines.{IsCoroutined, IsStated, conflicts_of}
 use Rattle.rustc_abi.specs.Error.{IsRefused, lay_error}

@@ -8,17 +8,17 @@ use Rattle.abi_scalar.specs.declared.scalar.Scalar.{Scalar}
 use Rattle.abi_scalar.specs.declared.scalar.Scalar.TheVariants.{Initialized, Union}
 use Rattle.abi_scalar.specs.Range.{numbers_of}
 use Rattle.abi_scalar.specs.Scalar.{IsNumberOf}
-use Rattle.abi_laid.specs.Tree.{Tree, never, Trees, no_trees, more_trees}
-use Rattle.abi_laid.specs.Bytes.{AreBytes, bytes_at, number_of}
-use Rattle.abi_laid.specs.Value.{Value, Values, no_values, more_values}
-use Rattle.abi_laid.specs.Placed.{Placed, Parts, no_parts, part, Arms, no_arms, arm, size_of, parts_of_arm}
-use Rattle.abi_laid.specs.Places.{is_place_of_part, is_place_of_arm}
-use Rattle.abi_laid.specs.Tag.{NamesDirectly}
-use Rattle.abi_laid.specs.Values.{EachAt, IsValueOf, AreValuesOf, IsValueAt}
-use Rattle.abi_laid.specs.Holding.{Holds, HoldParts, HoldArm, tag_at}
-use Rattle.abi_laid.specs.Faithful.{IsFaithful}
-use Rattle.abi_laid.proofs.Bytes.BytesLemmas.{put, length-put, bytes_at-put, AreBytes-put, spelled_in, length-spelled_in, number_of-spelled_in, AreBytes-spelled_in}
-use Rattle.abi_laid.proofs.Bytes.HoldLemmas.{length-Holds}
+use Rattle.abi_tree.specs.Tree.{Tree, never, Trees, no_trees, more_trees}
+use Rattle.abi_tree.specs.Bytes.{AreBytes, bytes_at, number_of}
+use Rattle.abi_tree.specs.Value.{Value, Values, no_values, more_values}
+use Rattle.abi_tree.specs.Placed.{Placed, Parts, no_parts, part, Arms, no_arms, arm, size_of, parts_of_arm}
+use Rattle.abi_tree.specs.Places.{is_place_of_part, is_place_of_arm}
+use Rattle.abi_tree.specs.Tag.{NamesDirectly}
+use Rattle.abi_tree.specs.Values.{EachAt, IsValueOf, AreValuesOf, IsValueAt}
+use Rattle.abi_tree.specs.Holding.{Holds, HoldParts, HoldArm, tag_at}
+use Rattle.abi_tree.specs.Faithful.{IsFaithful}
+use Rattle.abi_tree.proofs.Bytes.BytesLemmas.{put, length-put, bytes_at-put, AreBytes-put, spelled_in, length-spelled_in, number_of-spelled_in, AreBytes-spelled_in}
+use Rattle.abi_tree.proofs.Bytes.HoldLemmas.{length-Holds}
 use Rattle.rustc_abi.proofs.Values.PartsLemmas.{LieBeside, FitTogether, HoldParts-beside, exist, only, unique, padding}
 use Rattle.rustc_abi.proofs.Enums.TaggedLemmas.{HaveNumbers, IsNoNumber, NumbersDiffer, none_flagged}
 use Rattle.rustc_abi.proofs.Enums.EnumLemmas.{in_below}

@@ -5,9 +5,9 @@ use Rattle.std.specs.List.{cons_option, filter, list_all, list_any}
 use Rattle.std.proofs.lemmas.Bool.{and_parts}
 use Rattle.std.proofs.lemmas.List.Elements.{All-head, All-tail}
 use Rattle.std.proofs.Math.Bool.{or-true}
-use Rattle.abi_laid.specs.Placed.{Placed, layout_of, size_of}
+use Rattle.abi_tree.specs.Placed.{Placed, layout_of, size_of}
 use Rattle.abi_scalar.specs.Layout.{Layout}
-use Rattle.abi_laid.specs.Nodes.{placed_in}
+use Rattle.abi_tree.specs.Nodes.{placed_in}
 use Rattle.rustc_abi.proofs.Trees.ListLemmas.{map_sizes}
 use Rattle.rustc_abi.proofs.Coroutines.StatePlacesLemmas.{picked_types}
 

@@ -10,9 +10,9 @@ use Rattle.abi_scalar.specs.Lawful.{IsLawfulLayout}
 use Rattle.abi_scalar.specs.Shape.{listed_offsets}
 use Rattle.abi_calc.specs.Coroutine.Layout.{IsStateTag}
 use Rattle.rustc_abi.specs.Coroutines.{IsCoroutined}
-use Rattle.abi_laid.specs.Laws.{have_places}
+use Rattle.abi_tree.specs.Laws.{have_places}
 use Rattle.rustc_abi.specs.Laying.{coroutine_fault, most_fields, one_scalar}
-use Rattle.abi_laid.specs.Placed.{Placed, layout_of, size_of}
+use Rattle.abi_tree.specs.Placed.{Placed, layout_of, size_of}
 use Rattle.abi_scalar.specs.Layout.{Layout}
 use Rattle.rustc_abi.proofs.Faults.CoroutineFaultLemmas.{few_items}
 use Rattle.rustc_abi.proofs.Places.InsideLemmas.{coroutine_places}

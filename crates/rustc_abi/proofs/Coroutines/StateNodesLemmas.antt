@@ -10,19 +10,19 @@ use Rattle.std.proofs.lemmas.Simd.{map-map}
 use Rattle.abi_scalar.specs.declared.variants.VariantLayout.{VariantLayout}
 use Rattle.abi_scalar.specs.Shape.{listed_offsets}
 use Rattle.abi_scalar.specs.Variant.{variants_of}
-use Rattle.abi_lists.specs.Placement.{source_order}
-use Rattle.abi_laid.specs.declared.node.Shape.TheVariants.{States}
-use Rattle.abi_laid.specs.declared.node.Node.{Node}
-use Rattle.abi_laid.specs.declared.mark.Mark.TheVariants.{Plain}
-use Rattle.abi_laid.specs.Placed.{Placed, size_of, states, Parts, Arms, nothing}
+use Rattle.abi_univariant.specs.Placement.{source_order}
+use Rattle.abi_tree.specs.declared.node.Shape.TheVariants.{States}
+use Rattle.abi_tree.specs.declared.node.Node.{Node}
+use Rattle.abi_tree.specs.declared.mark.Mark.TheVariants.{Plain}
+use Rattle.abi_tree.specs.Placed.{Placed, size_of, states, Parts, Arms, nothing}
 use Rattle.abi_scalar.specs.Layout.{Layout}
-use Rattle.abi_laid.specs.Nodes.{placed_in, parts_at, arms_in, state_tag_offset, meaning, types_in, Keeps}
+use Rattle.abi_tree.specs.Nodes.{placed_in, parts_at, arms_in, state_tag_offset, meaning, types_in, Keeps}
 use Rattle.rustc_abi.specs.Enums.{arms_at}
 use Rattle.rustc_abi.specs.Inside.{VariantsInside}
-use Rattle.abi_laid.specs.Laws.{have_places, keeps_laws, sizes_at}
-use Rattle.abi_laid.specs.Well.{IsPut, all_at, is_node}
+use Rattle.abi_tree.specs.Laws.{have_places, keeps_laws, sizes_at}
+use Rattle.abi_tree.specs.Well.{IsPut, all_at, is_node}
 use Rattle.rustc_abi.specs.Adding.{AreArms, variants_in}
-use Rattle.abi_laid.proofs.Meaning.NodesLemmas.{length-types_in, Keeps-trans}
+use Rattle.abi_tree.proofs.Meaning.NodesLemmas.{length-types_in, Keeps-trans}
 use Rattle.rustc_abi.proofs.Trees.ListLemmas.{all_below}
 use Rattle.rustc_abi.proofs.Trees.LayLemmas.{all_at-kept}
 use Rattle.rustc_abi.proofs.Enums.ArmNodesLemmas.{tagged_before}

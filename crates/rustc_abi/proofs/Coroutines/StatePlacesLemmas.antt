@@ -7,17 +7,17 @@ use Rattle.std.proofs.lemmas.List.Elements.{All-head, All-tail}
 use Rattle.abi_base.specs.declared.data_layout.TargetDataLayout.{TargetDataLayout}
 use Rattle.abi_scalar.specs.declared.variants.VariantLayout.{VariantLayout}
 use Rattle.abi_scalar.specs.Variant.{variant_layout}
-use Rattle.abi_lists.specs.Apart.{AreApart, IsBeside}
-use Rattle.abi_laid.specs.Tree.{Trees, no_trees, more_trees}
-use Rattle.abi_laid.specs.declared.mark.Mark.TheVariants.{Plain}
-use Rattle.abi_laid.specs.Placed.{Placed, Arms, no_arms, arm, size_of}
+use Rattle.abi_univariant.specs.Apart.{AreApart, IsBeside}
+use Rattle.abi_tree.specs.Tree.{Trees, no_trees, more_trees}
+use Rattle.abi_tree.specs.declared.mark.Mark.TheVariants.{Plain}
+use Rattle.abi_tree.specs.Placed.{Placed, Arms, no_arms, arm, size_of}
 use Rattle.abi_scalar.specs.Layout.{Layout}
-use Rattle.abi_laid.specs.Values.{LocalsHaveValues, LocalsOfEach}
-use Rattle.abi_laid.specs.Room.{arms_have_room}
-use Rattle.abi_laid.specs.Fits.{Fits}
-use Rattle.abi_laid.specs.Unions.{IsCommon, InUnionsOfArms}
-use Rattle.abi_laid.specs.Untagged.{UntaggedNamedOfArms}
-use Rattle.abi_laid.specs.Nodes.{parts_at, placed_in}
+use Rattle.abi_tree.specs.Values.{LocalsHaveValues, LocalsOfEach}
+use Rattle.abi_tree.specs.Room.{arms_have_room}
+use Rattle.abi_tree.specs.Fits.{Fits}
+use Rattle.abi_tree.specs.Unions.{IsCommon, InUnionsOfArms}
+use Rattle.abi_tree.specs.Untagged.{UntaggedNamedOfArms}
+use Rattle.abi_tree.specs.Nodes.{parts_at, placed_in}
 use Rattle.rustc_abi.specs.Enums.{arms_at}
 use Rattle.rustc_abi.specs.Adding.{EachFits}
 use Rattle.rustc_abi.proofs.Values.PartsLemmas.{LieBeside}

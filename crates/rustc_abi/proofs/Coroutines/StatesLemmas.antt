@@ -8,19 +8,19 @@ use Rattle.abi_base.specs.declared.data_layout.TargetDataLayout.{TargetDataLayou
 use Rattle.abi_scalar.specs.declared.scalar.Scalar.{Scalar}
 use Rattle.abi_scalar.specs.Range.{numbers_of}
 use Rattle.abi_scalar.specs.Scalar.{scalar_size, IsNumberOf}
-use Rattle.abi_laid.specs.Tree.{Tree, coroutine, Trees}
-use Rattle.abi_laid.specs.Bytes.{AreBytes, bytes_at, number_of}
-use Rattle.abi_laid.specs.Value.{Value, number, two, list, variant, state, bytes}
-use Rattle.abi_laid.specs.Placed.{Placed, Parts, Arms, size_of, states}
+use Rattle.abi_tree.specs.Tree.{Tree, coroutine, Trees}
+use Rattle.abi_tree.specs.Bytes.{AreBytes, bytes_at, number_of}
+use Rattle.abi_tree.specs.Value.{Value, number, two, list, variant, state, bytes}
+use Rattle.abi_tree.specs.Placed.{Placed, Parts, Arms, size_of, states}
 use Rattle.abi_scalar.specs.Layout.{Layout}
-use Rattle.abi_laid.specs.Places.{is_data_place, is_place_of_part, is_place_of_arm}
-use Rattle.abi_laid.specs.Tag.{NamesDirectly}
-use Rattle.abi_laid.specs.Values.{IsValueOf}
-use Rattle.abi_laid.specs.Holding.{Holds, HoldArm, tag_at}
-use Rattle.abi_laid.specs.Faithful.{AgreeOn}
+use Rattle.abi_tree.specs.Places.{is_data_place, is_place_of_part, is_place_of_arm}
+use Rattle.abi_tree.specs.Tag.{NamesDirectly}
+use Rattle.abi_tree.specs.Values.{IsValueOf}
+use Rattle.abi_tree.specs.Holding.{Holds, HoldArm, tag_at}
+use Rattle.abi_tree.specs.Faithful.{AgreeOn}
 use Rattle.rustc_abi.specs.Laying.{one_scalar}
-use Rattle.abi_laid.proofs.Bytes.BytesLemmas.{same_bytes}
-use Rattle.abi_laid.proofs.Bytes.HoldLemmas.{length-bytes_at, AgreeOn-bytes_at}
+use Rattle.abi_tree.proofs.Bytes.BytesLemmas.{same_bytes}
+use Rattle.abi_tree.proofs.Bytes.HoldLemmas.{length-bytes_at, AgreeOn-bytes_at}
 use Rattle.rustc_abi.proofs.Values.PartsLemmas.{only, unique, padding}
 use Rattle.rustc_abi.proofs.Enums.TaggedLemmas.{names_one, names_number}
 use Rattle.rustc_abi.proofs.Coroutines.StateArmsLemmas.{StatesFit, InState, states_numbers, states_differ, state_only, state_unique, state_padding, in_state}

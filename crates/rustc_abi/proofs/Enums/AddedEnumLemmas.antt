@@ -21,16 +21,16 @@ use Rattle.rustc_abi.specs.declared.error.LayError.{LayError}
 use Rattle.rustc_abi.specs.declared.error.LayError.TheVariants.{OutOfMemory}
 use Rattle.std.specs.Prelude.{Vec}
 use Rattle.std.specs.declared.alloc.Global.{Global}
-use Rattle.abi_laid.specs.declared.node.Node.{Node}
-use Rattle.abi_laid.specs.Tree.{Variants, enum}
-use Rattle.abi_laid.specs.Placed.{Placed, layout_of}
+use Rattle.abi_tree.specs.declared.node.Node.{Node}
+use Rattle.abi_tree.specs.Tree.{Variants, enum}
+use Rattle.abi_tree.specs.Placed.{Placed, layout_of}
 use Rattle.abi_scalar.specs.Layout.{Layout}
 use Rattle.rustc_abi.specs.Error.{IsRefused, lay_error}
 use Rattle.rustc_abi.specs.Enums.{IsCalculated, IsEnumed, IsTagIntegerAnswer, discriminants_of, layouts_of, numbered_from}
 use Rattle.rustc_abi.specs.Laying.{IsEnumOf, IsLaying, VariantsLaying, enum_fault, placed_enum}
-use Rattle.abi_laid.specs.Well.{IsPut}
+use Rattle.abi_tree.specs.Well.{IsPut}
 use Rattle.rustc_abi.specs.Adding.{HasReadableTag, HasVariants, IsAdded, VariantsFit, variants_in}
-use Rattle.abi_laid.specs.Nodes.{placed_in, types_in}
+use Rattle.abi_tree.specs.Nodes.{placed_in, types_in}
 use Rattle.rustc_abi.proofs.Enums.CalculatedLemmas.{calculated_fits, calculated_tag, calculated_variants}
 use Rattle.rustc_abi.proofs.Trees.LaidLemmas.{aligns_of, each_of, numbers_for, tags_of}
 use Rattle.rustc_abi.proofs.Trees.LayLemmas.{VariantsFit-lawful, IsAdded-put}

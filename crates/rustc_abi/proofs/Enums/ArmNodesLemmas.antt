@@ -13,19 +13,19 @@ use Rattle.std.proofs.lemmas.Simd.{map-map}
 use Rattle.abi_scalar.specs.declared.variants.VariantLayout.{VariantLayout}
 use Rattle.abi_scalar.specs.Shape.{listed_offsets}
 use Rattle.abi_scalar.specs.Variant.{variant_layout, variants_of}
-use Rattle.abi_laid.specs.declared.node.Shape.TheVariants.{Fields, Tagged}
-use Rattle.abi_laid.specs.declared.node.Node.{Node}
-use Rattle.abi_laid.specs.declared.mark.Mark.{Mark}
-use Rattle.abi_laid.specs.Placed.{Placed, layout_of, size_of, tagged, Parts, Arms, no_arms, arm}
+use Rattle.abi_tree.specs.declared.node.Shape.TheVariants.{Fields, Tagged}
+use Rattle.abi_tree.specs.declared.node.Node.{Node}
+use Rattle.abi_tree.specs.declared.mark.Mark.{Mark}
+use Rattle.abi_tree.specs.Placed.{Placed, layout_of, size_of, tagged, Parts, Arms, no_arms, arm}
 use Rattle.abi_scalar.specs.Layout.{Layout}
-use Rattle.abi_laid.specs.Nodes.{placed_in, parts_at, arms_in, own_arm, own_fields, own_mark, encoding_of, tag_offset, meaning, types_in, placed_at, Keeps}
+use Rattle.abi_tree.specs.Nodes.{placed_in, parts_at, arms_in, own_arm, own_fields, own_mark, encoding_of, tag_offset, meaning, types_in, placed_at, Keeps}
 use Rattle.rustc_abi.specs.Enums.{arms_at}
 use Rattle.rustc_abi.specs.Inside.{EndInside, IsFlaggedByField, VariantsInside}
-use Rattle.abi_laid.specs.Deciding.{are_inhabited}
-use Rattle.abi_laid.specs.Laws.{has_list, have_lists, have_places, is_listed, keeps_laws, sizes_at}
-use Rattle.abi_laid.specs.Well.{IsPut, all_at, is_node}
+use Rattle.abi_tree.specs.Deciding.{are_inhabited}
+use Rattle.abi_tree.specs.Laws.{has_list, have_lists, have_places, is_listed, keeps_laws, sizes_at}
+use Rattle.abi_tree.specs.Well.{IsPut, all_at, is_node}
 use Rattle.rustc_abi.specs.Adding.{AreArms, variants_in}
-use Rattle.abi_laid.proofs.Meaning.NodesLemmas.{length-types_in, Keeps-trans}
+use Rattle.abi_tree.proofs.Meaning.NodesLemmas.{length-types_in, Keeps-trans}
 use Rattle.rustc_abi.proofs.Trees.ListLemmas.{all_below}
 use Rattle.rustc_abi.proofs.Trees.LayLemmas.{all_at-kept}
 use Rattle.rustc_abi.proofs.Places.LawsLemmas.{own_laws, several_laws}

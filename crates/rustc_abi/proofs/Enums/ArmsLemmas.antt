@@ -8,23 +8,23 @@ use Rattle.abi_scalar.specs.declared.repr.ReprOptions.{ReprOptions}
 use Rattle.abi_scalar.specs.declared.variants.TagEncoding.{TagEncoding}
 use Rattle.abi_scalar.specs.declared.variants.VariantLayout.{VariantLayout}
 use Rattle.abi_scalar.specs.Variant.{variant_layout}
-use Rattle.abi_lists.specs.Apart.{AreApart, IsBeside}
+use Rattle.abi_univariant.specs.Apart.{AreApart, IsBeside}
 use Rattle.abi_calc.specs.Enums.Beside.{AreApartBeside}
 use Rattle.abi_calc.specs.Enums.Discriminants.{inhabited_of}
 use Rattle.abi_calc.specs.Enums.Path.{has_no_value, variant_at}
 use Rattle.abi_calc.specs.Enums.Places.{AreApartBehind}
-use Rattle.abi_laid.specs.Tree.{enum, Trees, no_trees, Variants, no_variants, more_variants}
-use Rattle.abi_laid.specs.declared.mark.Mark.{Mark}
-use Rattle.abi_laid.specs.Mark.{mark_of}
-use Rattle.abi_laid.specs.Placed.{Placed, layout_of, size_of, Arms, arm, tagged, parts_of_arm, is_flagged}
+use Rattle.abi_tree.specs.Tree.{enum, Trees, no_trees, Variants, no_variants, more_variants}
+use Rattle.abi_tree.specs.declared.mark.Mark.{Mark}
+use Rattle.abi_tree.specs.Mark.{mark_of}
+use Rattle.abi_tree.specs.Placed.{Placed, layout_of, size_of, Arms, arm, tagged, parts_of_arm, is_flagged}
 use Rattle.abi_scalar.specs.Layout.{Layout}
-use Rattle.abi_laid.specs.Room.{arms_have_room}
-use Rattle.abi_laid.specs.Value.{Value, number, two, list, variant, state, bytes, Values}
-use Rattle.abi_laid.specs.Values.{IsValueOf, AreValuesOfVariant, LocalsOfVariants, VectorsOfVariants}
-use Rattle.abi_laid.specs.Faithful.{IsFlagTrue}
-use Rattle.abi_laid.specs.Unions.{IsCommon, InUnionsOfArms}
-use Rattle.abi_laid.specs.Untagged.{UntaggedNamedOfArms}
-use Rattle.abi_laid.specs.Nodes.{parts_at}
+use Rattle.abi_tree.specs.Room.{arms_have_room}
+use Rattle.abi_tree.specs.Value.{Value, number, two, list, variant, state, bytes, Values}
+use Rattle.abi_tree.specs.Values.{IsValueOf, AreValuesOfVariant, LocalsOfVariants, VectorsOfVariants}
+use Rattle.abi_tree.specs.Faithful.{IsFlagTrue}
+use Rattle.abi_tree.specs.Unions.{IsCommon, InUnionsOfArms}
+use Rattle.abi_tree.specs.Untagged.{UntaggedNamedOfArms}
+use Rattle.abi_tree.specs.Nodes.{parts_at}
 use Rattle.rustc_abi.specs.Enums.{arms_at, discriminants_of, layouts_of, numbered_from}
 use Rattle.rustc_abi.specs.Adding.{VariantsFit}
 use Rattle.rustc_abi.proofs.Values.FieldsLemmas.{beside_parts, common_each, room_of, together, untagged_each}

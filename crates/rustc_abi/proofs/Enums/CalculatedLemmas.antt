@@ -17,9 +17,9 @@ use Rattle.abi_scalar.specs.Shape.{listed_offsets}
 use Rattle.abi_scalar.specs.Simple.{never_layout}
 use Rattle.abi_scalar.proofs.LawfulLemmas.{empty_lawful}
 use Rattle.abi_scalar.proofs.ReadableLemmas.{lawful_readable}
-use Rattle.abi_lists.specs.List.{HasLawfulAligns}
-use Rattle.abi_lists.specs.ListView.{list_view}
-use Rattle.abi_lists.specs.Part.{parts_of}
+use Rattle.abi_univariant.specs.List.{HasLawfulAligns}
+use Rattle.abi_univariant.specs.ListView.{list_view}
+use Rattle.abi_univariant.specs.Part.{parts_of}
 use Rattle.abi_calc.specs.declared.enums.path.Path.{Path}
 use Rattle.abi_calc.specs.declared.enums.path.Path.TheVariants.{NoValue, OneList, Several}
 use Rattle.abi_calc.specs.Enums.Answer.{HasOneEach, IsTypeAnswer}
@@ -31,12 +31,12 @@ use Rattle.abi_calc.proofs.EnumLemmas.Deep.{enum_flag, enum_lawful, enum_told}
 use Rattle.abi_calc.proofs.EnumLemmas.Single.{single_lawful}
 use Rattle.abi_calc.proofs.EnumLemmas.Whole.{index_within, several_some}
 use Rattle.abi_calc.proofs.EnumLemmas.GoodLists.{good_list}
-use Rattle.abi_laid.specs.Tree.{Variants, enum, struct}
-use Rattle.abi_laid.specs.Mark.{mark_of}
-use Rattle.abi_laid.specs.Placed.{Placed, layout_of, fields}
+use Rattle.abi_tree.specs.Tree.{Variants, enum, struct}
+use Rattle.abi_tree.specs.Mark.{mark_of}
+use Rattle.abi_tree.specs.Placed.{Placed, layout_of, fields}
 use Rattle.abi_scalar.specs.Layout.{Layout}
-use Rattle.abi_laid.specs.Fits.{Fits}
-use Rattle.abi_laid.specs.Nodes.{parts_at}
+use Rattle.abi_tree.specs.Fits.{Fits}
+use Rattle.abi_tree.specs.Nodes.{parts_at}
 use Rattle.rustc_abi.specs.Enums.{IsCalculated, IsTagIntegerAnswer, discriminants_of, layouts_of, numbered_from}
 use Rattle.rustc_abi.specs.Laying.{placed_enum}
 use Rattle.rustc_abi.specs.Adding.{HasReadableTag, HasVariants, VariantsFit}

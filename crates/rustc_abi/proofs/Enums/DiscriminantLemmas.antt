@@ -10,8 +10,8 @@ use Rattle.std.proofs.lemmas.List.Edits.{Swapped, swapped_from_swap, length-swap
 use Rattle.std.proofs.lemmas.List.Elements.{All-from_get_or}
 use Rattle.std.proofs.lemmas.List.Folds.{list_any_none, list_any_at}
 use Rattle.std.proofs.lemmas.List.Sorted.{IsPermutation-keeps, IsPermutation-sym}
-use Rattle.abi_laid.specs.declared.tree.TypeTree.{TypeTree}
-use Rattle.abi_laid.specs.Tree.{trees_of_variants}
+use Rattle.abi_tree.specs.declared.tree.TypeTree.{TypeTree}
+use Rattle.abi_tree.specs.Tree.{trees_of_variants}
 use Rattle.rustc_abi.specs.Enums.{discriminants_of, has_equal, numbered_from}
 
 -- the discriminants of a list of variants are their first parts

@@ -26,27 +26,27 @@ use Rattle.abi_calc.specs.Enums.Payload.{BeginsWithTag, IsWide}
 use Rattle.abi_scalar.specs.Shape.{listed_offsets}
 use Rattle.abi_calc.specs.Enums.Places.{AreApartBehind}
 use Rattle.abi_calc.specs.Enums.Discriminants.{inhabited_of}
-use Rattle.abi_laid.specs.Tree.{enum, Trees, no_trees, more_trees, Variants, no_variants, more_variants}
-use Rattle.abi_laid.specs.Bytes.{bytes_at, number_of}
-use Rattle.abi_laid.specs.Value.{Value, number, two, list, variant, state, bytes, Values, no_values, more_values}
-use Rattle.abi_laid.specs.declared.mark.Mark.{Mark}
-use Rattle.abi_laid.specs.Mark.{mark_of}
-use Rattle.abi_laid.specs.Placed.{Placed, Arms, layout_of, size_of, tagged}
+use Rattle.abi_tree.specs.Tree.{enum, Trees, no_trees, more_trees, Variants, no_variants, more_variants}
+use Rattle.abi_tree.specs.Bytes.{bytes_at, number_of}
+use Rattle.abi_tree.specs.Value.{Value, number, two, list, variant, state, bytes, Values, no_values, more_values}
+use Rattle.abi_tree.specs.declared.mark.Mark.{Mark}
+use Rattle.abi_tree.specs.Mark.{mark_of}
+use Rattle.abi_tree.specs.Placed.{Placed, Arms, layout_of, size_of, tagged}
 use Rattle.abi_scalar.specs.Layout.{Layout}
-use Rattle.abi_laid.specs.Room.{has_room}
-use Rattle.abi_laid.specs.Holding.{Holds, HoldParts, HoldArm}
-use Rattle.abi_laid.specs.Faithful.{IsFaithful, IsTrueOf, IsScalarTrue}
-use Rattle.abi_laid.specs.Fits.{Fits}
-use Rattle.abi_laid.specs.Nodes.{parts_at}
+use Rattle.abi_tree.specs.Room.{has_room}
+use Rattle.abi_tree.specs.Holding.{Holds, HoldParts, HoldArm}
+use Rattle.abi_tree.specs.Faithful.{IsFaithful, IsTrueOf, IsScalarTrue}
+use Rattle.abi_tree.specs.Fits.{Fits}
+use Rattle.abi_tree.specs.Nodes.{parts_at}
 use Rattle.rustc_abi.specs.Enums.{arms_at, discriminants_of, layouts_of, numbered_from}
 use Rattle.rustc_abi.specs.Laying.{one_scalar, placed_enum, placed_variants}
 use Rattle.rustc_abi.specs.Adding.{EachFits, VariantsFit}
-use Rattle.abi_laid.specs.Values.{LocalsOfVariants}
+use Rattle.abi_tree.specs.Values.{LocalsOfVariants}
 use Rattle.rustc_abi.proofs.Values.ViewLemmas.{true_in}
 use Rattle.rustc_abi.proofs.Values.PartsLemmas.{FitTogether}
 use Rattle.rustc_abi.proofs.Enums.TaggedLemmas.{ArmsFit, open_numbers, have_numbers, numbers_differ, HaveNumbers, NumbersDiffer, tagged_number, tagged_exists, tagged_only, tagged_unique, tagged_padding}
 use Rattle.rustc_abi.proofs.Enums.ArmsLemmas.{apart_behind, arms_room, open_as, flag_arms, arms_flag, arms_fit, arms_common, arms_untagged}
-use Rattle.abi_laid.proofs.Places.RoomLemmas.{within_room}
+use Rattle.abi_tree.proofs.Places.RoomLemmas.{within_room}
 use Rattle.rustc_abi.proofs.Enums.TagViewLemmas.{in_full, tag_true, tag_niche_true, tag_niche_inside}
 
 -- ---- the second scalar of a view that begins with a tag

@@ -19,7 +19,7 @@ use Rattle.abi_scalar.specs.Shape.{listed_offsets}
 use Rattle.abi_scalar.specs.Simple.{never_layout}
 use Rattle.abi_scalar.specs.Variant.{variants_of}
 use Rattle.abi_scalar.specs.declared.variants.Variants.TheVariants.{Single as OneVariant}
-use Rattle.abi_lists.specs.Apart.{AreApart}
+use Rattle.abi_univariant.specs.Apart.{AreApart}
 use Rattle.abi_calc.specs.declared.enums.path.Path.{Path}
 use Rattle.abi_calc.specs.declared.enums.path.Path.TheVariants.{NoValue, OneList, Several}
 use Rattle.abi_calc.specs.Enums.Answer.{IsTypeAnswer}
@@ -29,17 +29,17 @@ use Rattle.abi_calc.specs.Enums.Places.{AreApartBehind}
 use Rattle.abi_calc.proofs.EnumLemmas.GoodLists.{good_list}
 use Rattle.std.specs.Prelude.{Vec}
 use Rattle.std.specs.declared.alloc.Global.{Global}
-use Rattle.abi_laid.specs.declared.mark.Mark.{Mark}
-use Rattle.abi_laid.specs.declared.node.Node.{Node}
-use Rattle.abi_laid.specs.declared.node.Shape.TheVariants.{Single}
-use Rattle.abi_laid.specs.Well.{all_at}
+use Rattle.abi_tree.specs.declared.mark.Mark.{Mark}
+use Rattle.abi_tree.specs.declared.node.Node.{Node}
+use Rattle.abi_tree.specs.declared.node.Shape.TheVariants.{Single}
+use Rattle.abi_tree.specs.Well.{all_at}
 use Rattle.rustc_abi.specs.Adding.{variants_in}
-use Rattle.abi_laid.specs.Nodes.{placed_in, types_in}
+use Rattle.abi_tree.specs.Nodes.{placed_in, types_in}
 use Rattle.rustc_abi.specs.Enums.{IsEnumed, IsTagIntegerAnswer, layouts_of, numbered_from}
-use Rattle.abi_laid.specs.Laws.{have_places, keeps_laws, sizes_at}
+use Rattle.abi_tree.specs.Laws.{have_places, keeps_laws, sizes_at}
 use Rattle.rustc_abi.specs.Adding.{HavePlaces}
 use Rattle.rustc_abi.specs.Laying.{enum_fault, most_fields}
-use Rattle.abi_laid.specs.Placed.{Placed, layout_of, size_of}
+use Rattle.abi_tree.specs.Placed.{Placed, layout_of, size_of}
 use Rattle.abi_scalar.specs.Layout.{Layout}
 use Rattle.rustc_abi.proofs.Enums.ArmsLemmas.{apart_beside}
 use Rattle.rustc_abi.proofs.Enums.CalculatedLemmas.{lawful_at, some_variant, told}

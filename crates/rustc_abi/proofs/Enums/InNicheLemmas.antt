@@ -14,20 +14,20 @@ use Rattle.abi_scalar.specs.declared.wrapping_range.WrappingRange.{WrappingRange
 use Rattle.abi_scalar.specs.Range.{numbers_of, IsIn}
 use Rattle.abi_scalar.specs.Niche.{niche_size}
 use Rattle.abi_scalar.specs.Reserve.{HandsOut}
-use Rattle.abi_laid.specs.Tree.{Tree, enum, Variants, no_variants, more_variants}
-use Rattle.abi_laid.specs.Bytes.{AreBytes, bytes_at, number_of}
-use Rattle.abi_laid.specs.Value.{Value, number, two, list, variant, state, bytes, Values}
-use Rattle.abi_laid.specs.Mark.{mark_of}
-use Rattle.abi_laid.specs.Placed.{Placed, Arms, no_arms, arm, size_of, tagged, parts_of_arm, is_flagged}
+use Rattle.abi_tree.specs.Tree.{Tree, enum, Variants, no_variants, more_variants}
+use Rattle.abi_tree.specs.Bytes.{AreBytes, bytes_at, number_of}
+use Rattle.abi_tree.specs.Value.{Value, number, two, list, variant, state, bytes, Values}
+use Rattle.abi_tree.specs.Mark.{mark_of}
+use Rattle.abi_tree.specs.Placed.{Placed, Arms, no_arms, arm, size_of, tagged, parts_of_arm, is_flagged}
 use Rattle.abi_scalar.specs.Layout.{Layout}
-use Rattle.abi_laid.specs.Places.{is_data_place, is_place_of_part, is_place_of_arm}
-use Rattle.abi_laid.specs.Tag.{NamesByNiche, niche_number}
-use Rattle.abi_laid.specs.Values.{IsValueOf, AreValuesOfVariant}
-use Rattle.abi_laid.specs.Holding.{Holds, HoldArm, tag_at}
-use Rattle.abi_laid.specs.Faithful.{AgreeOn}
-use Rattle.abi_laid.specs.Untagged.{NamesItself}
-use Rattle.abi_laid.proofs.Bytes.BytesLemmas.{put, length-put, bytes_at-put, AreBytes-put, same_bytes, spelled_in, length-spelled_in, number_of-spelled_in, AreBytes-spelled_in}
-use Rattle.abi_laid.proofs.Bytes.HoldLemmas.{length-bytes_at, AgreeOn-bytes_at}
+use Rattle.abi_tree.specs.Places.{is_data_place, is_place_of_part, is_place_of_arm}
+use Rattle.abi_tree.specs.Tag.{NamesByNiche, niche_number}
+use Rattle.abi_tree.specs.Values.{IsValueOf, AreValuesOfVariant}
+use Rattle.abi_tree.specs.Holding.{Holds, HoldArm, tag_at}
+use Rattle.abi_tree.specs.Faithful.{AgreeOn}
+use Rattle.abi_tree.specs.Untagged.{NamesItself}
+use Rattle.abi_tree.proofs.Bytes.BytesLemmas.{put, length-put, bytes_at-put, AreBytes-put, same_bytes, spelled_in, length-spelled_in, number_of-spelled_in, AreBytes-spelled_in}
+use Rattle.abi_tree.proofs.Bytes.HoldLemmas.{length-bytes_at, AgreeOn-bytes_at}
 use Rattle.rustc_abi.proofs.Values.PartsLemmas.{LieBeside, FitTogether, HoldParts-beside, exist, only, unique, padding}
 use Rattle.rustc_abi.proofs.Values.FieldsLemmas.{IsPartNiche, part_niche}
 use Rattle.rustc_abi.proofs.Enums.TaggedLemmas.{none_flagged}

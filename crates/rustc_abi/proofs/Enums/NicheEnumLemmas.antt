@@ -19,32 +19,32 @@ use Rattle.abi_scalar.specs.Lawful.{IsLawfulNiche, IsLawfulLayout}
 use Rattle.abi_scalar.specs.Range.{IsIn, full_range}
 use Rattle.abi_scalar.specs.Scalar.{scalar_size, range_of, IsNumberOf}
 use Rattle.abi_scalar.specs.Shape.{listed_offsets}
-use Rattle.abi_lists.specs.ListNiche.{IsNicheAt, IsNicheOfPart}
-use Rattle.abi_lists.specs.Apart.{AreApart}
+use Rattle.abi_univariant.specs.ListNiche.{IsNicheAt, IsNicheOfPart}
+use Rattle.abi_univariant.specs.Apart.{AreApart}
 use Rattle.abi_calc.specs.Enums.Path.{variant_at, has_no_value, takes_no_room}
 use Rattle.abi_calc.specs.Enums.Beside.{IsToldByNiche}
 use Rattle.rustc_abi.specs.Enums.{layouts_of, arms_at, discriminants_of}
-use Rattle.abi_laid.specs.Mark.{mark_of}
-use Rattle.abi_laid.specs.declared.mark.Mark.{Mark}
-use Rattle.abi_laid.specs.Placed.{parts_of_arm, Placed, layout_of, is_flagged, size_of, Arms, tagged}
+use Rattle.abi_tree.specs.Mark.{mark_of}
+use Rattle.abi_tree.specs.declared.mark.Mark.{Mark}
+use Rattle.abi_tree.specs.Placed.{parts_of_arm, Placed, layout_of, is_flagged, size_of, Arms, tagged}
 use Rattle.abi_scalar.specs.Layout.{Layout}
-use Rattle.abi_laid.specs.Tree.{Variants, enum}
+use Rattle.abi_tree.specs.Tree.{Variants, enum}
 use Rattle.rustc_abi.specs.Adding.{VariantsFit}
-use Rattle.abi_laid.specs.Fits.{Fits}
+use Rattle.abi_tree.specs.Fits.{Fits}
 use Rattle.rustc_abi.specs.Laying.{one_scalar, placed_enum, placed_variants}
-use Rattle.abi_laid.specs.Room.{has_room}
-use Rattle.abi_laid.specs.Values.{LocalsOfVariants}
-use Rattle.abi_laid.specs.Value.{Value}
-use Rattle.abi_laid.specs.Holding.{Holds}
-use Rattle.abi_laid.specs.Bytes.{number_of, bytes_at}
-use Rattle.abi_laid.specs.Faithful.{IsFaithful}
-use Rattle.abi_laid.specs.Untagged.{UntaggedNamed}
+use Rattle.abi_tree.specs.Room.{has_room}
+use Rattle.abi_tree.specs.Values.{LocalsOfVariants}
+use Rattle.abi_tree.specs.Value.{Value}
+use Rattle.abi_tree.specs.Holding.{Holds}
+use Rattle.abi_tree.specs.Bytes.{number_of, bytes_at}
+use Rattle.abi_tree.specs.Faithful.{IsFaithful}
+use Rattle.abi_tree.specs.Untagged.{UntaggedNamed}
 use Rattle.rustc_abi.proofs.Enums.ArmsLemmas.{EachApart, flagged_as, apart_beside, arms_room, arms_beside, flag_arms, arms_flag, arms_common, arms_untagged}
 use Rattle.rustc_abi.proofs.Values.FieldsLemmas.{IsPartNiche, part_of_list}
 use Rattle.rustc_abi.proofs.Enums.InNicheLemmas.{IsThere, AreSpanned, ArmsBeside, in_niche_number, names_itself, in_niche_exists, in_niche_only, in_niche_unique, in_niche_padding}
 use Rattle.rustc_abi.proofs.Enums.EnumLemmas.{in_below, numbers_long, some_niche}
 use Rattle.rustc_abi.proofs.Trees.LayLemmas.{VariantsFit-lawful}
-use Rattle.abi_laid.proofs.Places.RoomLemmas.{within_room}
+use Rattle.abi_tree.proofs.Places.RoomLemmas.{within_room}
 use Rattle.rustc_abi.proofs.Enums.TagViewLemmas.{tag_niche_true, tag_niche_inside, tag_view_niche}
 
 -- an arm has the fields of its variant at the offsets of its layout: a niche of these is the arm's

@@ -5,7 +5,7 @@ use Rattle.std.proofs.lemmas.Bool.{and_parts}
 use Rattle.std.proofs.lemmas.List.Elements.{All-nil, All-cons, All-weaker}
 use Rattle.std.proofs.lemmas.List.FromFn.{get_or-range_with_len, length-range_with_len}
 use Rattle.abi_scalar.specs.declared.repr.ReprOptions.{ReprOptions}
-use Rattle.abi_lists.specs.Placement.{source_order}
+use Rattle.abi_univariant.specs.Placement.{source_order}
 use Rattle.abi_calc.specs.declared.enums.path.Path.TheVariants.{NoValue, OneList}
 use Rattle.abi_calc.specs.Enums.Path.{has_no_value, is_absent, is_free, is_present, path_among, path_of, present_of, variant_at}
 use Rattle.abi_scalar.specs.Layout.{Layout}

@@ -10,18 +10,18 @@ use Rattle.abi_scalar.specs.Niche.{niche_size}
 use Rattle.abi_scalar.specs.Lawful.{IsLawfulLayout}
 use Rattle.abi_scalar.specs.Simple.{never_layout}
 use Rattle.abi_calc.specs.Enums.Path.{variant_at, has_no_value}
-use Rattle.abi_laid.specs.Tree.{Trees, Tree, Variants, struct, enum, no_trees, more_trees, no_variants, more_variants}
-use Rattle.abi_laid.specs.Values.{LocalsOfVariants, LocalsOfEach, VectorsOfVariants, VectorsOfEach, VectorsHaveValues, AreValuesOfVariant, AreValuesOf, IsValueOf}
-use Rattle.abi_laid.specs.Mark.{mark_of}
-use Rattle.abi_laid.specs.Placed.{Parts, no_parts, Placed, layout_of, first_part, more_parts, size_of, single, fields, never}
+use Rattle.abi_tree.specs.Tree.{Trees, Tree, Variants, struct, enum, no_trees, more_trees, no_variants, more_variants}
+use Rattle.abi_tree.specs.Values.{LocalsOfVariants, LocalsOfEach, VectorsOfVariants, VectorsOfEach, VectorsHaveValues, AreValuesOfVariant, AreValuesOf, IsValueOf}
+use Rattle.abi_tree.specs.Mark.{mark_of}
+use Rattle.abi_tree.specs.Placed.{Parts, no_parts, Placed, layout_of, first_part, more_parts, size_of, single, fields, never}
 use Rattle.abi_scalar.specs.Layout.{Layout}
-use Rattle.abi_laid.specs.Value.{Values, Value, number, two, list, variant, state, bytes, no_values, more_values}
+use Rattle.abi_tree.specs.Value.{Values, Value, number, two, list, variant, state, bytes, no_values, more_values}
 use Rattle.rustc_abi.specs.Adding.{VariantsFit, EachFits}
 use Rattle.rustc_abi.specs.Enums.{layouts_of}
-use Rattle.abi_laid.specs.Faithful.{IsFlagTrue, IsFaithful, IsNicheTrue, AgreeOn, IsTrueOf}
-use Rattle.abi_laid.specs.Fits.{Fits}
-use Rattle.abi_laid.specs.Bytes.{AreBytes, number_of, bytes_at}
-use Rattle.abi_laid.specs.Holding.{Holds}
+use Rattle.abi_tree.specs.Faithful.{IsFlagTrue, IsFaithful, IsNicheTrue, AgreeOn, IsTrueOf}
+use Rattle.abi_tree.specs.Fits.{Fits}
+use Rattle.abi_tree.specs.Bytes.{AreBytes, number_of, bytes_at}
+use Rattle.abi_tree.specs.Holding.{Holds}
 use Rattle.rustc_abi.proofs.Values.AnywhereLemmas.{value_anywhere}
 
 -- the fields of the variant with this index

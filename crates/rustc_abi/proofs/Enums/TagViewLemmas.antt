@@ -19,10 +19,10 @@ use Rattle.abi_scalar.specs.Niche.{niche_size, niche_at}
 use Rattle.abi_scalar.proofs.RangeLemmas.{in_from_between}
 use Rattle.abi_calc.specs.Enums.Beside.{HasTagAt}
 use Rattle.abi_calc.specs.Enums.Payload.{BeginsWithTag, IsWide}
-use Rattle.abi_laid.specs.Bytes.{AreBytes, bytes_at, little, number_of}
-use Rattle.abi_laid.specs.Faithful.{IsScalarTrue, IsTrueOf}
-use Rattle.abi_laid.proofs.Bytes.BytesLemmas.{AreBytes-bytes_at, AreBytes-reverse, numbers_of-suc}
-use Rattle.abi_laid.proofs.Bytes.HoldLemmas.{length-bytes_at}
+use Rattle.abi_tree.specs.Bytes.{AreBytes, bytes_at, little, number_of}
+use Rattle.abi_tree.specs.Faithful.{IsScalarTrue, IsTrueOf}
+use Rattle.abi_tree.proofs.Bytes.BytesLemmas.{AreBytes-bytes_at, AreBytes-reverse, numbers_of-suc}
+use Rattle.abi_tree.proofs.Bytes.HoldLemmas.{length-bytes_at}
 
 -- what holds of the one niche that there may be holds of the niche that there is
 some_unless : (b : Bool) (own n : Niche) (P : Niche → Type 0) → P own → (if b then None else Some own) ≡ Some n → P n

@@ -13,20 +13,20 @@ use Rattle.abi_scalar.specs.declared.repr.ReprOptions.{ReprOptions}
 use Rattle.abi_scalar.specs.declared.variants.TagEncoding.TheVariants.{Direct}
 use Rattle.abi_scalar.specs.Range.{numbers_of}
 use Rattle.abi_scalar.specs.Scalar.{scalar_size, IsNumberOf}
-use Rattle.abi_laid.specs.Tree.{Tree, enum, Trees, no_trees, more_trees, Variants, no_variants, more_variants}
-use Rattle.abi_laid.specs.Bytes.{AreBytes, bytes_at, number_of}
-use Rattle.abi_laid.specs.Value.{Value, number, two, list, variant, state, bytes, Values, no_values, more_values}
-use Rattle.abi_laid.specs.Mark.{mark_of}
-use Rattle.abi_laid.specs.Placed.{Placed, Parts, no_parts, part, Arms, no_arms, arm, layout_of, size_of, tagged, parts_of_arm, is_flagged}
+use Rattle.abi_tree.specs.Tree.{Tree, enum, Trees, no_trees, more_trees, Variants, no_variants, more_variants}
+use Rattle.abi_tree.specs.Bytes.{AreBytes, bytes_at, number_of}
+use Rattle.abi_tree.specs.Value.{Value, number, two, list, variant, state, bytes, Values, no_values, more_values}
+use Rattle.abi_tree.specs.Mark.{mark_of}
+use Rattle.abi_tree.specs.Placed.{Placed, Parts, no_parts, part, Arms, no_arms, arm, layout_of, size_of, tagged, parts_of_arm, is_flagged}
 use Rattle.abi_scalar.specs.Layout.{Layout}
-use Rattle.abi_laid.specs.Places.{is_data_place, is_place_of_part, is_place_of_arm}
-use Rattle.abi_laid.specs.Tag.{NamesDirectly}
-use Rattle.abi_laid.specs.Values.{IsValueOf, AreValuesOf, AreValuesOfVariant, VectorsHaveValues}
-use Rattle.abi_laid.specs.Holding.{Holds, HoldArm, tag_at}
-use Rattle.abi_laid.specs.Faithful.{AgreeOn, IsFaithful}
+use Rattle.abi_tree.specs.Places.{is_data_place, is_place_of_part, is_place_of_arm}
+use Rattle.abi_tree.specs.Tag.{NamesDirectly}
+use Rattle.abi_tree.specs.Values.{IsValueOf, AreValuesOf, AreValuesOfVariant, VectorsHaveValues}
+use Rattle.abi_tree.specs.Holding.{Holds, HoldArm, tag_at}
+use Rattle.abi_tree.specs.Faithful.{AgreeOn, IsFaithful}
 use Rattle.rustc_abi.specs.Laying.{one_scalar}
-use Rattle.abi_laid.proofs.Bytes.BytesLemmas.{put, length-put, bytes_at-put, AreBytes-put, same_bytes, spelled_in, length-spelled_in, number_of-spelled_in, AreBytes-spelled_in}
-use Rattle.abi_laid.proofs.Bytes.HoldLemmas.{length-bytes_at, AgreeOn-bytes_at}
+use Rattle.abi_tree.proofs.Bytes.BytesLemmas.{put, length-put, bytes_at-put, AreBytes-put, same_bytes, spelled_in, length-spelled_in, number_of-spelled_in, AreBytes-spelled_in}
+use Rattle.abi_tree.proofs.Bytes.HoldLemmas.{length-bytes_at, AgreeOn-bytes_at}
 use Rattle.rustc_abi.proofs.Values.PartsLemmas.{LieBeside, FitTogether, HoldParts-beside, exist, only, unique, padding}
 
 -- each arm has its variant's number and fields, which fit together, beside a tag of w bytes at the offset

@@ -6,18 +6,18 @@ use Rattle.std.proofs.lemmas.List.{length-map, map-append, take_more}
 use Rattle.std.proofs.lemmas.List.Elements.{All-append, All-cons, All-nil, All-weaker}
 use Rattle.abi_base.specs.declared.data_layout.TargetDataLayout.{TargetDataLayout}
 use Rattle.abi_base.specs.DataLayout.{IsLawfulDataLayout}
-use Rattle.abi_laid.specs.declared.node.Node.{Node}
-use Rattle.abi_laid.specs.declared.tree.TypeTree.{TypeTree}
-use Rattle.abi_laid.specs.Tree.{Tree, Variants, tree_of, trees, trees_of_variants}
-use Rattle.abi_laid.specs.Placed.{Placed}
-use Rattle.abi_laid.specs.Nodes.{types_in}
+use Rattle.abi_tree.specs.declared.node.Node.{Node}
+use Rattle.abi_tree.specs.declared.tree.TypeTree.{TypeTree}
+use Rattle.abi_tree.specs.Tree.{Tree, Variants, tree_of, trees, trees_of_variants}
+use Rattle.abi_tree.specs.Placed.{Placed}
+use Rattle.abi_tree.specs.Nodes.{types_in}
 use Rattle.rustc_abi.specs.Enums.{discriminants_of}
 use Rattle.rustc_abi.specs.Laying.{AreLaying, VariantsLaying}
-use Rattle.abi_laid.specs.Well.{all_at}
+use Rattle.abi_tree.specs.Well.{all_at}
 use Rattle.rustc_abi.specs.Adding.{AreAdded, AreVariantsAdded, EachFits, IsAdded, VariantsFit, variants_in}
 use Rattle.rustc_abi.proofs.Enums.ArmNodesLemmas.{variants_in-kept}
 use Rattle.rustc_abi.proofs.Trees.LaidLemmas.{numbers_for}
-use Rattle.abi_laid.proofs.Meaning.NodesLemmas.{Keeps-trans, length-types_in}
+use Rattle.abi_tree.proofs.Meaning.NodesLemmas.{Keeps-trans, length-types_in}
 
 abbrev Fields : Type 0
 Fields = ℕ × Vec TypeTree Global

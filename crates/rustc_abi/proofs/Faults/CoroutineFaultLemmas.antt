@@ -10,7 +10,7 @@ use Rattle.std.proofs.lemmas.List.FromFn.{get_or-map-range_with_len, get_or-rang
 use Rattle.std.proofs.lemmas.Map.Views.{any-filter_same}
 use Rattle.abi_index.specs.Ascending.{has_number}
 use Rattle.abi_index.specs.Relation.{column_count, is_entry, row_count}
-use Rattle.abi_lists.specs.Placement.{source_order}
+use Rattle.abi_univariant.specs.Placement.{source_order}
 use Rattle.abi_calc.proofs.CoroutineLemmas.Steps.{rows_within}
 use Rattle.rustc_abi.specs.declared.error.LayError.TheVariants.{BadIndex, LocalTwice, NoState}
 use Rattle.rustc_abi.specs.Coroutines.{conflicts_of, names_unknown}

@@ -6,9 +6,9 @@ use Rattle.std.proofs.lemmas.Bool.{ltb-false}
 use Rattle.std.proofs.lemmas.List.Elements.{All-cons, All-nil}
 use Rattle.abi_base.specs.declared.data_layout.TargetDataLayout.{TargetDataLayout}
 use Rattle.abi_scalar.specs.declared.repr.ReprOptions.{ReprOptions}
-use Rattle.abi_lists.specs.List.{HasLawfulAligns}
+use Rattle.abi_univariant.specs.List.{HasLawfulAligns}
 use Rattle.rustc_abi.specs.declared.error.LayError.TheVariants.{BadAlign, BadIndex, DiscriminantTooWide, DuplicateDiscriminant}
-use Rattle.abi_laid.specs.Placed.{Placed}
+use Rattle.abi_tree.specs.Placed.{Placed}
 use Rattle.rustc_abi.specs.Enums.{has_equal, is_discriminant}
 use Rattle.rustc_abi.specs.Laying.{enum_fault, has_bad_align, has_bad_index, most_fields}
 use Rattle.rustc_abi.proofs.Trees.LayLemmas.{lawful_unless_bad, neither}

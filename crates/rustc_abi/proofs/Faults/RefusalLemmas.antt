@@ -5,9 +5,9 @@ use Rattle.std.proofs.lemmas.List.{map-append, take_more, take-append-drop}
 use Rattle.abi_base.specs.declared.data_layout.TargetDataLayout.{TargetDataLayout}
 use Rattle.abi_scalar.specs.declared.repr.ReprOptions.{ReprOptions}
 use Rattle.rustc_abi.specs.declared.error.LayError.{LayError}
-use Rattle.abi_laid.specs.declared.tree.TypeTree.{TypeTree}
-use Rattle.abi_laid.specs.Tree.{Variants, enum, tree_of, trees, trees_of_variants}
-use Rattle.abi_laid.specs.Placed.{Placed}
+use Rattle.abi_tree.specs.declared.tree.TypeTree.{TypeTree}
+use Rattle.abi_tree.specs.Tree.{Variants, enum, tree_of, trees, trees_of_variants}
+use Rattle.abi_tree.specs.Placed.{Placed}
 use Rattle.rustc_abi.specs.Error.{IsRefused}
 use Rattle.rustc_abi.specs.Laying.{IsLaying, AreLaying, VariantsLaying}
 use Rattle.rustc_abi.proofs.Trees.LayLemmas.{laying-refused}

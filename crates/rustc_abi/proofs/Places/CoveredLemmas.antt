@@ -15,15 +15,15 @@ use Rattle.abi_scalar.specs.Lawful.{IsLawfulLayout, IsLawfulView}
 use Rattle.abi_scalar.specs.Pair.{second_offset}
 use Rattle.abi_scalar.specs.Scalar.{primitive_of, scalar_size}
 use Rattle.abi_scalar.specs.View.{union_view}
-use Rattle.abi_lists.specs.declared.part.Part.{Part}
-use Rattle.abi_lists.specs.ListView.{any_unsized, bulky_parts, bulky_view, kept_view, list_view, pair_view, part_at, two_view}
-use Rattle.abi_lists.specs.Part.{part_of, parts_of}
-use Rattle.abi_lists.specs.Placement.{no_part}
-use Rattle.abi_lists.specs.Union.{CountsForView, HasView, IsUnionView}
-use Rattle.abi_laid.specs.Placed.{Placed, layout_of, nothing, size_of}
+use Rattle.abi_univariant.specs.declared.part.Part.{Part}
+use Rattle.abi_univariant.specs.ListView.{any_unsized, bulky_parts, bulky_view, kept_view, list_view, pair_view, part_at, two_view}
+use Rattle.abi_univariant.specs.Part.{part_of, parts_of}
+use Rattle.abi_univariant.specs.Placement.{no_part}
+use Rattle.abi_univariant.specs.Union.{CountsForView, HasView, IsUnionView}
+use Rattle.abi_tree.specs.Placed.{Placed, layout_of, nothing, size_of}
 use Rattle.abi_scalar.specs.Layout.{Layout}
-use Rattle.abi_laid.specs.Places.{is_data_place, is_place_of_part}
-use Rattle.abi_laid.specs.Nodes.{parts_at}
+use Rattle.abi_tree.specs.Places.{is_data_place, is_place_of_part}
+use Rattle.abi_tree.specs.Nodes.{parts_at}
 
 -- a type that is seen as one scalar is covered whole
 abbrev pub IsCovered : Placed → Type 0

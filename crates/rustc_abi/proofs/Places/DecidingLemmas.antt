@@ -23,28 +23,28 @@ use Rattle.abi_scalar.specs.Scalar.{IsLawfulScalar, IsNumberOf, scalar_size}
 use Rattle.abi_scalar.specs.Shape.{listed_offsets}
 use Rattle.abi_scalar.specs.Simple.{never_layout, scalar_layout, unit_layout}
 use Rattle.abi_scalar.specs.Variant.{variants_of as layouts_in}
-use Rattle.abi_lists.specs.Array.{elements_layout}
-use Rattle.abi_lists.specs.Placement.{source_order}
-use Rattle.abi_lists.specs.Simd.{simd_answer}
+use Rattle.abi_univariant.specs.Array.{elements_layout}
+use Rattle.abi_univariant.specs.Placement.{source_order}
+use Rattle.abi_univariant.specs.Simd.{simd_answer}
 use Rattle.abi_calc.specs.declared.enums.path.Path.{Path}
 use Rattle.abi_calc.specs.declared.enums.path.Path.TheVariants.{NoValue, OneList, Several}
 use Rattle.abi_calc.specs.Enums.Path.{path_of, variant_at}
 use Rattle.abi_calc.specs.Coroutine.Layout.{IsStateTag}
 use Rattle.abi_calc.proofs.EnumLemmas.Deep.{HasOwnNumber, enum_span}
 use Rattle.abi_calc.proofs.EnumLemmas.Whole.{several_some}
-use Rattle.abi_laid.specs.declared.mark.Mark.{Mark}
-use Rattle.abi_laid.specs.declared.mark.Mark.TheVariants.{Never, Plain, Unit}
-use Rattle.abi_laid.specs.Mark.{mark_of}
-use Rattle.abi_laid.specs.Bytes.{AreBytes, count_picked}
-use Rattle.abi_laid.specs.Tree.{Tree, scalar, pair, never, unit, array, vector, struct, union, enum, coroutine, Trees, no_trees, more_trees, Variants, no_variants, more_variants}
-use Rattle.abi_laid.specs.Placed.{Placed, layout_of, size_of, elements, fields, no_parts, never as placed_never, vector as placed_vector, Parts, part, Arms, no_arms, arm, parts_of_arm}
+use Rattle.abi_tree.specs.declared.mark.Mark.{Mark}
+use Rattle.abi_tree.specs.declared.mark.Mark.TheVariants.{Never, Plain, Unit}
+use Rattle.abi_tree.specs.Mark.{mark_of}
+use Rattle.abi_tree.specs.Bytes.{AreBytes, count_picked}
+use Rattle.abi_tree.specs.Tree.{Tree, scalar, pair, never, unit, array, vector, struct, union, enum, coroutine, Trees, no_trees, more_trees, Variants, no_variants, more_variants}
+use Rattle.abi_tree.specs.Placed.{Placed, layout_of, size_of, elements, fields, no_parts, never as placed_never, vector as placed_vector, Parts, part, Arms, no_arms, arm, parts_of_arm}
 use Rattle.abi_scalar.specs.Layout.{Layout}
-use Rattle.abi_laid.specs.Places.{is_data_place, is_place_of_part}
-use Rattle.abi_laid.specs.Value.{Value, value_count, Each}
-use Rattle.abi_laid.specs.Values.{AreValuesOf, AreValuesOfVariant, EachAt, HaveValues, IsValueAt, IsValueOf, LocalsHaveValues, LocalsOfEach, LocalsOfVariants}
-use Rattle.abi_laid.specs.Nodes.{parts_at, parts_at_0, placed_in, state_tag_offset, tag_offset}
-use Rattle.abi_laid.specs.Deciding.{arm_for, arm_values, covering_value, covering_values, each_value, first_told, first_with, place_in, some_number}
-use Rattle.abi_laid.proofs.Deciding.CoverableLemmas.{ArmsCover, Covers, PartsCover, covers_elements, covers_fields, covers_pair, covers_scalar, covers_single, covers_states, covers_tagged, covers_union, covers_vector}
+use Rattle.abi_tree.specs.Places.{is_data_place, is_place_of_part}
+use Rattle.abi_tree.specs.Value.{Value, value_count, Each}
+use Rattle.abi_tree.specs.Values.{AreValuesOf, AreValuesOfVariant, EachAt, HaveValues, IsValueAt, IsValueOf, LocalsHaveValues, LocalsOfEach, LocalsOfVariants}
+use Rattle.abi_tree.specs.Nodes.{parts_at, parts_at_0, placed_in, state_tag_offset, tag_offset}
+use Rattle.abi_tree.specs.Deciding.{arm_for, arm_values, covering_value, covering_values, each_value, first_told, first_with, place_in, some_number}
+use Rattle.abi_tree.proofs.Deciding.CoverableLemmas.{ArmsCover, Covers, PartsCover, covers_elements, covers_fields, covers_pair, covers_scalar, covers_single, covers_states, covers_tagged, covers_union, covers_vector}
 use Rattle.rustc_abi.specs.Count.{arm_count}
 use Rattle.rustc_abi.specs.Coroutines.{IsStated}
 use Rattle.rustc_abi.specs.Enums.{IsEnumed, IsTagIntegerAnswer, arms_at, discriminants_of, layouts_of, numbered_from}

@@ -12,19 +12,19 @@ use Rattle.abi_scalar.specs.declared.repr.ReprOptions.{ReprOptions}
 use Rattle.abi_scalar.specs.declared.scalar.Scalar.{Scalar}
 use Rattle.abi_scalar.specs.Pair.{pair_size}
 use Rattle.abi_scalar.specs.Simple.{unit_layout}
-use Rattle.abi_lists.specs.Array.{elements_layout}
-use Rattle.abi_lists.specs.Simd.{simd_answer}
+use Rattle.abi_univariant.specs.Array.{elements_layout}
+use Rattle.abi_univariant.specs.Simd.{simd_answer}
 use Rattle.abi_calc.specs.declared.enums.path.Path.{Path}
 use Rattle.abi_calc.specs.declared.enums.path.Path.TheVariants.{NoValue, OneList, Several}
 use Rattle.abi_calc.specs.Enums.Answer.{IsTypeAnswer}
 use Rattle.abi_calc.specs.Enums.Path.{has_no_value, path_of, variant_at}
 use Rattle.abi_calc.proofs.EnumLemmas.Deep.{enum_flag}
-use Rattle.abi_laid.specs.declared.mark.Mark.TheVariants.{Unit}
-use Rattle.abi_laid.specs.Tree.{Tree, scalar, pair, never, unit, array, vector, struct, union, enum, coroutine, Trees, no_trees, more_trees, Variants, no_variants, more_variants}
-use Rattle.abi_laid.specs.Placed.{Placed, layout_of, size_of, fields, no_parts, vector as placed_vector}
+use Rattle.abi_tree.specs.declared.mark.Mark.TheVariants.{Unit}
+use Rattle.abi_tree.specs.Tree.{Tree, scalar, pair, never, unit, array, vector, struct, union, enum, coroutine, Trees, no_trees, more_trees, Variants, no_variants, more_variants}
+use Rattle.abi_tree.specs.Placed.{Placed, layout_of, size_of, fields, no_parts, vector as placed_vector}
 use Rattle.abi_scalar.specs.Layout.{Layout}
-use Rattle.abi_laid.specs.Value.{Value, number, two, list, variant, state, bytes}
-use Rattle.abi_laid.specs.Values.{HasValue, IsValueOf}
+use Rattle.abi_tree.specs.Value.{Value, number, two, list, variant, state, bytes}
+use Rattle.abi_tree.specs.Values.{HasValue, IsValueOf}
 use Rattle.rustc_abi.specs.Enums.{IsEnumed, IsTagIntegerAnswer, discriminants_of, layouts_of, numbered_from}
 use Rattle.rustc_abi.specs.Error.{named}
 use Rattle.rustc_abi.specs.Inhabited.{AreInhabited, EachHasValue, EachInhabited, HaveValuesEach, VariantsHaveValues, VariantsInhabited}

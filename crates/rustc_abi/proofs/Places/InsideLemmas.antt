@@ -26,13 +26,13 @@ use Rattle.abi_scalar.specs.declared.fields_shape.FieldsShape.TheVariants.{Arbit
 use Rattle.abi_scalar.specs.Shape.{field_count, listed_offsets, listed_order}
 use Rattle.abi_scalar.specs.Simple.{never_layout}
 use Rattle.abi_scalar.specs.Variant.{variant_of, variants_of}
-use Rattle.abi_lists.specs.Apart.{AreApart}
-use Rattle.abi_lists.specs.Fields.{greatest_size}
-use Rattle.abi_lists.specs.List.{HasLawfulAligns, IsListAnswer}
-use Rattle.abi_lists.specs.Part.{parts_of}
-use Rattle.abi_lists.specs.Placement.{IsLawfulPrefix, IsSized, align_of, cut, end_from, in_order, list_repr, start_of}
-use Rattle.abi_lists.proofs.Offsets.Ends.{end_from-above}
-use Rattle.abi_lists.proofs.Offsets.Rounding.{rounded_to}
+use Rattle.abi_univariant.specs.Apart.{AreApart}
+use Rattle.abi_univariant.specs.Fields.{greatest_size}
+use Rattle.abi_univariant.specs.List.{HasLawfulAligns, IsListAnswer}
+use Rattle.abi_univariant.specs.Part.{parts_of}
+use Rattle.abi_univariant.specs.Placement.{IsLawfulPrefix, IsSized, align_of, cut, end_from, in_order, list_repr, start_of}
+use Rattle.abi_univariant.proofs.Offsets.Ends.{end_from-above}
+use Rattle.abi_univariant.proofs.Offsets.Rounding.{rounded_to}
 use Rattle.abi_calc.specs.declared.enums.niche.Room.{Room}
 use Rattle.abi_calc.specs.declared.enums.path.Path.{Path}
 use Rattle.abi_calc.specs.declared.enums.path.Path.TheVariants.{NoValue, OneList, Several}
@@ -61,9 +61,9 @@ use Rattle.abi_calc.proofs.EnumLemmas.Several.{by_both}
 use Rattle.abi_calc.proofs.EnumLemmas.Whole.{several_some}
 use Rattle.abi_calc.proofs.EnumLemmas.GoodLists.{good_list, good_lists, tag_prefix}
 use Rattle.abi_calc.proofs.CoroutineLemmas.OneCoroutine.{lists_own}
-use Rattle.abi_laid.specs.Placed.{Placed, layout_of, size_of}
+use Rattle.abi_tree.specs.Placed.{Placed, layout_of, size_of}
 use Rattle.abi_scalar.specs.Layout.{Layout}
-use Rattle.abi_laid.specs.Nodes.{placed_in}
+use Rattle.abi_tree.specs.Nodes.{placed_in}
 use Rattle.rustc_abi.specs.Enums.{IsEnumed, IsTagIntegerAnswer, layouts_of, numbered_from}
 use Rattle.rustc_abi.specs.Coroutines.{IsCoroutined, conflicts_of}
 use Rattle.rustc_abi.specs.Inside.{EndInside, IsFlaggedByField, VariantsInside}

@@ -18,18 +18,18 @@ use Rattle.abi_scalar.specs.Pair.{pair_layout, second_offset}
 use Rattle.abi_scalar.specs.Scalar.{scalar_size}
 use Rattle.abi_scalar.specs.Shape.{listed_offsets}
 use Rattle.abi_scalar.specs.Variant.{variant_layout, variants_of}
-use Rattle.abi_lists.specs.Apart.{AreApart}
-use Rattle.abi_lists.specs.Array.{array_answer, elements_layout}
-use Rattle.abi_lists.specs.List.{IsListBy}
-use Rattle.abi_lists.specs.Simd.{simd_answer}
+use Rattle.abi_univariant.specs.Apart.{AreApart}
+use Rattle.abi_univariant.specs.Array.{array_answer, elements_layout}
+use Rattle.abi_univariant.specs.List.{IsListBy}
+use Rattle.abi_univariant.specs.Simd.{simd_answer}
 use Rattle.abi_scalar.specs.declared.niche.Niche.{Niche}
-use Rattle.abi_laid.specs.declared.node.Shape.TheVariants.{Elements, Pair, Vector}
+use Rattle.abi_tree.specs.declared.node.Shape.TheVariants.{Elements, Pair, Vector}
 use Rattle.rustc_abi.specs.Error.{named}
 use Rattle.rustc_abi.specs.Inside.{EndInside, VariantsInside}
-use Rattle.abi_laid.specs.Laws.{end_inside, has_elements, have_lists, have_places, keeps_laws, sizes_at}
+use Rattle.abi_tree.specs.Laws.{end_inside, has_elements, have_lists, have_places, keeps_laws, sizes_at}
 use Rattle.rustc_abi.specs.Laying.{IsUnited, one_scalar}
-use Rattle.abi_laid.specs.Nodes.{placed_in}
-use Rattle.abi_laid.specs.Placed.{Placed, layout_of, size_of}
+use Rattle.abi_tree.specs.Nodes.{placed_in}
+use Rattle.abi_tree.specs.Placed.{Placed, layout_of, size_of}
 use Rattle.abi_scalar.specs.Layout.{Layout}
 use Rattle.rustc_abi.proofs.Unions.CalcLemmas.{united_layout, vector_made}
 use Rattle.rustc_abi.proofs.Trees.ListLemmas.{chosen}

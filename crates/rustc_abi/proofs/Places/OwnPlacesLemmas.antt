@@ -14,22 +14,22 @@ use Rattle.abi_scalar.specs.declared.variants.TagEncoding.{TagEncoding}
 use Rattle.abi_scalar.specs.declared.variants.VariantLayout.{VariantLayout}
 use Rattle.abi_scalar.specs.Layout.{Layout}
 use Rattle.abi_scalar.specs.Simple.{never_layout}
-use Rattle.abi_lists.specs.Array.{elements_layout}
-use Rattle.abi_laid.specs.declared.mark.Mark.{Mark}
-use Rattle.abi_laid.specs.declared.mark.Mark.TheVariants.{Plain}
-use Rattle.abi_laid.specs.Bytes.{bytes_at}
-use Rattle.abi_laid.specs.Covering.{are_covered, each_covered, is_arm_covered, is_byte_at, is_covered, is_told}
-use Rattle.abi_laid.specs.Holding.{HoldArm, HoldEach, HoldParts, Holds}
-use Rattle.abi_laid.specs.Nodes.{parts_at, parts_at_0}
-use Rattle.abi_laid.specs.Placed.{Arms, Placed, arm, elements, fields, layout_of, never, no_arms, pair, parts_of_arm}
-use Rattle.abi_laid.specs.Placed.{single, size_of, states, tagged, union, vector}
-use Rattle.abi_laid.specs.Places.{is_data_place, is_place_of_arm, is_place_of_part}
-use Rattle.abi_laid.specs.Runs.{is_place_of_variant}
-use Rattle.abi_laid.specs.Tree.{Tree}
-use Rattle.abi_laid.specs.Unused.{IsOfVariant, KeepsToPlaces, is_left_unused}
+use Rattle.abi_univariant.specs.Array.{elements_layout}
+use Rattle.abi_tree.specs.declared.mark.Mark.{Mark}
+use Rattle.abi_tree.specs.declared.mark.Mark.TheVariants.{Plain}
+use Rattle.abi_tree.specs.Bytes.{bytes_at}
+use Rattle.abi_tree.specs.Covering.{are_covered, each_covered, is_arm_covered, is_byte_at, is_covered, is_told}
+use Rattle.abi_tree.specs.Holding.{HoldArm, HoldEach, HoldParts, Holds}
+use Rattle.abi_tree.specs.Nodes.{parts_at, parts_at_0}
+use Rattle.abi_tree.specs.Placed.{Arms, Placed, arm, elements, fields, layout_of, never, no_arms, pair, parts_of_arm}
+use Rattle.abi_tree.specs.Placed.{single, size_of, states, tagged, union, vector}
+use Rattle.abi_tree.specs.Places.{is_data_place, is_place_of_arm, is_place_of_part}
+use Rattle.abi_tree.specs.Runs.{is_place_of_variant}
+use Rattle.abi_tree.specs.Tree.{Tree}
+use Rattle.abi_tree.specs.Unused.{IsOfVariant, KeepsToPlaces, is_left_unused}
 use Rattle.abi_types.specs.Ty.Runs.{IsVariantOfSeveral}
 use Rattle.abi_scalar.specs.declared.variants.Variants.TheVariants.{Multiple}
-use Rattle.abi_laid.specs.Value.{Value, Values, bytes, list, more_values, no_values, number, state, two, value_count, variant}
+use Rattle.abi_tree.specs.Value.{Value, Values, bytes, list, more_values, no_values, number, state, two, value_count, variant}
 use Rattle.rustc_abi.specs.Enums.{arms_at}
 use Rattle.rustc_abi.specs.Laying.{IsLaying, one_scalar}
 use Rattle.rustc_abi.proofs.Trees.KindsLemmas.{AreFields, IsKept, laid_kept}

@@ -27,30 +27,30 @@ use Rattle.abi_scalar.specs.Shape.{IsListed, field_count, field_offset}
 use Rattle.abi_scalar.specs.Simple.{never_layout}
 use Rattle.abi_scalar.specs.Variant.{variants_of}
 use Rattle.abi_scalar.proofs.ReadableLemmas.{lawful_readable}
-use Rattle.abi_lists.specs.Array.{elements_layout}
+use Rattle.abi_univariant.specs.Array.{elements_layout}
 use Rattle.abi_types.specs.Ty.Typed.{Typed, typed, no_type, field_in, layout_in, variant_in}
 use Rattle.abi_types.specs.Ty.Places.{covers_element, fields_cover, is_padding, is_place, is_shared_place, is_unused, variants_cover}
-use Rattle.abi_laid.specs.declared.laid.Laid.{Laid}
-use Rattle.abi_laid.specs.declared.mark.Mark.{Mark}
-use Rattle.abi_laid.specs.declared.mark.Mark.TheVariants.{Plain}
-use Rattle.abi_laid.specs.Tree.{Tree}
-use Rattle.abi_laid.specs.Placed.{Placed, Arms, layout_of, scalar, pair, never, elements, vector, fields, union, single, tagged, states, parts_of_arm, size_of}
+use Rattle.abi_tree.specs.declared.laid.Laid.{Laid}
+use Rattle.abi_tree.specs.declared.mark.Mark.{Mark}
+use Rattle.abi_tree.specs.declared.mark.Mark.TheVariants.{Plain}
+use Rattle.abi_tree.specs.Tree.{Tree}
+use Rattle.abi_tree.specs.Placed.{Placed, Arms, layout_of, scalar, pair, never, elements, vector, fields, union, single, tagged, states, parts_of_arm, size_of}
 use Rattle.abi_scalar.specs.Layout.{Layout}
-use Rattle.abi_laid.specs.Places.{is_data_place, is_place_of_arm, is_place_of_part}
+use Rattle.abi_tree.specs.Places.{is_data_place, is_place_of_arm, is_place_of_part}
 use Rattle.rustc_abi.specs.Inside.{EndInside, VariantsInside}
-use Rattle.abi_laid.specs.Laid.{placed_of, typed_of}
+use Rattle.abi_tree.specs.Laid.{placed_of, typed_of}
 use Rattle.rustc_abi.specs.Laying.{IsLaying, one_scalar}
-use Rattle.abi_laid.specs.Nodes.{parts_at, parts_at_0}
+use Rattle.abi_tree.specs.Nodes.{parts_at, parts_at_0}
 use Rattle.rustc_abi.specs.Enums.{arms_at}
-use Rattle.abi_laid.specs.Runs.{is_padding_of, is_place_of_variant}
+use Rattle.abi_tree.specs.Runs.{is_padding_of, is_place_of_variant}
 use Rattle.abi_index.specs.RangeSet.{AreMaximalRuns, is_in_ranges}
-use Rattle.abi_laid.proofs.Places.MaximalLemmas.{padding_listed, padding_told}
+use Rattle.abi_tree.proofs.Places.MaximalLemmas.{padding_listed, padding_told}
 use Rattle.abi_types.specs.Ty.Runs.{IsVariantIndex}
-use Rattle.abi_laid.specs.Seen.{HasOffset, IsListOf, Sees, SeesArms, SeesParts, SeesTypes, last_field}
+use Rattle.abi_tree.specs.Seen.{HasOffset, IsListOf, Sees, SeesArms, SeesParts, SeesTypes, last_field}
 use Rattle.rustc_abi.proofs.Places.CoveredLemmas.{HasOneWhole, IsCovered, IsNoScalar, covered_parts, memory_none}
 use Rattle.rustc_abi.proofs.Trees.KindsLemmas.{AreBeside, AreFields, IsKept, IsTagWhole, laid_kept}
 use Rattle.rustc_abi.proofs.Places.LawsLemmas.{lengths_in}
-use Rattle.abi_laid.proofs.Meaning.SeenLemmas.{count_at, seen_at}
+use Rattle.abi_tree.proofs.Meaning.SeenLemmas.{count_at, seen_at}
 
 -- handles of the type tell its data places
 abbrev pub TellsPlaces : Placed → Type 0

@@ -6,20 +6,20 @@ use Rattle.std.specs.Cmp.Derive.{both_true}
 use Rattle.std.proofs.lemmas.List.{length-append}
 use Rattle.std.specs.declared.alloc.Global.{Global}
 use Rattle.abi_base.specs.declared.data_layout.TargetDataLayout.{TargetDataLayout}
-use Rattle.abi_laid.specs.declared.node.Node.{Node}
-use Rattle.abi_laid.specs.declared.tree.TypeTree.{TypeTree}
+use Rattle.abi_tree.specs.declared.node.Node.{Node}
+use Rattle.abi_tree.specs.declared.tree.TypeTree.{TypeTree}
 use Rattle.abi_scalar.specs.declared.repr.ReprOptions.{ReprOptions}
 use Rattle.abi_scalar.specs.declared.error.LayoutCalculatorError.TheVariants.{SizeOverflow}
 use Rattle.abi_base.specs.DataLayout.{size_bound}
-use Rattle.abi_lists.specs.Array.{array_answer, elements_layout}
+use Rattle.abi_univariant.specs.Array.{array_answer, elements_layout}
 use Rattle.rustc_abi.specs.Error.{named}
-use Rattle.abi_laid.specs.Tree.{Tree, array, vector, struct, union, enum, coroutine, Trees, Variants, tree_of, trees, trees_of_variants}
-use Rattle.abi_laid.specs.Placed.{Placed, layout_of}
+use Rattle.abi_tree.specs.Tree.{Tree, array, vector, struct, union, enum, coroutine, Trees, Variants, tree_of, trees, trees_of_variants}
+use Rattle.abi_tree.specs.Placed.{Placed, layout_of}
 use Rattle.abi_scalar.specs.Layout.{Layout}
-use Rattle.abi_laid.specs.Deciding.{are_inhabited}
-use Rattle.abi_laid.proofs.Meaning.NodesLemmas.{layout_of-placed_at}
-use Rattle.abi_laid.specs.Nodes.{arms_in, placed_at}
-use Rattle.abi_laid.specs.Well.{IsPut}
+use Rattle.abi_tree.specs.Deciding.{are_inhabited}
+use Rattle.abi_tree.proofs.Meaning.NodesLemmas.{layout_of-placed_at}
+use Rattle.abi_tree.specs.Nodes.{arms_in, placed_at}
+use Rattle.abi_tree.specs.Well.{IsPut}
 use Rattle.rustc_abi.specs.Adding.{IsAdded}
 use Rattle.rustc_abi.specs.Count.{AddsOwn, AreCounted, AreVariantsCounted, HasMore, HasNodes, HaveNodes, IsCounted, IsOwnPut, VariantsHaveNodes, arm_count, own_nodes}
 use Rattle.rustc_abi.specs.Inhabited.{AreInhabited, EachInhabited, IsInhabited, VariantsInhabited}

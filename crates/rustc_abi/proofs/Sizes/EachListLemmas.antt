@@ -44,9 +44,9 @@ use Rattle.abi_calc.specs.Enums.Payload.{tagged_view}
 use Rattle.abi_calc.specs.Enums.Several.{IsAskedFor}
 use Rattle.abi_calc.specs.Enums.Single.{IsSingleAnswer}
 use Rattle.abi_calc.specs.Enums.Tagged.{lists_align, lists_size, payloads_of}
-use Rattle.abi_lists.specs.Least.{IsPlacedBy, align_by}
+use Rattle.abi_univariant.specs.Least.{IsPlacedBy, align_by}
 use Rattle.abi_calc.specs.Made.{AreFieldLists, IsFieldList}
-use Rattle.abi_lists.specs.Placement.{source_order}
+use Rattle.abi_univariant.specs.Placement.{source_order}
 use Rattle.abi_calc.specs.declared.enums.path.Path.{Path}
 use Rattle.abi_calc.specs.declared.enums.path.Path.TheVariants.{NoValue, OneList, Several}
 use Rattle.abi_calc.proofs.CoroutineLemmas.Seen.{coroutine_made}
@@ -55,13 +55,13 @@ use Rattle.abi_calc.proofs.EnumLemmas.Made.{OfNiche, OfTagged, all_behind, all_b
 use Rattle.abi_calc.proofs.EnumLemmas.NicheLawful.{niche_parts, tag_size}
 use Rattle.abi_calc.proofs.Made.{field_list, field_lists}
 use Rattle.abi_calc.proofs.CoroutineLemmas.OneCoroutine.{one_tag}
-use Rattle.abi_laid.specs.Tree.{Tree, struct, enum, coroutine, Trees}
-use Rattle.abi_laid.specs.Tree.{Variants}
-use Rattle.abi_laid.specs.declared.mark.Mark.{Mark}
-use Rattle.abi_laid.specs.declared.mark.Mark.TheVariants.{Plain}
-use Rattle.abi_laid.specs.Mark.{mark_of}
-use Rattle.abi_laid.specs.Nodes.{parts_at, placed_in, state_tag_offset, tag_offset}
-use Rattle.abi_laid.specs.Placed.{Placed, Arms, layout_of, size_of}
+use Rattle.abi_tree.specs.Tree.{Tree, struct, enum, coroutine, Trees}
+use Rattle.abi_tree.specs.Tree.{Variants}
+use Rattle.abi_tree.specs.declared.mark.Mark.{Mark}
+use Rattle.abi_tree.specs.declared.mark.Mark.TheVariants.{Plain}
+use Rattle.abi_tree.specs.Mark.{mark_of}
+use Rattle.abi_tree.specs.Nodes.{parts_at, placed_in, state_tag_offset, tag_offset}
+use Rattle.abi_tree.specs.Placed.{Placed, Arms, layout_of, size_of}
 use Rattle.abi_scalar.specs.Layout.{Layout}
 use Rattle.rustc_abi.specs.Coroutines.{conflicts_of}
 use Rattle.rustc_abi.specs.Enums.{IsEnumed, IsTagIntegerAnswer, arms_at, counted, discriminants_of, layouts_of, numbered_from}

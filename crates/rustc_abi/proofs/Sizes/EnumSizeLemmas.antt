@@ -17,11 +17,11 @@ use Rattle.abi_scalar.specs.declared.variants.Variants.TheVariants.{Empty, Multi
 use Rattle.abi_scalar.specs.Lawful.{IsLawfulLayout}
 use Rattle.abi_scalar.specs.Shape.{listed_offsets}
 use Rattle.abi_scalar.specs.Simple.{never_layout}
-use Rattle.abi_lists.specs.Answer.{IsAnswer}
-use Rattle.abi_lists.specs.Apart.{AreApart}
-use Rattle.abi_lists.specs.List.{AreSized}
-use Rattle.abi_lists.proofs.Promised.LeastLemmas.{answer_large, answer_refused, never_large as listed_never_large}
-use Rattle.abi_lists.specs.Least.{IsLeastSize}
+use Rattle.abi_univariant.specs.Answer.{IsAnswer}
+use Rattle.abi_univariant.specs.Apart.{AreApart}
+use Rattle.abi_univariant.specs.List.{AreSized}
+use Rattle.abi_univariant.proofs.Promised.LeastLemmas.{answer_large, answer_refused, never_large as listed_never_large}
+use Rattle.abi_univariant.specs.Least.{IsLeastSize}
 use Rattle.abi_calc.specs.declared.enums.path.Path.{Path}
 use Rattle.abi_calc.specs.declared.enums.path.Path.TheVariants.{NoValue, OneList, Several}
 use Rattle.abi_calc.specs.Enums.Answer.{IsTypeAnswer}
@@ -36,12 +36,12 @@ use Rattle.abi_calc.proofs.EnumLemmas.GoodLists.{good_list}
 use Rattle.abi_calc.proofs.EnumLemmas.OneEnum.{one_asked_for}
 use Rattle.rustc_abi.specs.declared.error.LayError.{LayError}
 use Rattle.rustc_abi.specs.declared.error.LayError.TheVariants.{SizeOverflow}
-use Rattle.abi_laid.specs.declared.mark.Mark.{Mark}
-use Rattle.abi_laid.specs.Mark.{mark_of}
-use Rattle.abi_laid.specs.Placed.{Placed, layout_of, size_of}
+use Rattle.abi_tree.specs.declared.mark.Mark.{Mark}
+use Rattle.abi_tree.specs.Mark.{mark_of}
+use Rattle.abi_tree.specs.Placed.{Placed, layout_of, size_of}
 use Rattle.abi_scalar.specs.Layout.{Layout}
 use Rattle.rustc_abi.specs.Error.{lay_error}
-use Rattle.abi_laid.specs.Nodes.{parts_at}
+use Rattle.abi_tree.specs.Nodes.{parts_at}
 use Rattle.rustc_abi.specs.Enums.{IsCalculated, IsEnumed, IsTagIntegerAnswer, arms_at, counted, layouts_of, numbered_from}
 use Rattle.rustc_abi.specs.Laying.{enum_fault, placed_enum, placed_variants}
 use Rattle.rustc_abi.specs.Least.{IsEnumSized, IsEnumTooLarge, IsLeastEnum, IsTooLargeBy, fields_of, fields_of_arms}

@@ -14,25 +14,25 @@ use Rattle.abi_scalar.specs.declared.scalar.Scalar.{Scalar}
 use Rattle.abi_scalar.specs.Pair.{pair_size}
 use Rattle.abi_scalar.specs.Scalar.{primitive_of}
 use Rattle.abi_scalar.specs.Shape.{listed_offsets}
-use Rattle.abi_lists.specs.declared.order.NicheBias.TheVariants.{Start}
-use Rattle.abi_lists.specs.declared.placing.ListFault.{ListFault}
-use Rattle.abi_lists.specs.declared.placing.ListFault.TheVariants.{Unsized, TooLarge, OutOfMemory}
-use Rattle.abi_lists.specs.Array.{elements_layout}
-use Rattle.abi_lists.specs.Fault.{IsErrorOf, fault_in}
-use Rattle.abi_lists.specs.List.{AreSized}
-use Rattle.abi_lists.specs.Order.{IsNamedOrder}
-use Rattle.abi_lists.specs.Simd.{simd_answer, IsVectorTooLarge}
-use Rattle.abi_lists.specs.Placement.{IsAllowed, IsNonEmptyIfUnsized, list_repr, size_in}
-use Rattle.abi_lists.proofs.Promised.DeepLemmas.{sized_fault, sized_in_order}
-use Rattle.abi_lists.proofs.Placed.FaultLemmas.{clear_of, large_in, memory_in}
-use Rattle.abi_lists.proofs.Sorted.Least.{all_too_large}
-use Rattle.abi_lists.specs.Least.{IsOrderOf, size_by}
-use Rattle.abi_lists.specs.Union.{IsUnionTooLarge}
-use Rattle.abi_lists.proofs.Promised.LeastLemmas.{has_least, never_large as listed_never_large}
-use Rattle.abi_lists.proofs.Placed.RunLemmas.{biased_of}
-use Rattle.abi_lists.proofs.UnionsVectors.TooLarge.{union_sized, vector_sized}
-use Rattle.abi_lists.specs.Answer.{IsAnswer}
-use Rattle.abi_lists.specs.Part.{parts_of as asked_of}
+use Rattle.abi_univariant.specs.declared.order.NicheBias.TheVariants.{Start}
+use Rattle.abi_univariant.specs.declared.placing.ListFault.{ListFault}
+use Rattle.abi_univariant.specs.declared.placing.ListFault.TheVariants.{Unsized, TooLarge, OutOfMemory}
+use Rattle.abi_univariant.specs.Array.{elements_layout}
+use Rattle.abi_univariant.specs.Fault.{IsErrorOf, fault_in}
+use Rattle.abi_univariant.specs.List.{AreSized}
+use Rattle.abi_univariant.specs.Order.{IsNamedOrder}
+use Rattle.abi_univariant.specs.Simd.{simd_answer, IsVectorTooLarge}
+use Rattle.abi_univariant.specs.Placement.{IsAllowed, IsNonEmptyIfUnsized, list_repr, size_in}
+use Rattle.abi_univariant.proofs.Promised.DeepLemmas.{sized_fault, sized_in_order}
+use Rattle.abi_univariant.proofs.Placed.FaultLemmas.{clear_of, large_in, memory_in}
+use Rattle.abi_univariant.proofs.Sorted.Least.{all_too_large}
+use Rattle.abi_univariant.specs.Least.{IsOrderOf, size_by}
+use Rattle.abi_univariant.specs.Union.{IsUnionTooLarge}
+use Rattle.abi_univariant.proofs.Promised.LeastLemmas.{has_least, never_large as listed_never_large}
+use Rattle.abi_univariant.proofs.Placed.RunLemmas.{biased_of}
+use Rattle.abi_univariant.proofs.UnionsVectors.TooLarge.{union_sized, vector_sized}
+use Rattle.abi_univariant.specs.Answer.{IsAnswer}
+use Rattle.abi_univariant.specs.Part.{parts_of as asked_of}
 use Rattle.abi_calc.specs.Coroutine.Layout.{IsStateTag}
 use Rattle.abi_calc.specs.Coroutine.Promised.{IsSizedPromoted}
 use Rattle.abi_calc.specs.Coroutine.Promotion.{promoted_of}
@@ -42,10 +42,10 @@ use Rattle.abi_calc.proofs.CoroutineLemmas.OneCoroutine.{one_tag}
 use Rattle.abi_calc.proofs.CoroutineLemmas.Shared.{overlap_promised}
 use Rattle.rustc_abi.specs.declared.error.LayError.{LayError}
 use Rattle.rustc_abi.specs.declared.error.LayError.TheVariants.{SizeOverflow, UnexpectedUnsized, BadIndex, BadAlign, UnknownSpace, BadRange, DuplicateDiscriminant, DiscriminantTooWide, LocalTwice, NoState}
-use Rattle.abi_laid.specs.Tree.{Tree, scalar, pair, never, unit, array, vector, struct, union, enum, coroutine, Trees, no_trees, more_trees, Variants, no_variants, more_variants}
-use Rattle.abi_laid.specs.Placed.{Placed, layout_of, size_of, elements, vector as placed_vector}
+use Rattle.abi_tree.specs.Tree.{Tree, scalar, pair, never, unit, array, vector, struct, union, enum, coroutine, Trees, no_trees, more_trees, Variants, no_variants, more_variants}
+use Rattle.abi_tree.specs.Placed.{Placed, layout_of, size_of, elements, vector as placed_vector}
 use Rattle.abi_scalar.specs.Layout.{Layout}
-use Rattle.abi_laid.specs.Placed.{states as placed_states}
+use Rattle.abi_tree.specs.Placed.{states as placed_states}
 use Rattle.rustc_abi.specs.Error.{Follows, IsRefused, named, lay_error}
 use Rattle.rustc_abi.specs.ScalarFault.{is_lawful_primitive, has_range_within, scalar_fault}
 use Rattle.rustc_abi.specs.Laying.{IsListedInOrder, IsOrderedFieldsAnswer, ordered_fault, randomized}
@@ -62,7 +62,7 @@ use Rattle.rustc_abi.proofs.Trees.LayLemmas.{pair_overflows}
 use Rattle.rustc_abi.proofs.Trees.OneAnswer.{one_answer, one_list, one_list_each}
 use Rattle.rustc_abi.proofs.Sizes.SizeLemmas.{sized_elements, sized_never, sized_pair, sized_scalar, sized_union, sized_unit}
 use Rattle.rustc_abi.proofs.Sizes.SizeLemmas.{sized_vector}
-use Rattle.abi_laid.specs.Nodes.{parts_at}
+use Rattle.abi_tree.specs.Nodes.{parts_at}
 use Rattle.rustc_abi.proofs.Sizes.EnumSizeLemmas.{enumed_large, enumed_refused, enumed_least, fields_back, size_error}
 use Rattle.abi_scalar.specs.declared.error.LayoutCalculatorError.TheVariants as calculator
 

@@ -10,15 +10,15 @@ use Rattle.abi_scalar.specs.declared.repr.ReprOptions.{ReprOptions}
 use Rattle.abi_scalar.specs.declared.variants.Variants.{Variants as LayoutVariants}
 use Rattle.abi_scalar.specs.Shape.{listed_offsets}
 use Rattle.abi_scalar.specs.Simple.{never_layout}
-use Rattle.abi_lists.specs.Least.{IsPlacedBy}
+use Rattle.abi_univariant.specs.Least.{IsPlacedBy}
 use Rattle.abi_calc.specs.declared.enums.path.Path.{Path}
 use Rattle.abi_calc.specs.declared.enums.path.Path.TheVariants.{NoValue, OneList, Several}
 use Rattle.abi_calc.specs.Enums.Path.{path_of, variant_at}
 use Rattle.abi_calc.specs.Enums.Single.{IsSingleAnswer}
 use Rattle.abi_calc.proofs.Made.{field_list}
-use Rattle.abi_laid.specs.Tree.{Tree, struct, enum, Trees, Variants}
-use Rattle.abi_laid.specs.Nodes.{parts_at}
-use Rattle.abi_laid.specs.Placed.{Placed, layout_of}
+use Rattle.abi_tree.specs.Tree.{Tree, struct, enum, Trees, Variants}
+use Rattle.abi_tree.specs.Nodes.{parts_at}
+use Rattle.abi_tree.specs.Placed.{Placed, layout_of}
 use Rattle.abi_scalar.specs.Layout.{Layout}
 use Rattle.rustc_abi.specs.Enums.{IsEnumed, discriminants_of, layouts_of}
 use Rattle.rustc_abi.specs.Laying.{AreLaying, IsLaying, IsLaidList, IsListedInOrder, VariantsLaying, enum_fault, fields_fault, kind_of, ordered_fault}

@@ -20,18 +20,18 @@ use Rattle.abi_calc.specs.Coroutine.Lists.{default_repr}
 use Rattle.abi_calc.specs.Coroutine.Promotion.{promoted_of}
 use Rattle.abi_calc.specs.Coroutine.Sizes.{align_of_all, behind_first}
 use Rattle.abi_calc.specs.Enums.Sizes.{AreLeastSizes}
-use Rattle.abi_lists.specs.Fields.{greatest}
-use Rattle.abi_lists.specs.Placement.{source_order}
+use Rattle.abi_univariant.specs.Fields.{greatest}
+use Rattle.abi_univariant.specs.Placement.{source_order}
 use Rattle.abi_calc.specs.Enums.Path.{path_of}
-use Rattle.abi_lists.specs.Least.{IsLeastSize, places_by, size_by}
+use Rattle.abi_univariant.specs.Least.{IsLeastSize, places_by, size_by}
 use Rattle.abi_calc.proofs.EnumLemmas.Tagged.{integer_some}
 use Rattle.abi_calc.proofs.CoroutineLemmas.OneCoroutine.{one_tag}
-use Rattle.abi_lists.proofs.Sorted.Sorting.{within_order}
-use Rattle.abi_lists.proofs.Facts.{IsOneOfSix, order_021, order_102, six_orders}
+use Rattle.abi_univariant.proofs.Sorted.Sorting.{within_order}
+use Rattle.abi_univariant.proofs.Facts.{IsOneOfSix, order_021, order_102, six_orders}
 use Rattle.abi_calc.specs.declared.enums.path.Path.TheVariants.{Several}
-use Rattle.abi_laid.specs.declared.mark.Mark.{Mark}
-use Rattle.abi_laid.specs.Tree.{enum, no_trees, Variants, no_variants, more_variants}
-use Rattle.abi_laid.specs.Placed.{Placed, Parts, layout_of, scalar, never as nowhere, single}
+use Rattle.abi_tree.specs.declared.mark.Mark.{Mark}
+use Rattle.abi_tree.specs.Tree.{enum, no_trees, Variants, no_variants, more_variants}
+use Rattle.abi_tree.specs.Placed.{Placed, Parts, layout_of, scalar, never as nowhere, single}
 use Rattle.abi_scalar.specs.Layout.{Layout}
 use Rattle.rustc_abi.specs.Coroutines.{conflicts_of}
 use Rattle.rustc_abi.specs.Enums.{layouts_of}

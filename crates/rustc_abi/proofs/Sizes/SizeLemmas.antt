@@ -10,16 +10,16 @@ use Rattle.abi_scalar.specs.declared.repr.ReprOptions.{ReprOptions}
 use Rattle.abi_scalar.specs.declared.scalar.Scalar.{Scalar}
 use Rattle.abi_scalar.specs.Pair.{pair_size}
 use Rattle.abi_scalar.specs.Simple.{never_layout, unit_layout}
-use Rattle.abi_lists.specs.Array.{elements_layout}
-use Rattle.abi_lists.specs.Simd.{lanes_align, lanes_answer, simd_align, simd_answer, simd_view, vector_layout}
-use Rattle.abi_lists.specs.Simd.{vector_size}
-use Rattle.abi_lists.specs.Union.{union_size}
-use Rattle.abi_lists.proofs.UnionsVectors.VectorLemmas.{lanes_are}
-use Rattle.abi_laid.specs.Tree.{Tree, scalar, pair, never, unit, array, vector, union, Trees}
-use Rattle.abi_laid.specs.declared.mark.Mark.TheVariants.{Never, Unit}
-use Rattle.abi_laid.specs.Placed.{Placed, layout_of, size_of, elements, fields, no_parts, never as placed_never}
+use Rattle.abi_univariant.specs.Array.{elements_layout}
+use Rattle.abi_univariant.specs.Simd.{lanes_align, lanes_answer, simd_align, simd_answer, simd_view, vector_layout}
+use Rattle.abi_univariant.specs.Simd.{vector_size}
+use Rattle.abi_univariant.specs.Union.{union_size}
+use Rattle.abi_univariant.proofs.UnionsVectors.VectorLemmas.{lanes_are}
+use Rattle.abi_tree.specs.Tree.{Tree, scalar, pair, never, unit, array, vector, union, Trees}
+use Rattle.abi_tree.specs.declared.mark.Mark.TheVariants.{Never, Unit}
+use Rattle.abi_tree.specs.Placed.{Placed, layout_of, size_of, elements, fields, no_parts, never as placed_never}
 use Rattle.abi_scalar.specs.Layout.{Layout}
-use Rattle.abi_laid.specs.Placed.{vector as placed_vector}
+use Rattle.abi_tree.specs.Placed.{vector as placed_vector}
 use Rattle.rustc_abi.specs.declared.error.LayError.TheVariants.{SizeOverflow}
 use Rattle.rustc_abi.specs.Error.{named}
 use Rattle.rustc_abi.specs.ScalarFault.{scalar_fault}

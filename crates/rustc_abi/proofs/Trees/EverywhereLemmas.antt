@@ -10,16 +10,16 @@ use Rattle.abi_scalar.specs.declared.variants.VariantLayout.{VariantLayout}
 use Rattle.abi_scalar.specs.declared.variants.Variants.{Variants as LayoutVariants}
 use Rattle.abi_scalar.specs.declared.variants.Variants.TheVariants.{Empty, Multiple, Single}
 use Rattle.abi_scalar.specs.Shape.{listed_offsets}
-use Rattle.abi_lists.specs.Array.{elements_layout}
+use Rattle.abi_univariant.specs.Array.{elements_layout}
 use Rattle.abi_calc.specs.Enums.Path.{variant_at}
-use Rattle.abi_lists.specs.Simd.{simd_answer}
-use Rattle.abi_laid.specs.Tree.{Tree, scalar, pair, never, unit, array, vector, struct, union, enum, coroutine, Trees, no_trees, more_trees, Variants, no_variants, more_variants}
-use Rattle.abi_laid.specs.declared.mark.Mark.{Mark}
-use Rattle.abi_laid.specs.Mark.{mark_of}
-use Rattle.abi_laid.specs.Placed.{Placed, layout_of, size_of, vector as placed_vector}
+use Rattle.abi_univariant.specs.Simd.{simd_answer}
+use Rattle.abi_tree.specs.Tree.{Tree, scalar, pair, never, unit, array, vector, struct, union, enum, coroutine, Trees, no_trees, more_trees, Variants, no_variants, more_variants}
+use Rattle.abi_tree.specs.declared.mark.Mark.{Mark}
+use Rattle.abi_tree.specs.Mark.{mark_of}
+use Rattle.abi_tree.specs.Placed.{Placed, layout_of, size_of, vector as placed_vector}
 use Rattle.abi_scalar.specs.Layout.{Layout}
-use Rattle.abi_laid.specs.Nodes.{parts_at, placed_in}
-use Rattle.abi_laid.specs.declared.mark.Mark.TheVariants.{Plain}
+use Rattle.abi_tree.specs.Nodes.{parts_at, placed_in}
+use Rattle.abi_tree.specs.declared.mark.Mark.TheVariants.{Plain}
 use Rattle.std.proofs.lemmas.List.FromFn.{length-range_with_len}
 use Rattle.abi_scalar.specs.declared.scalar.Scalar.{Scalar}
 use Rattle.abi_scalar.specs.Lawful.{IsLawfulLayout}
@@ -27,7 +27,7 @@ use Rattle.abi_scalar.specs.Variant.{variants_of as layouts_in}
 use Rattle.abi_calc.specs.Coroutine.Layout.{IsStateTag}
 use Rattle.abi_calc.specs.Coroutine.Made.{AreStatesOf, IsMadeOfStates}
 use Rattle.abi_calc.specs.Coroutine.Promotion.{promoted_of}
-use Rattle.abi_lists.specs.Placement.{source_order}
+use Rattle.abi_univariant.specs.Placement.{source_order}
 use Rattle.abi_calc.proofs.CoroutineLemmas.Seen.{coroutine_made}
 use Rattle.rustc_abi.specs.Coroutines.{IsStated, conflicts_of}
 use Rattle.rustc_abi.proofs.Sizes.EachListLemmas.{state_count}

@@ -27,26 +27,26 @@ use Rattle.abi_scalar.specs.View.{union_view}
 use Rattle.abi_scalar.proofs.LawfulLemmas.{scalar_lawful, empty_lawful}
 use Rattle.abi_scalar.proofs.PairLemmas.{pair_lawful_at}
 use Rattle.abi_scalar.proofs.ReadableLemmas.{lawful_readable}
-use Rattle.abi_lists.specs.declared.part.Part.{Part}
-use Rattle.abi_lists.specs.Array.{elements_layout}
-use Rattle.abi_lists.specs.List.{AreSized, HasLawfulAligns}
-use Rattle.abi_lists.specs.ListView.{any_unsized, bulky_parts, bulky_view, kept_view, list_view, pair_view, part_at, two_view}
-use Rattle.abi_lists.specs.Part.{is_unsized, part_of, parts_of}
-use Rattle.abi_lists.specs.LawfulPart.{IsAlignedPart, IsLawfulPart}
-use Rattle.abi_lists.specs.Placement.{IsLawfulPrefix, IsNonEmptyIfUnsized, align_of, end_from, in_order, list_repr, size_in, start_of}
-use Rattle.abi_lists.specs.Simd.{if_below, is_tight, lanes_answer, simd_align, simd_answer, simd_view, vector_layout}
-use Rattle.abi_lists.specs.Union.{CountsForView, HasView, IsUnionView, fault_before, first_unsized, sized_fault, union_size}
-use Rattle.abi_lists.proofs.Promised.DeepLemmas.{in_order_of}
-use Rattle.abi_lists.proofs.Promised.OrderedLemmas.{ordered_index, ordered_inside}
-use Rattle.abi_lists.proofs.Placed.FaultLemmas.{clear_of}
-use Rattle.abi_lists.proofs.Views.LawfulList.{made_lawful}
-use Rattle.abi_lists.proofs.Views.Lawful.{array_lawful}
-use Rattle.abi_lists.proofs.Sorted.Least.{align_small}
-use Rattle.abi_lists.proofs.Layouts.ListLemmas.{parts_lawful, repr_lawful}
-use Rattle.abi_lists.proofs.Placed.RunLemmas.{aligned_parts, biased_of}
-use Rattle.abi_lists.specs.Run.{IsInOrder}
-use Rattle.abi_lists.proofs.UnionsVectors.UnionLawful.{union_is_lawful}
-use Rattle.abi_lists.proofs.UnionsVectors.VectorLemmas.{factor_small, lanes_are, lanes_bounded, simd_of_view, simd_viewed, vector_small, vectors_lawful}
+use Rattle.abi_univariant.specs.declared.part.Part.{Part}
+use Rattle.abi_univariant.specs.Array.{elements_layout}
+use Rattle.abi_univariant.specs.List.{AreSized, HasLawfulAligns}
+use Rattle.abi_univariant.specs.ListView.{any_unsized, bulky_parts, bulky_view, kept_view, list_view, pair_view, part_at, two_view}
+use Rattle.abi_univariant.specs.Part.{is_unsized, part_of, parts_of}
+use Rattle.abi_univariant.specs.LawfulPart.{IsAlignedPart, IsLawfulPart}
+use Rattle.abi_univariant.specs.Placement.{IsLawfulPrefix, IsNonEmptyIfUnsized, align_of, end_from, in_order, list_repr, size_in, start_of}
+use Rattle.abi_univariant.specs.Simd.{if_below, is_tight, lanes_answer, simd_align, simd_answer, simd_view, vector_layout}
+use Rattle.abi_univariant.specs.Union.{CountsForView, HasView, IsUnionView, fault_before, first_unsized, sized_fault, union_size}
+use Rattle.abi_univariant.proofs.Promised.DeepLemmas.{in_order_of}
+use Rattle.abi_univariant.proofs.Promised.OrderedLemmas.{ordered_index, ordered_inside}
+use Rattle.abi_univariant.proofs.Placed.FaultLemmas.{clear_of}
+use Rattle.abi_univariant.proofs.Views.LawfulList.{made_lawful}
+use Rattle.abi_univariant.proofs.Views.Lawful.{array_lawful}
+use Rattle.abi_univariant.proofs.Sorted.Least.{align_small}
+use Rattle.abi_univariant.proofs.Layouts.ListLemmas.{parts_lawful, repr_lawful}
+use Rattle.abi_univariant.proofs.Placed.RunLemmas.{aligned_parts, biased_of}
+use Rattle.abi_univariant.specs.Run.{IsInOrder}
+use Rattle.abi_univariant.proofs.UnionsVectors.UnionLawful.{union_is_lawful}
+use Rattle.abi_univariant.proofs.UnionsVectors.VectorLemmas.{factor_small, lanes_are, lanes_bounded, simd_of_view, simd_viewed, vector_small, vectors_lawful}
 use Rattle.abi_calc.specs.declared.enums.path.Path.{Path}
 use Rattle.abi_calc.specs.declared.enums.path.Path.TheVariants.{NoValue, OneList, Several}
 use Rattle.abi_calc.specs.Coroutine.Layout.{IsStateTag}
@@ -61,9 +61,9 @@ use Rattle.abi_calc.proofs.EnumLemmas.Whole.{several_some}
 use Rattle.rustc_abi.specs.declared.error.LayError.{LayError}
 use Rattle.rustc_abi.specs.declared.error.LayError.TheVariants.{SizeOverflow}
 use Rattle.abi_types.specs.Ty.Walks.{is_sized}
-use Rattle.abi_laid.specs.Tree.{Tree, scalar, pair, never, unit, array, vector, struct, union, enum, coroutine, Trees, no_trees, more_trees, Variants, no_variants, more_variants}
-use Rattle.abi_laid.specs.declared.mark.Mark.TheVariants.{Never, Unit}
-use Rattle.abi_laid.specs.Placed.{Placed, layout_of, size_of, elements, fields, vector as placed_vector, no_parts, never as placed_never}
+use Rattle.abi_tree.specs.Tree.{Tree, scalar, pair, never, unit, array, vector, struct, union, enum, coroutine, Trees, no_trees, more_trees, Variants, no_variants, more_variants}
+use Rattle.abi_tree.specs.declared.mark.Mark.TheVariants.{Never, Unit}
+use Rattle.abi_tree.specs.Placed.{Placed, layout_of, size_of, elements, fields, vector as placed_vector, no_parts, never as placed_never}
 use Rattle.abi_scalar.specs.Layout.{Layout}
 use Rattle.rustc_abi.specs.ScalarFault.{scalar_fault}
 use Rattle.rustc_abi.specs.Error.{named, Follows}

@@ -8,47 +8,47 @@ use Rattle.abi_base.specs.declared.data_layout.TargetDataLayout.{TargetDataLayou
 use Rattle.abi_scalar.specs.declared.repr.ReprOptions.{ReprOptions}
 use Rattle.abi_scalar.specs.declared.niche.Niche.{Niche}
 use Rattle.abi_scalar.specs.Lawful.{IsLawfulLayout}
-use Rattle.abi_lists.specs.Apart.{AreApart}
-use Rattle.abi_lists.specs.List.{HasLawfulAligns}
+use Rattle.abi_univariant.specs.Apart.{AreApart}
+use Rattle.abi_univariant.specs.List.{HasLawfulAligns}
 use Rattle.abi_base.specs.declared.struct_kind.StructKind.TheVariants.{AlwaysSized, MaybeUnsized}
-use Rattle.abi_lists.specs.ListView.{list_view}
+use Rattle.abi_univariant.specs.ListView.{list_view}
 use Rattle.abi_scalar.specs.Repr.{is_abi_fixed}
-use Rattle.abi_lists.specs.Array.{array_answer, elements_layout}
+use Rattle.abi_univariant.specs.Array.{array_answer, elements_layout}
 use Rattle.rustc_abi.specs.declared.error.LayError.{LayError}
 use Rattle.rustc_abi.specs.declared.error.LayError.TheVariants.{BadIndex, BadAlign, SizeOverflow}
-use Rattle.abi_laid.specs.declared.node.Node.{Node}
+use Rattle.abi_tree.specs.declared.node.Node.{Node}
 use Rattle.abi_base.specs.DataLayout.{size_bound}
 use Rattle.abi_scalar.specs.declared.scalar.Scalar.{Scalar}
 use Rattle.abi_scalar.specs.Pair.{pair_size, second_offset}
 use Rattle.std.proofs.lemmas.Bool.{lt-ltb, le-ltb, ltb-false}
-use Rattle.abi_laid.specs.declared.node.Shape.TheVariants.{Pair}
+use Rattle.abi_tree.specs.declared.node.Shape.TheVariants.{Pair}
 use Rattle.rustc_abi.specs.ScalarFault.{scalar_fault}
 use Rattle.rustc_abi.proofs.Faults.FaultLemmas.{faultless}
 use Rattle.rustc_abi.proofs.Values.PairLemmas.{Fits-pair}
-use Rattle.abi_laid.specs.Tree.{Tree, pair, array, struct, Trees, no_trees, more_trees, trees, Variants, no_variants, more_variants}
-use Rattle.abi_laid.specs.Placed.{Placed, layout_of, size_of, niche_of, pair as placed_pair, elements, part, no_parts}
+use Rattle.abi_tree.specs.Tree.{Tree, pair, array, struct, Trees, no_trees, more_trees, trees, Variants, no_variants, more_variants}
+use Rattle.abi_tree.specs.Placed.{Placed, layout_of, size_of, niche_of, pair as placed_pair, elements, part, no_parts}
 use Rattle.abi_scalar.specs.Layout.{Layout}
 use Rattle.rustc_abi.specs.Error.{named, IsRefused}
-use Rattle.abi_laid.specs.Fits.{Fits}
-use Rattle.abi_laid.specs.Nodes.{placed_in, meaning, types_in, placed_at, root_of, Keeps}
-use Rattle.abi_laid.specs.Values.{LocalsHaveValues}
-use Rattle.abi_laid.specs.Faithful.{IsFaithful}
+use Rattle.abi_tree.specs.Fits.{Fits}
+use Rattle.abi_tree.specs.Nodes.{placed_in, meaning, types_in, placed_at, root_of, Keeps}
+use Rattle.abi_tree.specs.Values.{LocalsHaveValues}
+use Rattle.abi_tree.specs.Faithful.{IsFaithful}
 use Rattle.rustc_abi.specs.Laying.{IsListedInOrder, IsOrderedFieldsAnswer, ordered_fault, randomized}
 use Rattle.rustc_abi.specs.Laying.{IsLaying, AreLaying, IsFieldsAnswer, IsLaidList, fields_fault, has_bad_align, is_above_limit, most_fields, kind_of, placed_fields, placed_by, unless, one_scalar, two_scalars, pair_answer}
-use Rattle.abi_laid.specs.Room.{has_room}
-use Rattle.abi_laid.specs.Unions.{Begins, IsCommon, InUnions}
-use Rattle.abi_laid.specs.Untagged.{UntaggedNamed}
+use Rattle.abi_tree.specs.Room.{has_room}
+use Rattle.abi_tree.specs.Unions.{Begins, IsCommon, InUnions}
+use Rattle.abi_tree.specs.Untagged.{UntaggedNamed}
 use Rattle.rustc_abi.proofs.Unions.CommonLemmas.{begins_room}
-use Rattle.abi_laid.specs.Well.{IsPut, all_at}
+use Rattle.abi_tree.specs.Well.{IsPut, all_at}
 use Rattle.rustc_abi.specs.Adding.{IsAdded, EachFits, VariantsFit, AreAdded}
 use Rattle.rustc_abi.proofs.Values.ElementsLemmas.{IsElementNiche, Fits-elements}
 use Rattle.rustc_abi.proofs.Values.FieldsLemmas.{part_of_list, Fits-fields}
-use Rattle.abi_lists.specs.ListNiche.{IsNicheOfPart}
-use Rattle.abi_lists.specs.Part.{parts_of}
+use Rattle.abi_univariant.specs.ListNiche.{IsNicheOfPart}
+use Rattle.abi_univariant.specs.Part.{parts_of}
 use Rattle.std.proofs.lemmas.Option.{IfSome_then}
 use Rattle.abi_scalar.specs.Shape.{listed_offsets}
 use Rattle.rustc_abi.proofs.Trees.ListLemmas.{chosen}
-use Rattle.abi_laid.proofs.Meaning.NodesLemmas.{length-types_in, Keeps-trans}
+use Rattle.abi_tree.proofs.Meaning.NodesLemmas.{length-types_in, Keeps-trans}
 
 pub IsAdded-put : (dl : TargetDataLayout) (old new : List Node) (i : ℕ) (placed : Placed) (t : Tree) → IsPut old new i placed →
     IsLaying dl t (Ok placed) → Fits dl t placed → IsAdded dl old new i t

@@ -14,18 +14,18 @@ use Rattle.abi_scalar.specs.declared.repr.ReprOptions.{ReprOptions}
 use Rattle.abi_scalar.specs.declared.error.LayoutCalculatorError.{LayoutCalculatorError}
 use Rattle.abi_scalar.specs.declared.error.LayoutCalculatorError.TheVariants.{SizeOverflow, UnexpectedUnsized}
 use Rattle.abi_scalar.specs.declared.error.LayoutCalculatorError.TheVariants as calculator
-use Rattle.abi_lists.specs.declared.order.NicheBias.TheVariants.{Start}
-use Rattle.abi_lists.specs.declared.placing.ListFault.{ListFault}
-use Rattle.abi_lists.specs.declared.placing.ListFault.TheVariants as fault
-use Rattle.abi_lists.specs.Fault.{IsErrorOf, fault_in}
-use Rattle.abi_lists.specs.InOrder.{IsOrderedAnswer, IsOrderedError}
-use Rattle.abi_lists.specs.Least.{IsOrderOf}
-use Rattle.abi_lists.specs.List.{IsListAnswer}
-use Rattle.abi_lists.specs.Order.{IsNamedOrder}
-use Rattle.abi_lists.specs.Part.{parts_of}
-use Rattle.abi_lists.specs.Placement.{list_repr}
+use Rattle.abi_univariant.specs.declared.order.NicheBias.TheVariants.{Start}
+use Rattle.abi_univariant.specs.declared.placing.ListFault.{ListFault}
+use Rattle.abi_univariant.specs.declared.placing.ListFault.TheVariants as fault
+use Rattle.abi_univariant.specs.Fault.{IsErrorOf, fault_in}
+use Rattle.abi_univariant.specs.InOrder.{IsOrderedAnswer, IsOrderedError}
+use Rattle.abi_univariant.specs.Least.{IsOrderOf}
+use Rattle.abi_univariant.specs.List.{IsListAnswer}
+use Rattle.abi_univariant.specs.Order.{IsNamedOrder}
+use Rattle.abi_univariant.specs.Part.{parts_of}
+use Rattle.abi_univariant.specs.Placement.{list_repr}
 use Rattle.rustc_abi.specs.declared.error.LayError.{LayError}
-use Rattle.abi_laid.specs.Placed.{Placed, layout_of, size_of}
+use Rattle.abi_tree.specs.Placed.{Placed, layout_of, size_of}
 use Rattle.abi_scalar.specs.Layout.{Layout}
 use Rattle.rustc_abi.specs.Error.{lay_error, named, IsRefused}
 use Rattle.rustc_abi.specs.Laying.{IsLaidList, IsListedInOrder}

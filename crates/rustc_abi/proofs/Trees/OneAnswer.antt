@@ -9,24 +9,24 @@ use Rattle.abi_base.specs.DataLayout.{size_bound}
 use Rattle.abi_scalar.specs.declared.error.LayoutCalculatorError.{LayoutCalculatorError}
 use Rattle.abi_scalar.specs.declared.repr.ReprOptions.{ReprOptions}
 use Rattle.abi_scalar.specs.declared.scalar.Scalar.{Scalar}
-use Rattle.abi_lists.specs.declared.order.NicheBias.TheVariants.{Start}
-use Rattle.abi_lists.specs.declared.placing.ListFault.{ListFault}
-use Rattle.abi_lists.specs.declared.placing.ListFault.TheVariants.{Unsized, TooLarge, OutOfMemory}
-use Rattle.abi_lists.specs.Fault.{IsErrorOf, fault_in}
-use Rattle.abi_lists.specs.InOrder.{IsOrderedError}
-use Rattle.abi_lists.specs.List.{IsListError}
-use Rattle.abi_lists.specs.Order.{IsNamedOrder}
-use Rattle.abi_lists.specs.Part.{parts_of}
-use Rattle.abi_lists.specs.Placement.{IsNonEmptyIfUnsized, list_repr}
-use Rattle.abi_lists.specs.Union.{union_fault, union_layout}
-use Rattle.abi_lists.proofs.UnionsVectors.UnionLemmas.{one_union_view}
-use Rattle.abi_lists.proofs.Layouts.OneOrder.{one_in_order, one_layout, one_named, never_refused}
+use Rattle.abi_univariant.specs.declared.order.NicheBias.TheVariants.{Start}
+use Rattle.abi_univariant.specs.declared.placing.ListFault.{ListFault}
+use Rattle.abi_univariant.specs.declared.placing.ListFault.TheVariants.{Unsized, TooLarge, OutOfMemory}
+use Rattle.abi_univariant.specs.Fault.{IsErrorOf, fault_in}
+use Rattle.abi_univariant.specs.InOrder.{IsOrderedError}
+use Rattle.abi_univariant.specs.List.{IsListError}
+use Rattle.abi_univariant.specs.Order.{IsNamedOrder}
+use Rattle.abi_univariant.specs.Part.{parts_of}
+use Rattle.abi_univariant.specs.Placement.{IsNonEmptyIfUnsized, list_repr}
+use Rattle.abi_univariant.specs.Union.{union_fault, union_layout}
+use Rattle.abi_univariant.proofs.UnionsVectors.UnionLemmas.{one_union_view}
+use Rattle.abi_univariant.proofs.Layouts.OneOrder.{one_in_order, one_layout, one_named, never_refused}
 use Rattle.abi_calc.proofs.EnumLemmas.OneEnum.{one_type, IsMade}
 use Rattle.abi_calc.proofs.CoroutineLemmas.OneCoroutine.{one_coroutine, one_tag}
 use Rattle.abi_calc.specs.Enums.Path.{path_of}
 use Rattle.rustc_abi.specs.declared.error.LayError.{LayError}
-use Rattle.abi_laid.specs.Tree.{Tree, scalar, pair, never, unit, array, vector, struct, union, enum, coroutine, Trees, no_trees, more_trees, Variants, no_variants, more_variants}
-use Rattle.abi_laid.specs.Placed.{Placed, layout_of}
+use Rattle.abi_tree.specs.Tree.{Tree, scalar, pair, never, unit, array, vector, struct, union, enum, coroutine, Trees, no_trees, more_trees, Variants, no_variants, more_variants}
+use Rattle.abi_tree.specs.Placed.{Placed, layout_of}
 use Rattle.abi_scalar.specs.Layout.{Layout}
 use Rattle.rustc_abi.specs.Error.{Follows, lay_error}
 use Rattle.rustc_abi.specs.Laying.{IsListedInOrder, IsOrderedFieldsAnswer, ordered_fault, randomized}

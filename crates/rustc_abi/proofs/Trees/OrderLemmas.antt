@@ -8,18 +8,18 @@ use Rattle.abi_base.specs.declared.struct_kind.StructKind.{StructKind}
 use Rattle.abi_scalar.specs.declared.repr.ReprOptions.{ReprOptions}
 use Rattle.abi_scalar.specs.Repr.{has_fixed_order, may_randomize}
 use Rattle.abi_scalar.specs.Shape.{listed_offsets}
-use Rattle.abi_lists.specs.declared.order.NicheBias.TheVariants.{Start}
-use Rattle.abi_lists.specs.Least.{IsOrderOf, IsPlacedBy}
-use Rattle.abi_lists.specs.List.{HasLawfulAligns}
-use Rattle.abi_lists.specs.Part.{part_of, parts_of}
+use Rattle.abi_univariant.specs.declared.order.NicheBias.TheVariants.{Start}
+use Rattle.abi_univariant.specs.Least.{IsOrderOf, IsPlacedBy}
+use Rattle.abi_univariant.specs.List.{HasLawfulAligns}
+use Rattle.abi_univariant.specs.Part.{part_of, parts_of}
 use Rattle.abi_base.specs.declared.struct_kind.StructKind.TheVariants.{AlwaysSized, MaybeUnsized}
-use Rattle.abi_lists.specs.Placement.{IsAllowed, IsNonEmptyIfUnsized, list_repr}
+use Rattle.abi_univariant.specs.Placement.{IsAllowed, IsNonEmptyIfUnsized, list_repr}
 use Rattle.abi_scalar.specs.declared.error.LayoutCalculatorError.TheVariants as calculator
-use Rattle.abi_lists.proofs.Sorted.Least.{allowed_permutes}
-use Rattle.abi_lists.specs.Run.{IsInOrder}
-use Rattle.abi_lists.proofs.Sorted.Sorting.{within_order}
+use Rattle.abi_univariant.proofs.Sorted.Least.{allowed_permutes}
+use Rattle.abi_univariant.specs.Run.{IsInOrder}
+use Rattle.abi_univariant.proofs.Sorted.Sorting.{within_order}
 use Rattle.rustc_abi.specs.declared.error.LayError.TheVariants.{BadAlign, BadIndex, BadOrder}
-use Rattle.abi_laid.specs.Placed.{Placed, layout_of}
+use Rattle.abi_tree.specs.Placed.{Placed, layout_of}
 use Rattle.abi_scalar.specs.Layout.{Layout}
 use Rattle.rustc_abi.specs.Laying.{IsListedInOrder, fields_fault, has_bad_align, ordered_fault, randomized}
 

@@ -20,38 +20,38 @@ use Rattle.abi_scalar.specs.declared.scalar.Scalar.TheVariants.{Initialized}
 use Rattle.abi_scalar.specs.declared.variants.Variants.TheVariants.{Single}
 use Rattle.abi_scalar.specs.Repr.{is_abi_fixed}
 use Rattle.abi_scalar.specs.Lawful.{IsLawfulLayout}
-use Rattle.abi_lists.specs.declared.order.NicheBias.TheVariants.{Start}
-use Rattle.abi_lists.specs.declared.placing.ListFault.{ListFault}
-use Rattle.abi_lists.specs.declared.placing.ListFault.TheVariants.{Unsized, TooLarge, OutOfMemory}
-use Rattle.abi_lists.specs.Fault.{IsErrorOf, fault_in}
-use Rattle.abi_lists.specs.Fields.{greatest_repr_align, lies_as_in_c}
-use Rattle.abi_lists.specs.InOrder.{IsLaidInOrder}
-use Rattle.abi_lists.specs.Least.{IsOrderOf}
-use Rattle.abi_lists.specs.List.{AreSized, IsListBy, list_seed, unadjusted_of}
-use Rattle.abi_lists.specs.ListView.{list_view}
-use Rattle.abi_lists.specs.Order.{IsNamedOrder}
-use Rattle.abi_lists.specs.Part.{parts_of as asked_of}
+use Rattle.abi_univariant.specs.declared.order.NicheBias.TheVariants.{Start}
+use Rattle.abi_univariant.specs.declared.placing.ListFault.{ListFault}
+use Rattle.abi_univariant.specs.declared.placing.ListFault.TheVariants.{Unsized, TooLarge, OutOfMemory}
+use Rattle.abi_univariant.specs.Fault.{IsErrorOf, fault_in}
+use Rattle.abi_univariant.specs.Fields.{greatest_repr_align, lies_as_in_c}
+use Rattle.abi_univariant.specs.InOrder.{IsLaidInOrder}
+use Rattle.abi_univariant.specs.Least.{IsOrderOf}
+use Rattle.abi_univariant.specs.List.{AreSized, IsListBy, list_seed, unadjusted_of}
+use Rattle.abi_univariant.specs.ListView.{list_view}
+use Rattle.abi_univariant.specs.Order.{IsNamedOrder}
+use Rattle.abi_univariant.specs.Part.{parts_of as asked_of}
 use Rattle.abi_base.specs.declared.struct_kind.StructKind.{StructKind}
-use Rattle.abi_lists.specs.Placement.{IsNonEmptyIfUnsized, KeepsTail, list_repr, source_order}
-use Rattle.abi_lists.specs.Run.{IsNamedLayout}
-use Rattle.abi_lists.specs.Union.{union_fault, union_layout}
-use Rattle.abi_lists.proofs.Promised.DeepLemmas.{sized_fault, sized_in_order}
-use Rattle.abi_lists.proofs.Placed.FaultLemmas.{memory_in}
-use Rattle.abi_lists.proofs.Layouts.SomeOrder.{some_layout, some_placed}
-use Rattle.abi_lists.proofs.Views.SomeView.{some_union_view}
+use Rattle.abi_univariant.specs.Placement.{IsNonEmptyIfUnsized, KeepsTail, list_repr, source_order}
+use Rattle.abi_univariant.specs.Run.{IsNamedLayout}
+use Rattle.abi_univariant.specs.Union.{union_fault, union_layout}
+use Rattle.abi_univariant.proofs.Promised.DeepLemmas.{sized_fault, sized_in_order}
+use Rattle.abi_univariant.proofs.Placed.FaultLemmas.{memory_in}
+use Rattle.abi_univariant.proofs.Layouts.SomeOrder.{some_layout, some_placed}
+use Rattle.abi_univariant.proofs.Views.SomeView.{some_union_view}
 use Rattle.abi_calc.specs.Coroutine.Layout.{IsStateTag}
 use Rattle.abi_calc.proofs.CoroutineLemmas.SomeCoroutine.{some_coroutine}
 use Rattle.abi_calc.proofs.EnumLemmas.SomeEnum.{some_type}
 use Rattle.abi_calc.specs.Enums.Path.{path_of}
 use Rattle.rustc_abi.specs.declared.error.LayError.{LayError}
 use Rattle.rustc_abi.specs.declared.error.LayError.TheVariants.{BadOrder, SizeOverflow}
-use Rattle.abi_laid.specs.Tree.{Tree, scalar, pair, never, unit, array, vector, struct, union, enum, coroutine, Trees, no_trees, more_trees, Variants, no_variants, more_variants}
-use Rattle.abi_laid.specs.Placed.{Placed, layout_of}
+use Rattle.abi_tree.specs.Tree.{Tree, scalar, pair, never, unit, array, vector, struct, union, enum, coroutine, Trees, no_trees, more_trees, Variants, no_variants, more_variants}
+use Rattle.abi_tree.specs.Placed.{Placed, layout_of}
 use Rattle.abi_scalar.specs.Layout.{Layout}
 use Rattle.rustc_abi.specs.Error.{Follows, lay_error}
 use Rattle.rustc_abi.specs.Laying.{IsListedInOrder, IsOrderedFieldsAnswer, ordered_fault, randomized}
 use Rattle.rustc_abi.proofs.Trees.OrderLemmas.{allowed_parts, ordered_faultless, reorderable}
-use Rattle.abi_lists.proofs.Sorted.Allowed.{keeps_or_not, permutes_or_not}
+use Rattle.abi_univariant.proofs.Sorted.Allowed.{keeps_or_not, permutes_or_not}
 use Rattle.rustc_abi.specs.Laying.{AreLaying, IsFieldsAnswer, IsLaying, IsLaidList, IsCoroutineOf, IsUnionOf, IsUnited, VariantsLaying, elements_answer, fields_fault, kind_of, placed_fields, placed_together, vector_answer, IsEnumOf, enum_fault, placed_enum, coroutine_fault, most_fields, one_scalar, placed_coroutine}
 use Rattle.rustc_abi.specs.Coroutines.{IsCoroutined, IsStated, conflicts_of}
 use Rattle.rustc_abi.specs.Enums.{IsCalculated, IsEnumed, IsTagIntegerAnswer, numbered_from, layouts_of, discriminants_of}

@@ -2,7 +2,7 @@
 use Rattle.std.proofs.Common.{◌≡◌, ◌++◌, ◌∷◌, [], List, ap, append_assoc, drop, length, subst, sym, take, ◌∙◌}
 use Rattle.std.proofs.Math.Seq.{take-append_seam, take-length}
 use Rattle.std.proofs.lemmas.List.{take-append-drop}
-use Rattle.abi_laid.specs.declared.node.Node.{Node}
+use Rattle.abi_tree.specs.declared.node.Node.{Node}
 use Rattle.rustc_abi.specs.Adding.{AreStillThere}
 
 -- where none was put, and where one was

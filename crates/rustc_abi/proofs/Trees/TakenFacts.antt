@@ -9,11 +9,11 @@ use Rattle.abi_scalar.specs.declared.repr.ReprOptions.{ReprOptions}
 use Rattle.abi_scalar.specs.declared.scalar.Scalar.{Scalar}
 use Rattle.abi_scalar.specs.declared.scalar.Scalar.TheVariants.{Initialized}
 use Rattle.abi_scalar.specs.Layout.{Layout}
-use Rattle.abi_lists.specs.ListNiche.{HasLargestNiche}
-use Rattle.abi_laid.specs.declared.mark.Mark.{Mark}
-use Rattle.abi_laid.specs.declared.mark.Mark.TheVariants.{Plain}
-use Rattle.abi_laid.specs.Placed.{Parts, Placed, fields, no_parts, part, union as together}
-use Rattle.abi_laid.specs.Tree.{Trees, scalar, struct, union}
+use Rattle.abi_univariant.specs.ListNiche.{HasLargestNiche}
+use Rattle.abi_tree.specs.declared.mark.Mark.{Mark}
+use Rattle.abi_tree.specs.declared.mark.Mark.TheVariants.{Plain}
+use Rattle.abi_tree.specs.Placed.{Parts, Placed, fields, no_parts, part, union as together}
+use Rattle.abi_tree.specs.Tree.{Trees, scalar, struct, union}
 use Rattle.rustc_abi.specs.Aligns.{HasAlignOfParts, abi_align_of}
 use Rattle.rustc_abi.specs.Laying.{one_scalar}
 use Rattle.rustc_abi.specs.Lists.{types_of}

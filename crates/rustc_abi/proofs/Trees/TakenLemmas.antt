@@ -20,15 +20,15 @@ use Rattle.abi_scalar.specs.Pair.{pair_size}
 use Rattle.abi_scalar.specs.Shape.{listed_offsets}
 use Rattle.abi_scalar.specs.Simple.{never_layout, unit_layout}
 use Rattle.abi_scalar.specs.Variant.{variants_of as layouts_in}
-use Rattle.abi_lists.specs.Array.{elements_layout}
-use Rattle.abi_lists.specs.Fields.{greatest, greatest_align}
-use Rattle.abi_lists.specs.Least.{align_by}
-use Rattle.abi_lists.specs.ListNiche.{IsNicheOfPart}
-use Rattle.abi_lists.specs.Placement.{list_repr, source_order}
-use Rattle.abi_lists.specs.Union.{union_align}
-use Rattle.abi_lists.specs.Simd.{lanes_align, lanes_answer, simd_align, simd_answer, simd_view, vector_layout}
-use Rattle.abi_lists.proofs.Promised.OrderedLemmas.{ordered_largest, ordered_of_part}
-use Rattle.abi_lists.proofs.UnionsVectors.VectorLemmas.{lanes_are}
+use Rattle.abi_univariant.specs.Array.{elements_layout}
+use Rattle.abi_univariant.specs.Fields.{greatest, greatest_align}
+use Rattle.abi_univariant.specs.Least.{align_by}
+use Rattle.abi_univariant.specs.ListNiche.{IsNicheOfPart}
+use Rattle.abi_univariant.specs.Placement.{list_repr, source_order}
+use Rattle.abi_univariant.specs.Union.{union_align}
+use Rattle.abi_univariant.specs.Simd.{lanes_align, lanes_answer, simd_align, simd_answer, simd_view, vector_layout}
+use Rattle.abi_univariant.proofs.Promised.OrderedLemmas.{ordered_largest, ordered_of_part}
+use Rattle.abi_univariant.proofs.UnionsVectors.VectorLemmas.{lanes_are}
 use Rattle.abi_calc.specs.declared.enums.path.Path.{Path}
 use Rattle.abi_calc.specs.declared.enums.path.Path.TheVariants.{NoValue, OneList, Several}
 use Rattle.abi_calc.specs.Coroutine.Lists.{first_list}
@@ -49,14 +49,14 @@ use Rattle.abi_calc.proofs.EnumLemmas.Whole.{several_some}
 use Rattle.abi_calc.proofs.Handed.{handed_marks}
 use Rattle.abi_calc.proofs.Made.{field_list}
 use Rattle.abi_calc.proofs.Seen.{single_seen}
-use Rattle.abi_laid.specs.Tree.{Tree, scalar, pair, never, unit, array, vector, struct, union, enum, coroutine, Trees}
-use Rattle.abi_laid.specs.Tree.{Variants}
-use Rattle.abi_laid.specs.declared.mark.Mark.{Mark}
-use Rattle.abi_laid.specs.declared.mark.Mark.TheVariants.{Never, Plain, Unit}
-use Rattle.abi_laid.specs.Mark.{mark_of}
-use Rattle.abi_laid.specs.Nodes.{parts_at, placed_in, tag_offset}
-use Rattle.abi_laid.specs.Placed.{Placed, fields, layout_of, size_of, never as placed_never, no_parts}
-use Rattle.abi_laid.specs.Placed.{vector as placed_vector}
+use Rattle.abi_tree.specs.Tree.{Tree, scalar, pair, never, unit, array, vector, struct, union, enum, coroutine, Trees}
+use Rattle.abi_tree.specs.Tree.{Variants}
+use Rattle.abi_tree.specs.declared.mark.Mark.{Mark}
+use Rattle.abi_tree.specs.declared.mark.Mark.TheVariants.{Never, Plain, Unit}
+use Rattle.abi_tree.specs.Mark.{mark_of}
+use Rattle.abi_tree.specs.Nodes.{parts_at, placed_in, tag_offset}
+use Rattle.abi_tree.specs.Placed.{Placed, fields, layout_of, size_of, never as placed_never, no_parts}
+use Rattle.abi_tree.specs.Placed.{vector as placed_vector}
 use Rattle.rustc_abi.specs.Aligns.{HasAlignOfParts, IsKindOfVariants, variants_align}
 use Rattle.rustc_abi.specs.Coroutines.{conflicts_of}
 use Rattle.rustc_abi.specs.declared.error.LayError.TheVariants.{SizeOverflow}

@@ -3,11 +3,11 @@ use Rattle.std.proofs.Common.{Bool, Box, None, Some, ◌≡◌, ℕ, zero, suc, 
 use Rattle.std.specs.declared.alloc.Global.{Global}
 use Rattle.abi_scalar.specs.declared.repr.ReprOptions.{ReprOptions}
 use Rattle.abi_scalar.specs.declared.scalar.Scalar.{Scalar}
-use Rattle.abi_laid.specs.declared.tree.TypeTree.{TypeTree, Scalar as OneScalar, Pair, Never, Unit, Array, Vector, Struct, Ordered, Union, Enum, Coroutine, fold-roll-TypeTree}
-use Rattle.abi_laid.specs.declared.tree.TypeTree.TheVariants.{rolls-Scalar, rolls-Pair, rolls-Never, rolls-Unit, rolls-Array, rolls-Vector, rolls-Struct, rolls-Ordered, rolls-Union, rolls-Enum, rolls-Coroutine}
-use Rattle.abi_laid.specs.declared.tree.TypeTree.TheShapes.{former-TypeTree-Enum-1-at-3}
-use Rattle.abi_laid.specs.declared.tree.TypeTree.TheOpen as layer
-use Rattle.abi_laid.specs.Tree.{Tree, tree_of, layer_tree, trees, scalar, pair, never, unit, array, vector, struct, union, enum, coroutine, variants, more_variants, trees_of_variants}
+use Rattle.abi_tree.specs.declared.tree.TypeTree.{TypeTree, Scalar as OneScalar, Pair, Never, Unit, Array, Vector, Struct, Ordered, Union, Enum, Coroutine, fold-roll-TypeTree}
+use Rattle.abi_tree.specs.declared.tree.TypeTree.TheVariants.{rolls-Scalar, rolls-Pair, rolls-Never, rolls-Unit, rolls-Array, rolls-Vector, rolls-Struct, rolls-Ordered, rolls-Union, rolls-Enum, rolls-Coroutine}
+use Rattle.abi_tree.specs.declared.tree.TypeTree.TheShapes.{former-TypeTree-Enum-1-at-3}
+use Rattle.abi_tree.specs.declared.tree.TypeTree.TheOpen as layer
+use Rattle.abi_tree.specs.Tree.{Tree, tree_of, layer_tree, trees, scalar, pair, never, unit, array, vector, struct, union, enum, coroutine, variants, more_variants, trees_of_variants}
 use Rattle.rustc_abi.specs.Adding.{tree_size, trees_size, variants_size}
 
 variants-map : (all : List (ℕ × Vec TypeTree Global)) → variants (map (former-TypeTree-Enum-1-at-3.map TypeTree Tree tree_of) all) ≡ trees_of_variants all

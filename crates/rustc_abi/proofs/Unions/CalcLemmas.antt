@@ -15,14 +15,14 @@ use Rattle.abi_scalar.specs.declared.error.LayoutCalculatorError.TheVariants.{Si
 use Rattle.abi_scalar.specs.declared.fields_shape.FieldsShape.TheVariants.{Arbitrary}
 use Rattle.abi_scalar.specs.declared.variants.Variants.TheVariants.{Single}
 use Rattle.abi_scalar.specs.LaneCount.{lane_count}
-use Rattle.abi_lists.specs.Part.{is_unsized}
-use Rattle.abi_lists.specs.Simd.{after, element_scalar, lanes_answer, vector_layout, is_tight, simd_view, simd_align, simd_answer}
-use Rattle.abi_lists.specs.Union.{IsUnionAnswer, IsUnionView, first_unsized, sized_fault, fault_before, union_fault, union_layout, union_size}
+use Rattle.abi_univariant.specs.Part.{is_unsized}
+use Rattle.abi_univariant.specs.Simd.{after, element_scalar, lanes_answer, vector_layout, is_tight, simd_view, simd_align, simd_answer}
+use Rattle.abi_univariant.specs.Union.{IsUnionAnswer, IsUnionView, first_unsized, sized_fault, fault_before, union_fault, union_layout, union_size}
 use Rattle.rustc_abi.specs.declared.error.LayError.{LayError}
 use Rattle.abi_scalar.specs.Layout.{Layout}
 use Rattle.rustc_abi.specs.Error.{lay_error, named, IsRefused}
 use Rattle.rustc_abi.specs.Adding.{IsRefusal}
-use Rattle.abi_laid.specs.Faithful.{IsTrueOf}
+use Rattle.abi_tree.specs.Faithful.{IsTrueOf}
 use Rattle.rustc_abi.specs.Laying.{IsUnited}
 
 -- ---- unions

@@ -6,17 +6,17 @@ use Rattle.std.proofs.lemmas.List.{length-replicate}
 use Rattle.std.proofs.lemmas.List.Elements.{All-replicate}
 use Rattle.abi_base.specs.declared.data_layout.TargetDataLayout.{TargetDataLayout}
 use Rattle.abi_base.specs.declared.endian.Endian.{Endian}
-use Rattle.abi_laid.specs.Bytes.{bytes_at, picked_bytes}
-use Rattle.abi_laid.specs.Value.{number, two, list, variant, state, bytes}
-use Rattle.abi_laid.specs.declared.mark.Mark.{Mark}
-use Rattle.abi_laid.specs.Placed.{Placed, scalar, pair, never, elements, vector, fields, union, single, tagged, states, Parts, no_parts, part, Arms, no_arms, arm, size_of}
+use Rattle.abi_tree.specs.Bytes.{bytes_at, picked_bytes}
+use Rattle.abi_tree.specs.Value.{number, two, list, variant, state, bytes}
+use Rattle.abi_tree.specs.declared.mark.Mark.{Mark}
+use Rattle.abi_tree.specs.Placed.{Placed, scalar, pair, never, elements, vector, fields, union, single, tagged, states, Parts, no_parts, part, Arms, no_arms, arm, size_of}
 use Rattle.abi_scalar.specs.Layout.{Layout}
-use Rattle.abi_laid.specs.Places.{is_data_place, is_place_of_part}
-use Rattle.abi_laid.specs.Room.{has_room, have_room, arms_have_room}
-use Rattle.abi_laid.specs.Faithful.{PaddingDecidesNothing}
-use Rattle.abi_laid.specs.Unions.{Begins, IsCommon, EachPart, InUnions, InUnionsOf, InUnionsOfArms}
-use Rattle.abi_laid.proofs.Bytes.HoldLemmas.{length-Holds, length-bytes_at, AgreeOn-bytes_at}
-use Rattle.abi_laid.proofs.Bytes.PickedLemmas.{picked-agree}
+use Rattle.abi_tree.specs.Places.{is_data_place, is_place_of_part}
+use Rattle.abi_tree.specs.Room.{has_room, have_room, arms_have_room}
+use Rattle.abi_tree.specs.Faithful.{PaddingDecidesNothing}
+use Rattle.abi_tree.specs.Unions.{Begins, IsCommon, EachPart, InUnions, InUnionsOf, InUnionsOfArms}
+use Rattle.abi_tree.proofs.Bytes.HoldLemmas.{length-Holds, length-bytes_at, AgreeOn-bytes_at}
+use Rattle.abi_tree.proofs.Bytes.PickedLemmas.{picked-agree}
 
 -- ---- bytes of a field begin bytes of the union
 

@@ -8,21 +8,21 @@ use Rattle.abi_base.specs.DataLayout.{size_bound}
 use Rattle.abi_scalar.specs.declared.repr.ReprOptions.{ReprOptions}
 use Rattle.abi_scalar.specs.declared.error.LayoutCalculatorError.TheVariants as calculator
 use Rattle.abi_scalar.specs.Lawful.{IsLawfulLayout}
-use Rattle.abi_lists.specs.Array.{array_answer, elements_layout}
-use Rattle.abi_lists.specs.Simd.{simd_answer}
+use Rattle.abi_univariant.specs.Array.{array_answer, elements_layout}
+use Rattle.abi_univariant.specs.Simd.{simd_answer}
 use Rattle.rustc_abi.specs.declared.error.LayError.{LayError}
-use Rattle.abi_laid.specs.declared.node.Node.{Node}
-use Rattle.abi_laid.specs.Tree.{Tree, array, vector, union, Trees}
-use Rattle.abi_laid.specs.Placed.{Placed, layout_of, elements, vector as placed_vector}
+use Rattle.abi_tree.specs.declared.node.Node.{Node}
+use Rattle.abi_tree.specs.Tree.{Tree, array, vector, union, Trees}
+use Rattle.abi_tree.specs.Placed.{Placed, layout_of, elements, vector as placed_vector}
 use Rattle.abi_scalar.specs.Layout.{Layout}
 use Rattle.rustc_abi.specs.Error.{named, IsRefused}
-use Rattle.abi_laid.specs.Fits.{Fits}
-use Rattle.abi_laid.specs.Nodes.{placed_in, types_in}
+use Rattle.abi_tree.specs.Fits.{Fits}
+use Rattle.abi_tree.specs.Nodes.{placed_in, types_in}
 use Rattle.rustc_abi.specs.Laying.{IsLaying, AreLaying, IsUnionOf, IsUnited, fields_fault, placed_together, lanes_of, placed_by}
-use Rattle.abi_laid.specs.Well.{IsPut}
+use Rattle.abi_tree.specs.Well.{IsPut}
 use Rattle.rustc_abi.specs.Adding.{IsAdded, EachFits}
 use Rattle.rustc_abi.proofs.Trees.ListLemmas.{chosen}
-use Rattle.abi_laid.proofs.Meaning.NodesLemmas.{Keeps-trans}
+use Rattle.abi_tree.proofs.Meaning.NodesLemmas.{Keeps-trans}
 use Rattle.rustc_abi.proofs.Trees.LayLemmas.{IsAdded-put, IsAdded-elements}
 use Rattle.rustc_abi.proofs.Unions.CalcLemmas.{united_layout, vector_made}
 use Rattle.rustc_abi.proofs.Unions.UnionLemmas.{Fits-union}

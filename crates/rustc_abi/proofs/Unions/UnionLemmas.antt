@@ -11,26 +11,26 @@ use Rattle.abi_scalar.specs.declared.backend_repr.BackendRepr.TheVariants.{Scala
 use Rattle.abi_scalar.specs.declared.repr.ReprOptions.{ReprOptions}
 use Rattle.abi_scalar.specs.Lawful.{IsLawfulLayout}
 use Rattle.abi_scalar.specs.View.{union_view}
-use Rattle.abi_lists.specs.Fields.{greatest}
-use Rattle.abi_lists.specs.Union.{CountsForView, HasView, IsUnionView, union_layout}
-use Rattle.abi_laid.specs.Tree.{Tree, union, Trees, no_trees, more_trees}
-use Rattle.abi_laid.specs.Bytes.{AreBytes, count_picked}
-use Rattle.abi_laid.specs.Value.{Value, number, two, list, variant, state, bytes}
-use Rattle.abi_laid.specs.declared.mark.Mark.{Mark}
-use Rattle.abi_laid.specs.Mark.{mark_of}
-use Rattle.abi_laid.specs.Placed.{Placed, Parts, part, layout_of, size_of, union as placed_union}
+use Rattle.abi_univariant.specs.Fields.{greatest}
+use Rattle.abi_univariant.specs.Union.{CountsForView, HasView, IsUnionView, union_layout}
+use Rattle.abi_tree.specs.Tree.{Tree, union, Trees, no_trees, more_trees}
+use Rattle.abi_tree.specs.Bytes.{AreBytes, count_picked}
+use Rattle.abi_tree.specs.Value.{Value, number, two, list, variant, state, bytes}
+use Rattle.abi_tree.specs.declared.mark.Mark.{Mark}
+use Rattle.abi_tree.specs.Mark.{mark_of}
+use Rattle.abi_tree.specs.Placed.{Placed, Parts, part, layout_of, size_of, union as placed_union}
 use Rattle.abi_scalar.specs.Layout.{Layout}
-use Rattle.abi_laid.specs.Places.{is_data_place, is_place_of_part}
-use Rattle.abi_laid.specs.Values.{IsValueOf, LocalsOfEach, VectorsHaveValues}
-use Rattle.abi_laid.specs.Unions.{IsCommon, EachPart}
-use Rattle.abi_laid.specs.Holding.{Holds}
-use Rattle.abi_laid.specs.Faithful.{AgreeOn, IsFaithful, IsTrueOf}
-use Rattle.abi_laid.specs.Fits.{Fits}
-use Rattle.abi_laid.specs.Room.{have_room}
-use Rattle.abi_laid.specs.Nodes.{parts_at_0}
+use Rattle.abi_tree.specs.Places.{is_data_place, is_place_of_part}
+use Rattle.abi_tree.specs.Values.{IsValueOf, LocalsOfEach, VectorsHaveValues}
+use Rattle.abi_tree.specs.Unions.{IsCommon, EachPart}
+use Rattle.abi_tree.specs.Holding.{Holds}
+use Rattle.abi_tree.specs.Faithful.{AgreeOn, IsFaithful, IsTrueOf}
+use Rattle.abi_tree.specs.Fits.{Fits}
+use Rattle.abi_tree.specs.Room.{have_room}
+use Rattle.abi_tree.specs.Nodes.{parts_at_0}
 use Rattle.rustc_abi.specs.Adding.{EachFits}
-use Rattle.abi_laid.proofs.Bytes.PickedLemmas.{AreBytes-picked, length-picked, picked-same, spread, length-spread, AreBytes-spread, picked-spread}
-use Rattle.abi_laid.proofs.Places.RoomLemmas.{within_room}
+use Rattle.abi_tree.proofs.Bytes.PickedLemmas.{AreBytes-picked, length-picked, picked-same, spread, length-spread, AreBytes-spread, picked-spread}
+use Rattle.abi_tree.proofs.Places.RoomLemmas.{within_room}
 use Rattle.rustc_abi.proofs.Values.PartsLemmas.{place_here, place_later}
 use Rattle.rustc_abi.proofs.Values.FieldsLemmas.{common_each, untagged_each}
 use Rattle.rustc_abi.proofs.Unions.CommonLemmas.{common_field}

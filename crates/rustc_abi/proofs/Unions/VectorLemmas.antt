@@ -11,17 +11,17 @@ use Rattle.abi_scalar.specs.declared.niche.Niche.{Niche}
 use Rattle.abi_scalar.specs.Range.{IsIn}
 use Rattle.abi_scalar.specs.Niche.{niche_size}
 use Rattle.abi_scalar.specs.Lawful.{IsLawfulLayout}
-use Rattle.abi_laid.specs.Tree.{Tree, array, vector}
-use Rattle.abi_laid.specs.Bytes.{AreBytes, bytes_at, number_of}
-use Rattle.abi_laid.specs.Value.{Value, number, two, list, variant, state, bytes}
-use Rattle.abi_laid.specs.Placed.{Placed, size_of, niche_of, elements, vector as placed_vector}
+use Rattle.abi_tree.specs.Tree.{Tree, array, vector}
+use Rattle.abi_tree.specs.Bytes.{AreBytes, bytes_at, number_of}
+use Rattle.abi_tree.specs.Value.{Value, number, two, list, variant, state, bytes}
+use Rattle.abi_tree.specs.Placed.{Placed, size_of, niche_of, elements, vector as placed_vector}
 use Rattle.abi_scalar.specs.Layout.{Layout}
-use Rattle.abi_laid.specs.Values.{IsValueOf, HasValue, VectorsHaveValues}
-use Rattle.abi_laid.specs.Holding.{Holds}
-use Rattle.abi_laid.specs.Faithful.{AgreeOn, IsFaithful, IsTrueOf}
-use Rattle.abi_laid.specs.Fits.{Fits}
-use Rattle.abi_laid.proofs.Bytes.BytesLemmas.{put, length-put, bytes_at-put, AreBytes-put, AreBytes-bytes_at}
-use Rattle.abi_laid.proofs.Bytes.HoldLemmas.{length-Holds, length-bytes_at, AgreeOn-bytes_at, IsNicheAt, niche_in_part, niche_in_whole}
+use Rattle.abi_tree.specs.Values.{IsValueOf, HasValue, VectorsHaveValues}
+use Rattle.abi_tree.specs.Holding.{Holds}
+use Rattle.abi_tree.specs.Faithful.{AgreeOn, IsFaithful, IsTrueOf}
+use Rattle.abi_tree.specs.Fits.{Fits}
+use Rattle.abi_tree.proofs.Bytes.BytesLemmas.{put, length-put, bytes_at-put, AreBytes-put, AreBytes-bytes_at}
+use Rattle.abi_tree.proofs.Bytes.HoldLemmas.{length-Holds, length-bytes_at, AgreeOn-bytes_at, IsNicheAt, niche_in_part, niche_in_whole}
 use Rattle.rustc_abi.proofs.Values.FlagLemmas.{alike}
 use Rattle.rustc_abi.proofs.Values.AnywhereLemmas.{value_anywhere}
 

@@ -3,12 +3,12 @@ use Rattle.std.proofs.Common.{◌≡◌, ℕ, zero, suc, ◌<◌, List, [], ◌�
 use Rattle.std.proofs.lemmas.List.{length-replicate}
 use Rattle.std.proofs.lemmas.List.Elements.{All-replicate}
 use Rattle.abi_base.specs.declared.data_layout.TargetDataLayout.{TargetDataLayout}
-use Rattle.abi_laid.specs.Tree.{Tree, scalar, pair, unit, array, vector, struct, union, enum, coroutine, Trees, no_trees, more_trees, Variants, no_variants, more_variants}
-use Rattle.abi_laid.specs.Bytes.{count_picked}
-use Rattle.abi_laid.specs.Value.{Value, number, two, list, variant, state, bytes, Values, no_values, more_values, value_count, Each}
-use Rattle.abi_laid.specs.Placed.{Placed, Parts, size_of, element_of, parts_in, first_part, more_parts, own_parts}
-use Rattle.abi_laid.specs.Places.{is_data_place}
-use Rattle.abi_laid.specs.Values.{EachAt, IsValueOf, AreValuesOf, AreValuesOfVariant, IsValueAt}
+use Rattle.abi_tree.specs.Tree.{Tree, scalar, pair, unit, array, vector, struct, union, enum, coroutine, Trees, no_trees, more_trees, Variants, no_variants, more_variants}
+use Rattle.abi_tree.specs.Bytes.{count_picked}
+use Rattle.abi_tree.specs.Value.{Value, number, two, list, variant, state, bytes, Values, no_values, more_values, value_count, Each}
+use Rattle.abi_tree.specs.Placed.{Placed, Parts, size_of, element_of, parts_in, first_part, more_parts, own_parts}
+use Rattle.abi_tree.specs.Places.{is_data_place}
+use Rattle.abi_tree.specs.Values.{EachAt, IsValueOf, AreValuesOf, AreValuesOfVariant, IsValueAt}
 
 -- as many values
 each_anywhere : (P Q : Value → Type 0) → ((v : Value) → P v → (w : Value) × Q w) → (vs : Values) → Each P vs → (ws : Values) × (value_count ws ≡ value_count vs) × Each Q ws

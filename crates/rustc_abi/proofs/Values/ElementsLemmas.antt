@@ -12,21 +12,21 @@ use Rattle.abi_scalar.specs.declared.niche.Niche.{Niche}
 use Rattle.abi_scalar.specs.Range.{IsIn}
 use Rattle.abi_scalar.specs.Niche.{niche_size}
 use Rattle.abi_scalar.specs.Lawful.{IsLawfulLayout}
-use Rattle.abi_laid.specs.Tree.{Tree, array}
-use Rattle.abi_laid.specs.Bytes.{AreBytes, bytes_at, number_of}
-use Rattle.abi_laid.specs.Value.{Value, number, two, list, variant, state, bytes, Values, no_values, more_values, value_count, Each}
-use Rattle.abi_laid.specs.Placed.{Placed, layout_of, size_of, elements}
+use Rattle.abi_tree.specs.Tree.{Tree, array}
+use Rattle.abi_tree.specs.Bytes.{AreBytes, bytes_at, number_of}
+use Rattle.abi_tree.specs.Value.{Value, number, two, list, variant, state, bytes, Values, no_values, more_values, value_count, Each}
+use Rattle.abi_tree.specs.Placed.{Placed, layout_of, size_of, elements}
 use Rattle.abi_scalar.specs.Layout.{Layout}
-use Rattle.abi_laid.specs.Places.{is_data_place}
-use Rattle.abi_laid.specs.Values.{IsValueOf}
-use Rattle.abi_laid.specs.Holding.{Holds, HoldEach}
-use Rattle.abi_laid.specs.Faithful.{AgreeOn, IsFaithful}
-use Rattle.abi_laid.specs.Fits.{Fits}
+use Rattle.abi_tree.specs.Places.{is_data_place}
+use Rattle.abi_tree.specs.Values.{IsValueOf}
+use Rattle.abi_tree.specs.Holding.{Holds, HoldEach}
+use Rattle.abi_tree.specs.Faithful.{AgreeOn, IsFaithful}
+use Rattle.abi_tree.specs.Fits.{Fits}
 use Rattle.abi_scalar.specs.declared.backend_repr.BackendRepr.TheVariants.{Memory}
-use Rattle.abi_laid.proofs.Places.RoomLemmas.{within_elements}
+use Rattle.abi_tree.proofs.Places.RoomLemmas.{within_elements}
 use Rattle.rustc_abi.proofs.Values.FlagLemmas.{flag-elements}
-use Rattle.abi_laid.proofs.Bytes.BytesLemmas.{put, length-put, bytes_at-put, drop-put_after, AreBytes-put, AreBytes-bytes_at}
-use Rattle.abi_laid.proofs.Bytes.HoldLemmas.{length-Holds, length-bytes_at, drop_later, AgreeOn-bytes_at, IsNicheAt, niche_in_part, niche_in_whole}
+use Rattle.abi_tree.proofs.Bytes.BytesLemmas.{put, length-put, bytes_at-put, drop-put_after, AreBytes-put, AreBytes-bytes_at}
+use Rattle.abi_tree.proofs.Bytes.HoldLemmas.{length-Holds, length-bytes_at, drop_later, AgreeOn-bytes_at, IsNicheAt, niche_in_part, niche_in_whole}
 
 -- the niche, if there is one, is the first element's
 abbrev pub IsElementNiche : (count : ℕ) → Placed → Niche → Type 0

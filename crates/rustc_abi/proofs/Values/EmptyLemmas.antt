@@ -5,15 +5,15 @@ use Rattle.std.proofs.lemmas.Bool.{ltb-true}
 use Rattle.abi_base.specs.declared.data_layout.TargetDataLayout.{TargetDataLayout}
 use Rattle.abi_scalar.specs.Simple.{never_layout, unit_layout}
 use Rattle.abi_scalar.specs.Lawful.{IsLawfulLayout}
-use Rattle.abi_laid.specs.Tree.{never, unit}
-use Rattle.abi_laid.specs.Bytes.{AreBytes}
-use Rattle.abi_laid.specs.Value.{Value, number, two, list, variant, state, bytes, no_values, more_values}
-use Rattle.abi_laid.specs.declared.mark.Mark.TheVariants.{Never, Unit}
-use Rattle.abi_laid.specs.Placed.{Placed, size_of, never as placed_never, fields, no_parts}
-use Rattle.abi_laid.specs.Values.{IsValueOf}
-use Rattle.abi_laid.specs.Holding.{Holds}
-use Rattle.abi_laid.specs.Faithful.{AgreeOn, IsFaithful}
-use Rattle.abi_laid.specs.Fits.{Fits}
+use Rattle.abi_tree.specs.Tree.{never, unit}
+use Rattle.abi_tree.specs.Bytes.{AreBytes}
+use Rattle.abi_tree.specs.Value.{Value, number, two, list, variant, state, bytes, no_values, more_values}
+use Rattle.abi_tree.specs.declared.mark.Mark.TheVariants.{Never, Unit}
+use Rattle.abi_tree.specs.Placed.{Placed, size_of, never as placed_never, fields, no_parts}
+use Rattle.abi_tree.specs.Values.{IsValueOf}
+use Rattle.abi_tree.specs.Holding.{Holds}
+use Rattle.abi_tree.specs.Faithful.{AgreeOn, IsFaithful}
+use Rattle.abi_tree.specs.Fits.{Fits}
 
 module _ (dl : TargetDataLayout) where
   abbrev no_value : Placed

@@ -4,35 +4,35 @@ use Rattle.std.specs.Prelude.{IfSome, true, Bool}
 use Rattle.std.specs.Cmp.Derive.{both_true}
 use Rattle.std.proofs.lemmas.Bool.{le-leb}
 use Rattle.std.proofs.lemmas.Option.{IfSome_then}
-use Rattle.abi_laid.specs.Room.{have_room}
+use Rattle.abi_tree.specs.Room.{have_room}
 use Rattle.abi_base.specs.declared.data_layout.TargetDataLayout.{TargetDataLayout}
 use Rattle.abi_scalar.specs.declared.repr.ReprOptions.{ReprOptions}
 use Rattle.abi_scalar.specs.declared.niche.Niche.{Niche}
 use Rattle.abi_scalar.specs.Range.{IsIn}
 use Rattle.abi_scalar.specs.Niche.{niche_size}
 use Rattle.abi_scalar.specs.Lawful.{IsLawfulLayout}
-use Rattle.abi_lists.specs.Apart.{AreApart, IsBeside}
-use Rattle.abi_lists.specs.ListNiche as calc
-use Rattle.abi_laid.specs.Tree.{Tree, struct, Trees, no_trees, more_trees}
-use Rattle.abi_laid.specs.Bytes.{AreBytes, bytes_at, number_of}
-use Rattle.abi_laid.specs.Value.{Value, number, two, list, variant, state, bytes, Values, no_values, more_values}
-use Rattle.abi_laid.specs.Mark.{mark_of}
-use Rattle.abi_laid.specs.Placed.{Placed, Parts, no_parts, part, layout_of, size_of, niche_of, fields}
+use Rattle.abi_univariant.specs.Apart.{AreApart, IsBeside}
+use Rattle.abi_univariant.specs.ListNiche as calc
+use Rattle.abi_tree.specs.Tree.{Tree, struct, Trees, no_trees, more_trees}
+use Rattle.abi_tree.specs.Bytes.{AreBytes, bytes_at, number_of}
+use Rattle.abi_tree.specs.Value.{Value, number, two, list, variant, state, bytes, Values, no_values, more_values}
+use Rattle.abi_tree.specs.Mark.{mark_of}
+use Rattle.abi_tree.specs.Placed.{Placed, Parts, no_parts, part, layout_of, size_of, niche_of, fields}
 use Rattle.abi_scalar.specs.Layout.{Layout}
-use Rattle.abi_laid.specs.Values.{IsValueOf, LocalsOfEach}
-use Rattle.abi_laid.specs.Holding.{Holds, HoldParts}
-use Rattle.abi_laid.specs.Faithful.{AgreeOn, IsFaithful, IsFlagTrue, IsTrueOf}
-use Rattle.abi_laid.specs.Fits.{Fits}
-use Rattle.abi_laid.specs.Unions.{IsCommon, InUnionsOf}
-use Rattle.abi_laid.specs.Untagged.{UntaggedNamedOf}
-use Rattle.abi_laid.specs.Nodes.{parts_at}
+use Rattle.abi_tree.specs.Values.{IsValueOf, LocalsOfEach}
+use Rattle.abi_tree.specs.Holding.{Holds, HoldParts}
+use Rattle.abi_tree.specs.Faithful.{AgreeOn, IsFaithful, IsFlagTrue, IsTrueOf}
+use Rattle.abi_tree.specs.Fits.{Fits}
+use Rattle.abi_tree.specs.Unions.{IsCommon, InUnionsOf}
+use Rattle.abi_tree.specs.Untagged.{UntaggedNamedOf}
+use Rattle.abi_tree.specs.Nodes.{parts_at}
 use Rattle.rustc_abi.specs.Adding.{EachFits}
 use Rattle.std.specs.List.{list_any}
-use Rattle.abi_lists.specs.ListView.{list_view}
-use Rattle.abi_lists.specs.Part.{parts_of}
+use Rattle.abi_univariant.specs.ListView.{list_view}
+use Rattle.abi_univariant.specs.Part.{parts_of}
 use Rattle.rustc_abi.proofs.Values.FlagLemmas.{flag-fields}
 use Rattle.rustc_abi.proofs.Values.ViewLemmas.{part_true, list_view_true}
-use Rattle.abi_laid.proofs.Bytes.HoldLemmas.{IsNicheAt, niche_in_part, niche_in_whole}
+use Rattle.abi_tree.proofs.Bytes.HoldLemmas.{IsNicheAt, niche_in_part, niche_in_whole}
 use Rattle.rustc_abi.proofs.Values.PartsLemmas.{LieBeside, FitTogether, LieInside, exist, only, unique, padding, within_parts}
 
 -- the niche is some part's

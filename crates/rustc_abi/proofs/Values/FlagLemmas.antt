@@ -5,15 +5,15 @@ use Rattle.std.specs.List.{list_any}
 use Rattle.std.proofs.lemmas.Bool.{eqb-true, eqb-false}
 use Rattle.abi_base.specs.declared.data_layout.TargetDataLayout.{TargetDataLayout}
 use Rattle.abi_scalar.specs.declared.repr.ReprOptions.{ReprOptions}
-use Rattle.abi_lists.specs.Apart.{AreApart}
-use Rattle.abi_laid.specs.Tree.{Tree, array, struct, Trees, no_trees, more_trees}
-use Rattle.abi_laid.specs.Value.{Value, number, two, list, variant, state, bytes, Values, no_values, more_values, value_count, Each}
-use Rattle.abi_laid.specs.Mark.{mark_of}
-use Rattle.abi_laid.specs.Placed.{Placed, layout_of, size_of, elements, fields}
+use Rattle.abi_univariant.specs.Apart.{AreApart}
+use Rattle.abi_tree.specs.Tree.{Tree, array, struct, Trees, no_trees, more_trees}
+use Rattle.abi_tree.specs.Value.{Value, number, two, list, variant, state, bytes, Values, no_values, more_values, value_count, Each}
+use Rattle.abi_tree.specs.Mark.{mark_of}
+use Rattle.abi_tree.specs.Placed.{Placed, layout_of, size_of, elements, fields}
 use Rattle.abi_scalar.specs.Layout.{Layout}
-use Rattle.abi_laid.specs.Values.{IsValueOf, AreValuesOf, LocalsOfEach, VectorsHaveValues, VectorsOfEach}
-use Rattle.abi_laid.specs.Faithful.{IsFlagTrue}
-use Rattle.abi_laid.specs.Nodes.{parts_at}
+use Rattle.abi_tree.specs.Values.{IsValueOf, AreValuesOf, LocalsOfEach, VectorsHaveValues, VectorsOfEach}
+use Rattle.abi_tree.specs.Faithful.{IsFlagTrue}
+use Rattle.abi_tree.specs.Nodes.{parts_at}
 use Rattle.rustc_abi.specs.Adding.{EachFits}
 
 -- so many values, all alike

@@ -9,13 +9,13 @@ use Rattle.abi_scalar.specs.declared.scalar.Scalar.TheVariants.{Initialized, Uni
 use Rattle.abi_scalar.specs.Range.{numbers_of}
 use Rattle.abi_scalar.specs.Scalar.{IsReadable, scalar_size}
 use Rattle.abi_scalar.specs.Simple.{scalar_layout}
-use Rattle.abi_laid.specs.declared.node.Node.{Node}
-use Rattle.abi_laid.specs.Placed.{size_of}
+use Rattle.abi_tree.specs.declared.node.Node.{Node}
+use Rattle.abi_tree.specs.Placed.{size_of}
 use Rattle.abi_scalar.specs.Layout.{Layout}
-use Rattle.abi_laid.specs.Nodes.{Keeps, placed_at, types_in}
-use Rattle.abi_laid.specs.Well.{IsPut}
-use Rattle.abi_laid.specs.Widths.{is_narrow}
-use Rattle.abi_laid.proofs.Meaning.NodesLemmas.{length-types_in}
+use Rattle.abi_tree.specs.Nodes.{Keeps, placed_at, types_in}
+use Rattle.abi_tree.specs.Well.{IsPut}
+use Rattle.abi_tree.specs.Widths.{is_narrow}
+use Rattle.abi_tree.proofs.Meaning.NodesLemmas.{length-types_in}
 use Rattle.rustc_abi.specs.Laying.{one_scalar}
 
 readable_narrow : (dl : TargetDataLayout) (s : Scalar) → IsReadable dl s → is_narrow (scalar_size dl s) s ≡ true

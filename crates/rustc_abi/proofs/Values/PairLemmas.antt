@@ -15,17 +15,17 @@ use Rattle.abi_scalar.specs.Niche.{niche_size, niche_at, available_in}
 use Rattle.abi_scalar.specs.Simple.{scalar_layout}
 use Rattle.abi_scalar.specs.Pair.{pair_layout, second_offset, larger_niche}
 use Rattle.abi_scalar.specs.Lawful.{IsLawfulLayout}
-use Rattle.abi_laid.specs.Tree.{Tree, scalar, pair, Trees, no_trees, more_trees}
-use Rattle.abi_laid.specs.Bytes.{AreBytes, bytes_at, number_of}
-use Rattle.abi_laid.specs.Value.{Value, number, two, list, variant, state, bytes, Values, no_values, more_values}
-use Rattle.abi_laid.specs.Placed.{Placed, Parts, no_parts, part, size_of}
+use Rattle.abi_tree.specs.Tree.{Tree, scalar, pair, Trees, no_trees, more_trees}
+use Rattle.abi_tree.specs.Bytes.{AreBytes, bytes_at, number_of}
+use Rattle.abi_tree.specs.Value.{Value, number, two, list, variant, state, bytes, Values, no_values, more_values}
+use Rattle.abi_tree.specs.Placed.{Placed, Parts, no_parts, part, size_of}
 use Rattle.abi_scalar.specs.Layout.{Layout}
-use Rattle.abi_laid.specs.Values.{IsValueOf}
-use Rattle.abi_laid.specs.Holding.{Holds}
-use Rattle.abi_laid.specs.Faithful.{AgreeOn, IsFaithful, IsScalarTrue, IsTrueOf}
-use Rattle.abi_laid.specs.Fits.{Fits}
+use Rattle.abi_tree.specs.Values.{IsValueOf}
+use Rattle.abi_tree.specs.Holding.{Holds}
+use Rattle.abi_tree.specs.Faithful.{AgreeOn, IsFaithful, IsScalarTrue, IsTrueOf}
+use Rattle.abi_tree.specs.Fits.{Fits}
 use Rattle.rustc_abi.specs.Laying.{one_scalar, two_scalars}
-use Rattle.abi_laid.proofs.Bytes.HoldLemmas.{IsNicheAt, bytes_at-bytes_at}
+use Rattle.abi_tree.proofs.Bytes.HoldLemmas.{IsNicheAt, bytes_at-bytes_at}
 use Rattle.rustc_abi.proofs.Values.ScalarLemmas.{Fits-scalar, held_true, some_number}
 use Rattle.rustc_abi.proofs.Values.PartsLemmas.{FitTogether, LieInside, exist, only, unique, padding, within_parts}
 use Rattle.rustc_abi.proofs.Values.FieldsLemmas.{IsPartNiche, part_niche, part_niche_inside}

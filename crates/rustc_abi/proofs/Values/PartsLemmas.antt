@@ -7,16 +7,16 @@ use Rattle.std.proofs.lemmas.Bool.{and_parts, or_cases, leb-true, le-leb}
 use Rattle.std.proofs.Math.Bool.{or-true}
 use Rattle.std.specs.Cmp.Derive.{both_true}
 use Rattle.abi_base.specs.declared.data_layout.TargetDataLayout.{TargetDataLayout}
-use Rattle.abi_laid.specs.Tree.{Trees, no_trees, more_trees}
-use Rattle.abi_laid.specs.Bytes.{AreBytes, bytes_at}
-use Rattle.abi_laid.specs.Value.{Values, no_values, more_values}
-use Rattle.abi_laid.specs.Placed.{Placed, Parts, no_parts, part, size_of}
-use Rattle.abi_laid.specs.Places.{is_data_place, is_place_of_part}
-use Rattle.abi_laid.specs.Values.{AreValuesOf}
-use Rattle.abi_laid.specs.Holding.{Holds, HoldParts}
-use Rattle.abi_laid.specs.Faithful.{IsFaithful}
-use Rattle.abi_laid.proofs.Bytes.BytesLemmas.{put, length-put, bytes_at-put, bytes_at-put_other, AreBytes-put, AreBytes-bytes_at}
-use Rattle.abi_laid.proofs.Bytes.HoldLemmas.{length-Holds, length-bytes_at, AgreeOn-bytes_at}
+use Rattle.abi_tree.specs.Tree.{Trees, no_trees, more_trees}
+use Rattle.abi_tree.specs.Bytes.{AreBytes, bytes_at}
+use Rattle.abi_tree.specs.Value.{Values, no_values, more_values}
+use Rattle.abi_tree.specs.Placed.{Placed, Parts, no_parts, part, size_of}
+use Rattle.abi_tree.specs.Places.{is_data_place, is_place_of_part}
+use Rattle.abi_tree.specs.Values.{AreValuesOf}
+use Rattle.abi_tree.specs.Holding.{Holds, HoldParts}
+use Rattle.abi_tree.specs.Faithful.{IsFaithful}
+use Rattle.abi_tree.proofs.Bytes.BytesLemmas.{put, length-put, bytes_at-put, bytes_at-put_other, AreBytes-put, AreBytes-bytes_at}
+use Rattle.abi_tree.proofs.Bytes.HoldLemmas.{length-Holds, length-bytes_at, AgreeOn-bytes_at}
 
 -- n bytes at the offset lie before or after each part
 abbrev pub LieBeside : (offset n : ℕ) → Parts → Type 0

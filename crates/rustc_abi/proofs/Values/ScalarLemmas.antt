@@ -15,20 +15,20 @@ use Rattle.abi_scalar.specs.Range.{numbers_of, IsIn, free_count}
 use Rattle.abi_scalar.specs.Scalar.{scalar_size, IsNumberOf, IsLawfulScalar}
 use Rattle.abi_scalar.specs.Niche.{niche_size, niche_at}
 use Rattle.abi_scalar.specs.Lawful.{IsLawfulLayout}
-use Rattle.abi_laid.specs.Tree.{Tree, scalar}
-use Rattle.abi_laid.specs.Bytes.{AreBytes, bytes_at, number_of}
-use Rattle.abi_laid.specs.Value.{Value, number, two, list, variant, state, bytes}
-use Rattle.abi_laid.specs.Placed.{Placed, size_of, scalar as placed_scalar}
+use Rattle.abi_tree.specs.Tree.{Tree, scalar}
+use Rattle.abi_tree.specs.Bytes.{AreBytes, bytes_at, number_of}
+use Rattle.abi_tree.specs.Value.{Value, number, two, list, variant, state, bytes}
+use Rattle.abi_tree.specs.Placed.{Placed, size_of, scalar as placed_scalar}
 use Rattle.abi_scalar.specs.Layout.{Layout}
-use Rattle.abi_laid.specs.Places.{is_data_place}
-use Rattle.abi_laid.specs.Values.{IsValueOf}
-use Rattle.abi_laid.specs.Holding.{Holds}
-use Rattle.abi_laid.specs.Faithful.{AgreeOn, IsFaithful, IsFlagTrue, IsScalarTrue, IsTrueOf}
-use Rattle.abi_laid.specs.Fits.{Fits}
+use Rattle.abi_tree.specs.Places.{is_data_place}
+use Rattle.abi_tree.specs.Values.{IsValueOf}
+use Rattle.abi_tree.specs.Holding.{Holds}
+use Rattle.abi_tree.specs.Faithful.{AgreeOn, IsFaithful, IsFlagTrue, IsScalarTrue, IsTrueOf}
+use Rattle.abi_tree.specs.Fits.{Fits}
 use Rattle.rustc_abi.specs.Laying.{one_scalar}
 use Rattle.abi_scalar.specs.declared.backend_repr.BackendRepr.TheVariants.{Scalar as OneScalar}
 use Rattle.abi_scalar.specs.Simple.{scalar_layout}
-use Rattle.abi_laid.proofs.Bytes.BytesLemmas.{same_bytes, spelled_in, length-spelled_in, number_of-spelled_in, AreBytes-spelled_in}
+use Rattle.abi_tree.proofs.Bytes.BytesLemmas.{same_bytes, spelled_in, length-spelled_in, number_of-spelled_in, AreBytes-spelled_in}
 
 -- a scalar's number is one of its width
 in_width : (width : ℕ) (s : Scalar) (n : ℕ) → IsNumberOf width s n → n < numbers_of width

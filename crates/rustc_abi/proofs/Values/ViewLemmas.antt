@@ -13,18 +13,18 @@ use Rattle.abi_scalar.specs.declared.backend_repr.BackendRepr.{BackendRepr}
 use Rattle.abi_scalar.specs.declared.backend_repr.BackendRepr.TheVariants.{Scalar as OneScalar, ScalarPair, SimdScalableVector, SimdVector, Memory}
 use Rattle.abi_scalar.specs.Lawful.{IsLawfulLayout, IsLawfulView}
 use Rattle.abi_scalar.specs.Pair.{pair_align, pair_size, second_offset}
-use Rattle.abi_lists.specs.declared.part.Part.{Part}
-use Rattle.abi_lists.specs.ListView.{any_unsized, bulky_parts, bulky_view, kept_view, list_view, pair_view, part_at, two_view}
-use Rattle.abi_lists.specs.Part.{part_of, parts_of}
-use Rattle.abi_lists.specs.Placement.{no_part}
-use Rattle.abi_laid.specs.Tree.{Trees, no_trees, more_trees}
-use Rattle.abi_laid.specs.Bytes.{bytes_at, number_of}
-use Rattle.abi_laid.specs.Value.{Values, no_values, more_values}
-use Rattle.abi_laid.specs.Placed.{Placed, layout_of, size_of, nothing}
-use Rattle.abi_laid.specs.Holding.{HoldParts}
-use Rattle.abi_laid.specs.Faithful.{IsScalarTrue, IsTrueOf}
-use Rattle.abi_laid.specs.Nodes.{parts_at}
-use Rattle.abi_laid.proofs.Bytes.HoldLemmas.{bytes_at-bytes_at}
+use Rattle.abi_univariant.specs.declared.part.Part.{Part}
+use Rattle.abi_univariant.specs.ListView.{any_unsized, bulky_parts, bulky_view, kept_view, list_view, pair_view, part_at, two_view}
+use Rattle.abi_univariant.specs.Part.{part_of, parts_of}
+use Rattle.abi_univariant.specs.Placement.{no_part}
+use Rattle.abi_tree.specs.Tree.{Trees, no_trees, more_trees}
+use Rattle.abi_tree.specs.Bytes.{bytes_at, number_of}
+use Rattle.abi_tree.specs.Value.{Values, no_values, more_values}
+use Rattle.abi_tree.specs.Placed.{Placed, layout_of, size_of, nothing}
+use Rattle.abi_tree.specs.Holding.{HoldParts}
+use Rattle.abi_tree.specs.Faithful.{IsScalarTrue, IsTrueOf}
+use Rattle.abi_tree.specs.Nodes.{parts_at}
+use Rattle.abi_tree.proofs.Bytes.HoldLemmas.{bytes_at-bytes_at}
 use Rattle.rustc_abi.proofs.Values.PartsLemmas.{FitTogether}
 
 -- what is true of a scalar in a part is true of it in the whole

@@ -2,7 +2,7 @@
 
 ghost use Rattle.std.specs.Prelude.{◌≡◌, ◌<◌, IfErr, IfOk, length, map};
 ghost use Rattle.abi_base.specs.Size.{signed_value};
-ghost use Rattle.abi_laid.specs.Tree.{Tree, trees_of_variants};
+ghost use Rattle.abi_tree.specs.Tree.{Tree, trees_of_variants};
 ghost use Rattle.rustc_abi.specs.Fault.{IsRefusedFor};
 ghost use Rattle.uses.specs.EnumInC.{IsEnumInC, LiesAsEnumInC, without_fields};
 ghost use Rattle.uses.specs.InC.{HasExtent};

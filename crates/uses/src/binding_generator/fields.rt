@@ -1,8 +1,8 @@
 //! Structs of fields that C has.
 
 ghost use Rattle.std.specs.Prelude.{◌≡◌, Err, IfErr, IfOk, List, None, Ok, Some, ℕ, length, map};
-ghost use Rattle.abi_laid.specs.Placed.{Placed};
-ghost use Rattle.abi_laid.specs.Tree.{Tree, tree_of, trees};
+ghost use Rattle.abi_tree.specs.Placed.{Placed};
+ghost use Rattle.abi_tree.specs.Tree.{Tree, tree_of, trees};
 ghost use Rattle.rustc_abi.specs.Fault.{IsRefusedFor};
 ghost use Rattle.rustc_abi.specs.Laying.{AreLaying};
 ghost use Rattle.uses.specs.FieldOfC.{c_enum_fault, field_fault, first_fault, list_fault, order_fault};

@@ -1,8 +1,8 @@
 //! How large a C compiler has a union.
 
 ghost use Rattle.std.specs.Prelude.{IfErr, IfOk, List, Ok, map};
-ghost use Rattle.abi_laid.specs.Placed.{Placed};
-ghost use Rattle.abi_laid.specs.Tree.{Tree, tree_of, trees};
+ghost use Rattle.abi_tree.specs.Placed.{Placed};
+ghost use Rattle.abi_tree.specs.Tree.{Tree, tree_of, trees};
 ghost use Rattle.rustc_abi.specs.Fault.{IsRefusedFor};
 ghost use Rattle.rustc_abi.specs.Laying.{AreLaying};
 ghost use Rattle.uses.specs.InC.{HasExtent, IsUnionInC, LieTogetherAsInC};

@@ -1,12 +1,12 @@
 //! Numbers loaded at an offset, and both numbers of a pair.
 
 ghost use Rattle.std.specs.Prelude.{◌≡◌, ◌+◌, ◌<◌, ◌≤◌, ℕ, IfErr, IfOk, IfSome, None, Ok, length};
-ghost use Rattle.abi_laid.specs.Bytes.{bytes_at, number_of};
-ghost use Rattle.abi_laid.specs.Holding.{Holds};
-ghost use Rattle.abi_laid.specs.Placed.{Placed};
-ghost use Rattle.abi_laid.specs.Tree.{tree_of};
-ghost use Rattle.abi_laid.specs.Value.{Value as Meant};
-ghost use Rattle.abi_laid.specs.Values.{LocalsHaveValues};
+ghost use Rattle.abi_tree.specs.Bytes.{bytes_at, number_of};
+ghost use Rattle.abi_tree.specs.Holding.{Holds};
+ghost use Rattle.abi_tree.specs.Placed.{Placed};
+ghost use Rattle.abi_tree.specs.Tree.{tree_of};
+ghost use Rattle.abi_tree.specs.Value.{Value as Meant};
+ghost use Rattle.abi_tree.specs.Values.{LocalsHaveValues};
 ghost use Rattle.abi_scalar.specs.Range.{numbers_of};
 ghost use Rattle.abi_scalar.specs.Scalar.{IsLawfulScalar, scalar_size};
 ghost use Rattle.abi_scalar.specs.declared.scalar.Scalar.{Scalar as Seen};

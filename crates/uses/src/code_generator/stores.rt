@@ -1,7 +1,7 @@
 //! Numbers stored to memory.
 
 ghost use Rattle.std.specs.Prelude.{◌≡◌, ◌<◌, IfOk, length};
-ghost use Rattle.abi_laid.specs.Bytes.{little, number_of};
+ghost use Rattle.abi_tree.specs.Bytes.{little, number_of};
 ghost use Rattle.abi_scalar.specs.Range.{numbers_of};
 
 use rustc_abi::Endian;

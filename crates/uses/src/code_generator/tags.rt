@@ -1,10 +1,10 @@
 //! The variant that a tag names.
 
 ghost use Rattle.std.specs.Prelude.{◌≡◌, ℕ, IfOk, IfSome, MatchOption, None, Some};
-ghost use Rattle.abi_laid.specs.Holding.{Holds};
-ghost use Rattle.abi_laid.specs.Laid.{endian_of, placed_of};
-ghost use Rattle.abi_laid.specs.OfTree.{IsOfTree};
-ghost use Rattle.abi_laid.specs.Value.{Values, value_of, variant};
+ghost use Rattle.abi_tree.specs.Holding.{Holds};
+ghost use Rattle.abi_tree.specs.Laid.{endian_of, placed_of};
+ghost use Rattle.abi_tree.specs.OfTree.{IsOfTree};
+ghost use Rattle.abi_tree.specs.Value.{Values, value_of, variant};
 ghost use Rattle.uses.specs.Loaded.{IsNamed};
 
 use rustc_abi::{Laid, Value, read_value};

@@ -1,10 +1,10 @@
 //! Parts of a value: a field of a variant, both numbers of a pair, a local of a coroutine's state.
 
 ghost use Rattle.std.specs.Prelude.{◌≡◌, ℕ, IfOk, MatchOption, None, Some};
-ghost use Rattle.abi_laid.specs.Holding.{Holds};
-ghost use Rattle.abi_laid.specs.Laid.{endian_of, placed_of};
-ghost use Rattle.abi_laid.specs.OfTree.{IsOfTree};
-ghost use Rattle.abi_laid.specs.Value.{Values, state, two, value_of, values_of, variant};
+ghost use Rattle.abi_tree.specs.Holding.{Holds};
+ghost use Rattle.abi_tree.specs.Laid.{endian_of, placed_of};
+ghost use Rattle.abi_tree.specs.OfTree.{IsOfTree};
+ghost use Rattle.abi_tree.specs.Value.{Values, state, two, value_of, values_of, variant};
 ghost use Rattle.uses.specs.Field.{IsValueFound, value_at};
 
 use crate::debugger::taken;

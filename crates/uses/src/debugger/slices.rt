@@ -2,15 +2,15 @@
 
 ghost use Rattle.std.specs.Prelude.{◌≡◌, ℕ, ◌<◌, IfErr, IfOk, IfSome, MatchOption, None, Some};
 ghost use Rattle.abi_base.specs.declared.data_layout.TargetDataLayout.{TargetDataLayout as Target};
-ghost use Rattle.abi_laid.specs.Bytes.{bytes_at};
-ghost use Rattle.abi_laid.specs.Holding.{Holds};
-ghost use Rattle.abi_laid.specs.Laid.{endian_of, placed_of};
-ghost use Rattle.abi_laid.specs.OfTree.{IsOfTree};
-ghost use Rattle.abi_laid.specs.Placed.{Placed, layout_of, size_of};
-ghost use Rattle.abi_laid.specs.Reading.{KeepsValues};
-ghost use Rattle.abi_laid.specs.Tree.{Tree};
-ghost use Rattle.abi_laid.specs.Value.{Value as Meant, Values, list as of_list, value_of};
-ghost use Rattle.abi_laid.specs.Values.{IsValueOf};
+ghost use Rattle.abi_tree.specs.Bytes.{bytes_at};
+ghost use Rattle.abi_tree.specs.Holding.{Holds};
+ghost use Rattle.abi_tree.specs.Laid.{endian_of, placed_of};
+ghost use Rattle.abi_tree.specs.OfTree.{IsOfTree};
+ghost use Rattle.abi_tree.specs.Placed.{Placed, layout_of, size_of};
+ghost use Rattle.abi_tree.specs.Reading.{KeepsValues};
+ghost use Rattle.abi_tree.specs.Tree.{Tree};
+ghost use Rattle.abi_tree.specs.Value.{Value as Meant, Values, list as of_list, value_of};
+ghost use Rattle.abi_tree.specs.Values.{IsValueOf};
 ghost use Rattle.abi_scalar.specs.Shape.{field_count};
 ghost use Rattle.uses.specs.Field.{HasFieldAt, value_at, with_value};
 

@@ -1,12 +1,12 @@
 //! Bytes that a value leaves unused.
 
 ghost use Rattle.std.specs.Prelude.{◌≡◌, IfOk, Some, false, slice_set};
-ghost use Rattle.abi_laid.specs.Covering.{is_covered};
-ghost use Rattle.abi_laid.specs.Holding.{Holds};
-ghost use Rattle.abi_laid.specs.Laid.{endian_of, placed_of};
-ghost use Rattle.abi_laid.specs.OfTree.{IsOfTree};
-ghost use Rattle.abi_laid.specs.Reading.{Finds};
-ghost use Rattle.abi_laid.specs.Value.{Value as Meant};
+ghost use Rattle.abi_tree.specs.Covering.{is_covered};
+ghost use Rattle.abi_tree.specs.Holding.{Holds};
+ghost use Rattle.abi_tree.specs.Laid.{endian_of, placed_of};
+ghost use Rattle.abi_tree.specs.OfTree.{IsOfTree};
+ghost use Rattle.abi_tree.specs.Reading.{Finds};
+ghost use Rattle.abi_tree.specs.Value.{Value as Meant};
 ghost use Rattle.uses.specs.Field.{IsValueFound};
 
 use rustc_abi::{Laid, Value, read_value};

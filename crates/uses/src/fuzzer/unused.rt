@@ -2,11 +2,11 @@
 
 ghost use Rattle.std.specs.Prelude.{◌≡◌, [], IfOk, IfSome, None, get_or};
 ghost use Rattle.abi_index.specs.RangeSet.{is_in_ranges};
-ghost use Rattle.abi_laid.specs.Holding.{Holds};
-ghost use Rattle.abi_laid.specs.Laid.{endian_of, placed_of};
-ghost use Rattle.abi_laid.specs.OfTree.{IsOfTree};
-ghost use Rattle.abi_laid.specs.Reading.{Finds};
-ghost use Rattle.abi_laid.specs.Value.{Value as Meant, value_of};
+ghost use Rattle.abi_tree.specs.Holding.{Holds};
+ghost use Rattle.abi_tree.specs.Laid.{endian_of, placed_of};
+ghost use Rattle.abi_tree.specs.OfTree.{IsOfTree};
+ghost use Rattle.abi_tree.specs.Reading.{Finds};
+ghost use Rattle.abi_tree.specs.Value.{Value as Meant, value_of};
 ghost use Rattle.uses.specs.Spared.{is_in_set_of, with_spared};
 
 use super::is_in;

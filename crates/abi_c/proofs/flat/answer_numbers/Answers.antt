@@ -1,5 +1,5 @@
 use Rattle.std.proofs.lemmas.Result.{IfOk-weaker}
-use Rattle.abi_laid.specs.Laid.{placed_of}
+use Rattle.abi_tree.specs.Laid.{placed_of}
 use Rattle.abi_c.specs.Flat.{IsLayoutTold, told_by}
 use Rattle.abi_c.proofs.Telling.{laid_told, told_failure}
 use Rattle.abi_c.proofs.flat.answer_numbers.Goals as goal

@@ -1,6 +1,6 @@
 use Rattle.std.proofs.Common.{inl}
 use Rattle.std.proofs.lemmas.Result.{IfErr-weaker, IfOk-weaker}
-use Rattle.abi_laid.specs.Tree.{tree_of}
+use Rattle.abi_tree.specs.Tree.{tree_of}
 use Rattle.abi_c.specs.Flat.{IsLaidTold, IsToldOf}
 use Rattle.abi_c.proofs.Telling.{fails_weaker}
 use Rattle.abi_c.proofs.laid_type.lay_numbers.Goals as goal

@@ -1,5 +1,5 @@
 use Rattle.std.proofs.Common.{arith}
-use Rattle.abi_laid.specs.Tree.{tree_of}
+use Rattle.abi_tree.specs.Tree.{tree_of}
 use Rattle.abi_c.proofs.Telling.{fails_refused}
 use Rattle.abi_c.proofs.laid_type.lay_tree.Goals as goal
 

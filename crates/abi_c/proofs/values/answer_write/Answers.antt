@@ -1,6 +1,6 @@
 use Rattle.std.proofs.Common.{inl, inr}
 use Rattle.std.proofs.lemmas.Result.{IfOk-weaker}
-use Rattle.abi_laid.specs.Laid.{placed_of}
+use Rattle.abi_tree.specs.Laid.{placed_of}
 use Rattle.abi_c.specs.Flat.{IsLayoutTold}
 use Rattle.abi_c.specs.FlatValues.{bytes_told_by}
 use Rattle.abi_c.proofs.Telling.{told_failure}

@@ -1,9 +1,9 @@
 use Rattle.std.proofs.Common.{inl, inr, refl, subst, sym}
 use Rattle.std.proofs.lemmas.Result.{IfOk-weaker}
 use Rattle.abi_base.specs.declared.endian.Endian.{Endian}
-use Rattle.abi_laid.specs.Holding.{Holds}
-use Rattle.abi_laid.specs.Laid.{placed_of}
-use Rattle.abi_laid.specs.Value.{value_of}
+use Rattle.abi_tree.specs.Holding.{Holds}
+use Rattle.abi_tree.specs.Laid.{placed_of}
+use Rattle.abi_tree.specs.Value.{value_of}
 use Rattle.abi_c.proofs.Telling.{told_none}
 use Rattle.abi_c.proofs.values.read_of.Goals as goal
 

@@ -1,6 +1,6 @@
 use Rattle.std.proofs.Common.{inl, inr}
 use Rattle.std.proofs.lemmas.Result.{IfOk-weaker}
-use Rattle.abi_laid.specs.Value.{value_of}
+use Rattle.abi_tree.specs.Value.{value_of}
 use Rattle.abi_c.proofs.values.written_of.Goals as goal
 
 pub returns-in-Ok : goal.returns-in-Ok

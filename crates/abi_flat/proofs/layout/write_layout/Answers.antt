@@ -1,7 +1,7 @@
 use Rattle.std.proofs.Common.{None, Some, ap, ◌∙◌}
 use Rattle.abi_index.specs.RangeSet.{is_in_ranges}
-use Rattle.abi_laid.specs.Laid.{placed_of}
-use Rattle.abi_laid.proofs.Places.MaximalLemmas.{padding_listed}
+use Rattle.abi_tree.specs.Laid.{placed_of}
+use Rattle.abi_tree.proofs.Places.MaximalLemmas.{padding_listed}
 use Rattle.abi_flat.proofs.Layouts.{are_listed, not_listed, whole_layout}
 use Rattle.abi_flat.proofs.layout.write_layout.Goals as goal
 

@@ -1,7 +1,7 @@
 use Rattle.std.proofs.Common.{◌-◌, Some, ap, sym, ◌∙◌, drop, map}
 use Rattle.std.proofs.lemmas.List.{map-append}
 use Rattle.std.proofs.lemmas.Result.{IfOk-weaker}
-use Rattle.abi_laid.specs.Tree.{tree_of, enum}
+use Rattle.abi_tree.specs.Tree.{tree_of, enum}
 use Rattle.abi_flat.specs.Pieces.{◌>>=◌, front_list}
 use Rattle.abi_flat.specs.FrontTree.{front_of_kind, front_tree, front_variant, variant_kept, variants_of_items}
 use Rattle.abi_flat.proofs.Many.{passed, so_far-more, so_far-none}

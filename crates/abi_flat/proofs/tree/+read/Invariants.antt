@@ -1,5 +1,5 @@
 use Rattle.std.proofs.Common.{◌+◌, ◌*◌, drop, map}
-use Rattle.abi_laid.specs.Tree.{tree_of}
+use Rattle.abi_tree.specs.Tree.{tree_of}
 use Rattle.abi_flat.specs.FrontTree.{front_tree, front_variant, variant_kept}
 use Rattle.abi_flat.proofs.Many.{SoFar}
 use Rattle.abi_flat.proofs.tree.+read.Given as goal

@@ -1,4 +1,4 @@
-use Rattle.abi_laid.specs.Tree.{tree_of}
+use Rattle.abi_tree.specs.Tree.{tree_of}
 use Rattle.abi_flat.specs.FlatTree.{flat_tree, IsReadable}
 use Rattle.abi_flat.specs.FrontTree.{front_tree}
 use Rattle.abi_flat.proofs.Back.{tree_back}

@@ -1,7 +1,7 @@
 use Rattle.std.proofs.Common.{◌-◌, ap, ◌∙◌, drop, map}
 use Rattle.std.proofs.lemmas.List.{map-append}
 use Rattle.std.proofs.lemmas.Result.{IfOk-weaker}
-use Rattle.abi_laid.specs.Value.{value_of}
+use Rattle.abi_tree.specs.Value.{value_of}
 use Rattle.abi_flat.specs.Pieces.{◌>>=◌}
 use Rattle.abi_flat.specs.FrontValue.{front_of_value_kind, front_value}
 use Rattle.abi_flat.proofs.Many.{passed, so_far-more, so_far-none}

@@ -1,5 +1,5 @@
 use Rattle.std.proofs.Common.{◌+◌, ◌*◌, drop, map}
-use Rattle.abi_laid.specs.Value.{value_of}
+use Rattle.abi_tree.specs.Value.{value_of}
 use Rattle.abi_flat.specs.FrontValue.{front_value}
 use Rattle.abi_flat.proofs.Many.{SoFar}
 use Rattle.abi_flat.proofs.value.+read_value.Given as goal

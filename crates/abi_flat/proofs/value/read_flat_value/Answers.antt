@@ -1,4 +1,4 @@
-use Rattle.abi_laid.specs.Value.{value_of}
+use Rattle.abi_tree.specs.Value.{value_of}
 use Rattle.abi_flat.specs.FlatValue.{flat_value, IsReadableValue}
 use Rattle.abi_flat.specs.FrontValue.{front_value}
 use Rattle.abi_flat.proofs.ValueBack.{value_back, value_sound}

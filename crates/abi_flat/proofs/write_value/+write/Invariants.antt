@@ -1,5 +1,5 @@
 use Rattle.std.proofs.Common.{◌≡◌, ◌++◌, take}
-use Rattle.abi_laid.specs.Value.{values_of}
+use Rattle.abi_tree.specs.Value.{values_of}
 use Rattle.abi_flat.specs.FlatValue.{flat_values}
 use Rattle.abi_flat.proofs.write_value.+write.Given as goal
 

@@ -1,6 +1,6 @@
 use Rattle.std.proofs.Common.{map, take}
 use Rattle.abi_map.specs.Covering.{HaveNames}
-use Rattle.abi_laid.specs.Parts.{kept_part}
+use Rattle.abi_tree.specs.Parts.{kept_part}
 use Rattle.abi_map.proofs.covering.names_at.Given as goal
 
 abbrev pub invariant-loop-part : goal.invariant-loop-part

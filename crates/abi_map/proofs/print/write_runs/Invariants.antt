@@ -2,7 +2,7 @@
 use Rattle.std.proofs.Common.{◌≡◌, ◌++◌, List, drop, string_bytes}
 use Rattle.abi_map.specs.Covering.{HaveNames}
 use Rattle.abi_map.specs.Map.{run_lines}
-use Rattle.abi_laid.specs.Parts.{Part}
+use Rattle.abi_tree.specs.Parts.{Part}
 use Rattle.abi_map.proofs.print.write_runs.Given as goal
 
 abbrev pub invariant-loop-s : goal.invariant-loop-s

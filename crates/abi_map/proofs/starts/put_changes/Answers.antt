@@ -2,7 +2,7 @@ use Rattle.std.proofs.Common.{subst}
 use Rattle.std.proofs.lemmas.Result.{on_ok_weaker}
 use Rattle.abi_index.specs.RangeSet.{AreMaximalRuns, is_in_ranges}
 use Rattle.std.specs.Prelude.{not}
-use Rattle.abi_laid.specs.Parts.{kept_part}
+use Rattle.abi_tree.specs.Parts.{kept_part}
 use Rattle.abi_map.proofs.StartLemmas.{begins_fit, changes_put, cut_fits, ends_fit}
 use Rattle.abi_map.proofs.starts.put_changes.Goals as goal
 

@@ -1,6 +1,6 @@
 use Rattle.std.proofs.Common.{subst}
 use Rattle.abi_map.specs.Numbers.{AddsBelow}
-use Rattle.abi_laid.specs.Parts.{kept_part}
+use Rattle.abi_tree.specs.Parts.{kept_part}
 use Rattle.abi_map.specs.Starts.{changes}
 use Rattle.abi_map.proofs.StartLemmas.{starts_more}
 use Rattle.abi_map.proofs.starts.start_set.Goals as goal

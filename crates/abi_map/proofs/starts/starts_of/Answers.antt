@@ -4,7 +4,7 @@ use Rattle.abi_index.specs.RangeSet.{AreMaximalRuns}
 use Rattle.abi_map.proofs.StartLemmas.{numbers_are, picked_ascend}
 use Rattle.abi_map.specs.Covering.{AreAscending}
 use Rattle.abi_map.specs.Starts.{is_start}
-use Rattle.abi_laid.specs.Parts.{kept_part}
+use Rattle.abi_tree.specs.Parts.{kept_part}
 use Rattle.std.specs.Prelude.{map}
 use Rattle.abi_map.proofs.starts.starts_of.Goals as goal
 

@@ -1,5 +1,5 @@
 -- What is refused has no size.
-use Rattle.abi_laid.specs.Tree.{tree_of}
+use Rattle.abi_tree.specs.Tree.{tree_of}
 use Rattle.abi_rust.proofs.Measures.{refused_is}
 use Rattle.abi_rust.proofs.report.size_and_align.Goals as goal
 

@@ -1,5 +1,5 @@
 use Rattle.std.proofs.Common.{◌≡◌, ◌≤◌, drop, map}
-use Rattle.abi_laid.specs.Tree.{tree_of}
+use Rattle.abi_tree.specs.Tree.{tree_of}
 use Rattle.abi_rust.specs.Measure.{IsMeasure, Measure, each_meant, room_takers}
 use Rattle.abi_rust.proofs.Measures.{counted_on}
 use Rattle.abi_rust.proofs.repr_fields.room_takers.Given as goal

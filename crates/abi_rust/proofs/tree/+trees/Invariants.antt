@@ -1,7 +1,7 @@
 -- Each of these makes trees within less room, or within the same room what stands lower.
 use Rattle.std.proofs.Common.{◌≡◌, ◌+◌, ◌*◌, None, drop, map}
 use Rattle.std.specs.Option.{option_map}
-use Rattle.abi_laid.specs.Tree.{tree_of}
+use Rattle.abi_tree.specs.Tree.{tree_of}
 use Rattle.abi_rust.specs.Int.{number_of_int}
 use Rattle.abi_rust.specs.Measure.{IsMeasure, Measure, each_meant}
 use Rattle.abi_rust.specs.Tails.{outer_of}

@@ -5,9 +5,9 @@ use Rattle.abi_base.specs.declared.data_layout.TargetDataLayout.{TargetDataLayou
 use Rattle.rustc_abi.specs.declared.error.LayError.{LayError}
 use Rattle.rustc_abi.specs.declared.error.LayError.TheVariants.{OutOfMemory}
 use Rattle.rustc_abi.specs.Fault.{IsRefusedFor}
-use Rattle.abi_laid.specs.Laid.{placed_of}
-use Rattle.abi_laid.specs.Placed.{Placed}
-use Rattle.abi_laid.specs.Tree.{Tree, tree_of}
+use Rattle.abi_tree.specs.Laid.{placed_of}
+use Rattle.abi_tree.specs.Placed.{Placed}
+use Rattle.abi_tree.specs.Tree.{Tree, tree_of}
 use Rattle.abi_text.specs.Names.{error_name}
 use Rattle.abi_text.specs.Output.{Output, IsOutputOfTree, answered_by, refused}
 use Rattle.abi_text.proofs.answers.answer_tree.Goals as goal

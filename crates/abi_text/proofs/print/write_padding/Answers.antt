@@ -3,10 +3,10 @@ use Rattle.std.specs.Prelude.{codes, if◌then◌else◌}
 use Rattle.std.proofs.lemmas.Bool.{le-ltb}
 use Rattle.std.proofs.lemmas.Result.{on_ok_weaker}
 use Rattle.abi_index.specs.RangeSet.{is_in_ranges}
-use Rattle.abi_laid.specs.Laid.{placed_of}
-use Rattle.abi_laid.specs.Placed.{Placed, size_of}
-use Rattle.abi_laid.specs.Runs.{padding_of}
-use Rattle.abi_laid.proofs.Places.MaximalLemmas.{padding_listed}
+use Rattle.abi_tree.specs.Laid.{placed_of}
+use Rattle.abi_tree.specs.Placed.{Placed, size_of}
+use Rattle.abi_tree.specs.Runs.{padding_of}
+use Rattle.abi_tree.proofs.Places.MaximalLemmas.{padding_listed}
 use Rattle.abi_text.specs.Printing.{padding_lines, range_lines}
 use Rattle.abi_text.proofs.print.write_padding.Goals as goal
 

@@ -1,7 +1,7 @@
 use Rattle.std.proofs.Common.{◌≡◌, ℕ, List, ◌++◌, ap, ◌∙◌, append_assoc, string_bytes}
 use Rattle.std.proofs.lemmas.Result.{on_ok_weaker}
-use Rattle.abi_laid.specs.Laid.{placed_of}
-use Rattle.abi_laid.specs.Placed.{layout_of}
+use Rattle.abi_tree.specs.Laid.{placed_of}
+use Rattle.abi_tree.specs.Placed.{layout_of}
 use Rattle.abi_text.specs.Printing.{layout_lines, niche_line, padding_lines, variants_lines}
 use Rattle.abi_text.proofs.print.write_type.Goals as goal
 

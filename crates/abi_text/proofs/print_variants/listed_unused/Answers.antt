@@ -2,10 +2,10 @@ use Rattle.std.proofs.Common.{◌≡◌, [], ◌≤◌, ◌<◌, ap, ◌∙◌, 
 use Rattle.std.specs.Prelude.{codes, if◌then◌else◌}
 use Rattle.std.proofs.lemmas.Bool.{le-ltb, lt-ltb}
 use Rattle.abi_index.specs.RangeSet.{is_in_ranges}
-use Rattle.abi_laid.specs.Laid.{placed_of}
-use Rattle.abi_laid.specs.Placed.{Placed, layout_of, size_of}
-use Rattle.abi_laid.specs.Runs.{unused_of}
-use Rattle.abi_laid.proofs.Places.MaximalLemmas.{unused_listed}
+use Rattle.abi_tree.specs.Laid.{placed_of}
+use Rattle.abi_tree.specs.Placed.{Placed, layout_of, size_of}
+use Rattle.abi_tree.specs.Runs.{unused_of}
+use Rattle.abi_tree.proofs.Places.MaximalLemmas.{unused_listed}
 use Rattle.abi_types.proofs.PlacesLemmas.{beside_index}
 use Rattle.abi_text.specs.Printing.{range_lines}
 use Rattle.abi_text.proofs.print_variants.listed_unused.Goals as goal

@@ -1,7 +1,7 @@
 -- The variants that are left go on from those that are written.
 use Rattle.std.proofs.Common.{◌≡◌, ◌++◌, drop, string_bytes}
 use Rattle.abi_text.specs.Printing.{lines_of_variants}
-use Rattle.abi_laid.specs.Laid.{placed_of}
+use Rattle.abi_tree.specs.Laid.{placed_of}
 use Rattle.abi_text.proofs.print_variants.write_each_variant.Given as goal
 
 abbrev pub invariant-loop-index : goal.invariant-loop-index

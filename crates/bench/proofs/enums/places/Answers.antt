@@ -4,7 +4,7 @@ use Rattle.std.proofs.lemmas.List.{map-append}
 use Rattle.std.proofs.lemmas.List.Elements.{All-push, All-weaker}
 use Rattle.std.proofs.lemmas.List.Quantifiers.{all_pairs_push}
 use Rattle.abi_index.specs.declared.idx.VariantIdx.{VariantIdx}
-use Rattle.abi_lists.proofs.Offsets.Steps.{source_more}
+use Rattle.abi_univariant.proofs.Offsets.Steps.{source_more}
 use Rattle.bench.proofs.enums.places.Goals as goal
 
 pub loop-at-preserved : goal.loop-at-preserved

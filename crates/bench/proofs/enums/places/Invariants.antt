@@ -1,7 +1,7 @@
 -- The places before, in order.
 use Rattle.std.proofs.Common.{◌≡◌, ◌<◌, All, map}
 use Rattle.std.specs.List.{AllPairs}
-use Rattle.abi_lists.specs.Placement.{source_order}
+use Rattle.abi_univariant.specs.Placement.{source_order}
 use Rattle.bench.proofs.enums.places.Given as goal
 
 abbrev pub invariant-loop-at : goal.invariant-loop-at

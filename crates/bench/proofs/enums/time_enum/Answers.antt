@@ -2,7 +2,7 @@
 use Rattle.std.proofs.Common.{◌≡◌, ◌<◌, ◌≤◌, ℕ, ◌*◌, ◌^◌, IsTrue, ap, arith, length, map, not, rules, subst}
 use Rattle.std.proofs.lemmas.List.Elements.{All-weaker}
 use Rattle.abi_base.specs.Integer.{integer_size}
-use Rattle.abi_lists.specs.Placement.{source_order}
+use Rattle.abi_univariant.specs.Placement.{source_order}
 use Rattle.abi_calc.specs.Enums.Path.{has_no_value, variant_at}
 use Rattle.abi_index.specs.declared.idx.VariantIdx.{VariantIdx}
 use Rattle.abi_scalar.specs.Range.{numbers_of}

@@ -1,7 +1,7 @@
 -- Each rule, from what `lay_out` says of each type in the whole.
 use Rattle.std.proofs.Common.{◌≡◌, Ok, refl}
-use Rattle.abi_laid.specs.Placed.{layout_of}
-use Rattle.abi_laid.specs.Tree.{tree_of}
+use Rattle.abi_tree.specs.Placed.{layout_of}
+use Rattle.abi_tree.specs.Tree.{tree_of}
 use Rattle.rustc_abi.specs.Laying.{IsLaying}
 use Rattle.reference.specs.Arrays.{IsArray}
 use Rattle.reference.specs.CStruct.{IsCStruct}

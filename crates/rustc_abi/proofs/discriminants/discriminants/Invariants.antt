@@ -1,6 +1,6 @@
 -- The discriminants of the variants before.
 use Rattle.std.proofs.Common.{◌≡◌, take}
-use Rattle.abi_laid.specs.Tree.{trees_of_variants}
+use Rattle.abi_tree.specs.Tree.{trees_of_variants}
 use Rattle.rustc_abi.specs.Enums.{discriminants_of}
 use Rattle.rustc_abi.proofs.discriminants.discriminants.Given as goal
 

@@ -1,20 +1,20 @@
 use Rattle.std.proofs.Common.{◌≡◌, Ok, Result, Some, ap, arith, length, subst, sym, true, ◌∙◌}
 use Rattle.abi_base.specs.declared.data_layout.TargetDataLayout.{TargetDataLayout}
-use Rattle.abi_laid.specs.declared.laid.Laid.{Laid}
-use Rattle.abi_laid.specs.Faithful.{IsFaithful}
-use Rattle.abi_laid.specs.Reading.{KeepsValues}
-use Rattle.abi_laid.specs.Tree.{Tree, tree_of}
-use Rattle.abi_laid.specs.Untagged.{UntaggedNamed}
-use Rattle.abi_laid.specs.Values.{LocalsHaveValues}
+use Rattle.abi_tree.specs.declared.laid.Laid.{Laid}
+use Rattle.abi_tree.specs.Faithful.{IsFaithful}
+use Rattle.abi_tree.specs.Reading.{KeepsValues}
+use Rattle.abi_tree.specs.Tree.{Tree, tree_of}
+use Rattle.abi_tree.specs.Untagged.{UntaggedNamed}
+use Rattle.abi_tree.specs.Values.{LocalsHaveValues}
 use Rattle.rustc_abi.specs.Clash.{AreClashingLocalsApart, HaveLocalsOneOffset}
 use Rattle.rustc_abi.specs.Count.{HasNodes}
-use Rattle.abi_laid.specs.Laid.{endian_of, node_count_of, placed_of, typed_of}
-use Rattle.abi_laid.specs.Placed.{Placed, layout_of}
+use Rattle.abi_tree.specs.Laid.{endian_of, node_count_of, placed_of, typed_of}
+use Rattle.abi_tree.specs.Placed.{Placed, layout_of}
 use Rattle.abi_scalar.specs.Lawful.{IsLawfulLayout}
-use Rattle.abi_laid.specs.Deciding.{are_inhabited, covering_value}
-use Rattle.abi_laid.specs.Room.{has_room}
-use Rattle.abi_laid.proofs.Deciding.DecideLemmas.{each_decides}
-use Rattle.abi_laid.proofs.Places.RoomLemmas.{within_room}
+use Rattle.abi_tree.specs.Deciding.{are_inhabited, covering_value}
+use Rattle.abi_tree.specs.Room.{has_room}
+use Rattle.abi_tree.proofs.Deciding.DecideLemmas.{each_decides}
+use Rattle.abi_tree.proofs.Places.RoomLemmas.{within_room}
 use Rattle.rustc_abi.proofs.Places.DecidingLemmas.{coverable}
 use Rattle.rustc_abi.proofs.Places.HaveLemmas.{each_inhabited}
 use Rattle.rustc_abi.proofs.Places.OwnPlacesLemmas.{laid_own_places}
@@ -27,7 +27,7 @@ use Rattle.rustc_abi.specs.Orders.{LiesAsAsked}
 use Rattle.rustc_abi.proofs.Coroutines.ClashLemmas.{laid_clash, laid_one_offset}
 use Rattle.rustc_abi.proofs.Sizes.EachListLemmas.{laid_lists}
 use Rattle.rustc_abi.proofs.Sizes.PlacedLemmas.{laid_as_asked}
-use Rattle.abi_laid.proofs.Deciding.AgreeLemmas.{covered_decides}
+use Rattle.abi_tree.proofs.Deciding.AgreeLemmas.{covered_decides}
 use Rattle.rustc_abi.proofs.Trees.EverywhereLemmas.{everywhere}
 use Rattle.rustc_abi.proofs.Trees.LaidLemmas.{laid_sized, laid_whole}
 use Rattle.rustc_abi.proofs.Trees.TakenLemmas.{laid_taken}

@@ -1,6 +1,6 @@
 use Rattle.std.proofs.Common.{sym}
 use Rattle.std.proofs.lemmas.Result.{IfOk-weaker}
-use Rattle.abi_laid.specs.Nodes.{types_in}
+use Rattle.abi_tree.specs.Nodes.{types_in}
 use Rattle.rustc_abi.proofs.Places.LawsLemmas.{elements_laws}
 use Rattle.rustc_abi.proofs.Trees.LayLemmas.{IsAdded-elements}
 use Rattle.rustc_abi.proofs.Sizes.CountLemmas.{both_ok, own_put}

@@ -1,5 +1,5 @@
 use Rattle.std.proofs.Common.{◌∙◌, map, rules}
-use Rattle.abi_laid.specs.Well.{all_at}
+use Rattle.abi_tree.specs.Well.{all_at}
 use Rattle.rustc_abi.proofs.Coroutines.AddedCoroutineLemmas.{fault_of_nodes, own_coroutine_fault}
 use Rattle.rustc_abi.proofs.lay_coroutine.add_coroutine.Goals as goal
 

@@ -6,11 +6,11 @@ use Rattle.abi_scalar.specs.Variant.{variants_of}
 use Rattle.abi_scalar.proofs.ReadableLemmas.{lawful_readable}
 use Rattle.abi_calc.specs.Coroutine.Layout.{IsStateTag}
 use Rattle.abi_calc.proofs.CoroutineLemmas.Promised.{state_tag_lawful}
-use Rattle.abi_laid.specs.Well.{all_at}
+use Rattle.abi_tree.specs.Well.{all_at}
 use Rattle.rustc_abi.proofs.Coroutines.AddedCoroutineLemmas.{IsAdded-coroutine, coroutine_refused, coroutine_variants, fault_of_nodes}
 use Rattle.rustc_abi.specs.Inside.{VariantsInside}
 use Rattle.rustc_abi.specs.Laying.{most_fields}
-use Rattle.abi_laid.specs.Nodes.{placed_in}
+use Rattle.abi_tree.specs.Nodes.{placed_in}
 use Rattle.rustc_abi.proofs.Faults.CoroutineFaultLemmas.{few_each_state, few_states, states_within}
 use Rattle.rustc_abi.proofs.Places.InsideLemmas.{inside_coroutine}
 use Rattle.rustc_abi.proofs.Coroutines.StateLawsLemmas.{state_places}

@@ -5,15 +5,15 @@ use Rattle.std.proofs.lemmas.List.{length-map}
 use Rattle.std.proofs.lemmas.List.Elements.{All-weaker}
 use Rattle.std.proofs.lemmas.Result.{IfOk-weaker}
 use Rattle.abi_scalar.specs.Variant.{variants_of}
-use Rattle.abi_lists.specs.Placement.{source_order}
-use Rattle.abi_laid.specs.Nodes.{placed_in, types_in}
-use Rattle.abi_laid.specs.declared.mark.Mark.TheVariants.{Plain}
+use Rattle.abi_univariant.specs.Placement.{source_order}
+use Rattle.abi_tree.specs.Nodes.{placed_in, types_in}
+use Rattle.abi_tree.specs.declared.mark.Mark.TheVariants.{Plain}
 use Rattle.rustc_abi.specs.Enums.{arms_at}
 use Rattle.rustc_abi.specs.Laying.{most_fields, one_scalar}
-use Rattle.abi_laid.specs.Well.{IsPut, all_at}
+use Rattle.abi_tree.specs.Well.{IsPut, all_at}
 use Rattle.rustc_abi.specs.Adding.{AreArms, variants_in}
 use Rattle.rustc_abi.specs.Count.{HasMore}
-use Rattle.abi_laid.proofs.Meaning.NodesLemmas.{length-types_in}
+use Rattle.abi_tree.proofs.Meaning.NodesLemmas.{length-types_in}
 use Rattle.rustc_abi.proofs.Enums.ArmNodesLemmas.{variants_in-kept}
 use Rattle.rustc_abi.proofs.Coroutines.StateNodesLemmas.{IsPut-states, as_many_each, each_few, each_means, each_there, states_keep, states_before, states_told}
 use Rattle.rustc_abi.proofs.Values.NarrowLemmas.{scalar_width, tag_width}

@@ -3,9 +3,9 @@ use Rattle.std.proofs.Common.{◌≡◌, ◌<◌, ◌≤◌, ◌∙◌, All, Vec
 use Rattle.std.proofs.lemmas.List.Elements.{All-map, All-weaker}
 use Rattle.std.proofs.lemmas.Result.{IfErr-weaker, IfOk-weaker}
 use Rattle.abi_scalar.specs.Lawful.{IsLawfulLayout}
-use Rattle.abi_laid.specs.Well.{all_at}
+use Rattle.abi_tree.specs.Well.{all_at}
 use Rattle.rustc_abi.specs.Laying.{most_fields}
-use Rattle.abi_laid.specs.Placed.{layout_of}
+use Rattle.abi_tree.specs.Placed.{layout_of}
 use Rattle.rustc_abi.proofs.Coroutines.AddedCoroutineLemmas.{lent_count}
 use Rattle.rustc_abi.proofs.Faults.CoroutineFaultLemmas.{few_each_state, few_items, states_once, states_within}
 use Rattle.rustc_abi.proofs.Trees.ListLemmas.{All-from_map}

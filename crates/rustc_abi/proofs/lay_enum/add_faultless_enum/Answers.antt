@@ -1,8 +1,8 @@
 use Rattle.std.proofs.Common.{◌≡◌, List, arith, length, subst}
 use Rattle.std.proofs.lemmas.List.{length-map}
 use Rattle.std.proofs.lemmas.Result.{IfOk-weaker}
-use Rattle.abi_laid.specs.Placed.{Placed}
-use Rattle.abi_laid.specs.Well.{all_at}
+use Rattle.abi_tree.specs.Placed.{Placed}
+use Rattle.abi_tree.specs.Well.{all_at}
 use Rattle.rustc_abi.specs.Adding.{HasVariants, variants_in}
 use Rattle.rustc_abi.proofs.Enums.AddedEnumLemmas.{IsAdded-enum-as, enum_refused, enumed_nodes}
 use Rattle.rustc_abi.proofs.Enums.EnumPlacesLemmas.{enum_places, few_nodes}

@@ -3,14 +3,14 @@ use Rattle.std.proofs.lemmas.Result.{IfOk-weaker}
 use Rattle.abi_scalar.specs.Variant.{variants_of}
 use Rattle.rustc_abi.specs.Laying.{one_scalar}
 use Rattle.rustc_abi.specs.Enums.{arms_at}
-use Rattle.abi_laid.specs.Well.{IsPut}
+use Rattle.abi_tree.specs.Well.{IsPut}
 use Rattle.rustc_abi.specs.Adding.{AreArms}
 use Rattle.rustc_abi.specs.Count.{HasMore}
-use Rattle.abi_laid.proofs.Meaning.NodesLemmas.{length-types_in}
+use Rattle.abi_tree.proofs.Meaning.NodesLemmas.{length-types_in}
 use Rattle.rustc_abi.proofs.Enums.ArmNodesLemmas.{IsPut-tagged, tagged_before, tagged_keeps, there_within, variants_in-kept}
 use Rattle.rustc_abi.proofs.Values.NarrowLemmas.{scalar_width, tag_width}
 use Rattle.rustc_abi.proofs.Sizes.CountLemmas.{arms_listed, both_ok, more_arms, own_put}
-use Rattle.abi_laid.specs.Nodes.{types_in}
+use Rattle.abi_tree.specs.Nodes.{types_in}
 use Rattle.rustc_abi.proofs.Trees.StillLemmas.{still_after}
 use Rattle.rustc_abi.proofs.lay_enum.add_tagged.Goals as goal
 

@@ -3,7 +3,7 @@ use Rattle.std.specs.Prelude.{◌&&◌}
 use Rattle.std.specs.Vec.Iter.{into_iter_items}
 use Rattle.std.proofs.lemmas.List.{length-append, length-map, take_all}
 use Rattle.abi_scalar.specs.Variant.{variants_of}
-use Rattle.abi_laid.specs.Well.{all_at}
+use Rattle.abi_tree.specs.Well.{all_at}
 use Rattle.rustc_abi.specs.Adding.{variants_in}
 use Rattle.rustc_abi.proofs.Enums.ArmNodesLemmas.{AreArms-more, fields_before, own_flag, own_keeps}
 use Rattle.rustc_abi.proofs.Sizes.CountLemmas.{more_absorbed, more_as, more_both}

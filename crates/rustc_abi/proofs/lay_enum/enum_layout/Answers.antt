@@ -2,10 +2,10 @@ use Rattle.std.proofs.Common.{◌≤◌, arith, length, map, ap, ◌∙◌}
 use Rattle.std.proofs.lemmas.List.{length-map}
 use Rattle.std.proofs.lemmas.List.Elements.{All-weaker}
 use Rattle.std.proofs.lemmas.Result.{IfErr-weaker, IfOk-weaker}
-use Rattle.abi_laid.specs.Well.{all_at}
+use Rattle.abi_tree.specs.Well.{all_at}
 use Rattle.rustc_abi.specs.Adding.{variants_in}
-use Rattle.abi_laid.specs.Placed.{layout_of}
-use Rattle.abi_laid.specs.Nodes.{placed_in, types_in}
+use Rattle.abi_tree.specs.Placed.{layout_of}
+use Rattle.abi_tree.specs.Nodes.{placed_in, types_in}
 use Rattle.rustc_abi.specs.Laying.{most_fields}
 use Rattle.rustc_abi.proofs.Enums.AddedEnumLemmas.{lent_lawful}
 use Rattle.rustc_abi.proofs.Faults.FaultlessLemmas.{all_discriminants, few_fields, few_variants, lawful_aligns, none_equal}

@@ -1,11 +1,11 @@
 use Rattle.std.proofs.Common.{◌≡◌, ⊎_elim, inl, inr, Ok, map, length, arith, ◌∙◌, subst}
 use Rattle.std.proofs.lemmas.List.{length-map}
 use Rattle.std.proofs.lemmas.Result.{IfOk-weaker}
-use Rattle.abi_laid.specs.Placed.{layout_of}
-use Rattle.abi_laid.specs.Nodes.{placed_in, types_in}
+use Rattle.abi_tree.specs.Placed.{layout_of}
+use Rattle.abi_tree.specs.Nodes.{placed_in, types_in}
 use Rattle.rustc_abi.specs.Laying.{IsLaidList}
 use Rattle.rustc_abi.specs.Error.{IsRefused}
-use Rattle.abi_laid.specs.Well.{all_at}
+use Rattle.abi_tree.specs.Well.{all_at}
 use Rattle.rustc_abi.proofs.Trees.LayLemmas.{IsAdded-fields, faultless_few, faultless_aligns, kind_cases, fields_refused}
 use Rattle.rustc_abi.proofs.Places.LawsLemmas.{list_places}
 use Rattle.rustc_abi.proofs.Trees.ListLemmas.{all_below, passed_on}

@@ -2,12 +2,12 @@ use Rattle.std.proofs.Common.{◌≡◌, map, All, sym, ap, ◌∙◌, subst}
 use Rattle.std.specs.Prelude.{IfSome}
 use Rattle.std.proofs.lemmas.List.Elements.{All-map}
 use Rattle.abi_index.specs.Slice.{items_of}
-use Rattle.abi_lists.specs.Apart.{AreApart}
-use Rattle.abi_lists.specs.ListNiche.{IsNicheOfPart}
+use Rattle.abi_univariant.specs.Apart.{AreApart}
+use Rattle.abi_univariant.specs.ListNiche.{IsNicheOfPart}
 use Rattle.abi_scalar.specs.Lawful.{IsLawfulLayout}
 use Rattle.abi_scalar.specs.Shape.{listed_offsets}
-use Rattle.abi_laid.specs.Placed.{layout_of}
-use Rattle.abi_laid.specs.Well.{all_at}
+use Rattle.abi_tree.specs.Placed.{layout_of}
+use Rattle.abi_tree.specs.Well.{all_at}
 use Rattle.rustc_abi.proofs.Trees.ListLemmas.{listed_ok, listed_err, All-from_map, passed_on, sizes_by}
 use Rattle.rustc_abi.proofs.lay_fields.fields_layout.Goals as goal
 

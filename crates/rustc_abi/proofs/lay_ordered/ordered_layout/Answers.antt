@@ -2,13 +2,13 @@ use Rattle.std.proofs.Common.{◌≡◌, map, length, All, sym, ap, ◌∙◌, s
 use Rattle.std.proofs.lemmas.List.{length-map, map-id}
 use Rattle.std.proofs.lemmas.List.Elements.{All-map}
 use Rattle.abi_index.specs.Slice.{items_of}
-use Rattle.abi_lists.specs.Apart.{AreApart}
-use Rattle.abi_lists.specs.Placement.{IsNonEmptyIfUnsized}
+use Rattle.abi_univariant.specs.Apart.{AreApart}
+use Rattle.abi_univariant.specs.Placement.{IsNonEmptyIfUnsized}
 use Rattle.abi_scalar.specs.Lawful.{IsLawfulLayout}
 use Rattle.abi_scalar.specs.Shape.{listed_offsets}
-use Rattle.abi_laid.specs.Nodes.{placed_in, types_in}
-use Rattle.abi_laid.specs.Placed.{layout_of}
-use Rattle.abi_laid.specs.Well.{all_at}
+use Rattle.abi_tree.specs.Nodes.{placed_in, types_in}
+use Rattle.abi_tree.specs.Placed.{layout_of}
+use Rattle.abi_tree.specs.Well.{all_at}
 use Rattle.rustc_abi.specs.Error.{IsRefused}
 use Rattle.rustc_abi.specs.Laying.{IsListedInOrder}
 use Rattle.rustc_abi.proofs.Trees.ListLemmas.{All-from_map, ordered_err, ordered_ok, passed_on, sizes_by}

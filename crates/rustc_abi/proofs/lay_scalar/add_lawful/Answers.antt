@@ -2,8 +2,8 @@ use Rattle.std.proofs.Common.{◌≡◌, length, arith, refl}
 use Rattle.abi_scalar.specs.Simple.{scalar_layout}
 use Rattle.abi_scalar.proofs.LawfulLemmas.{scalar_lawful}
 use Rattle.abi_scalar.proofs.ReadableLemmas.{lawful_readable}
-use Rattle.abi_laid.specs.declared.node.Shape.TheVariants.{Scalar as Number}
-use Rattle.abi_laid.proofs.Meaning.NodesLemmas.{IsPut-push}
+use Rattle.abi_tree.specs.declared.node.Shape.TheVariants.{Scalar as Number}
+use Rattle.abi_tree.proofs.Meaning.NodesLemmas.{IsPut-push}
 use Rattle.rustc_abi.proofs.Faults.FaultLemmas.{faultless}
 use Rattle.rustc_abi.proofs.Sizes.CountLemmas.{more_one}
 use Rattle.rustc_abi.proofs.Values.NarrowLemmas.{scalar_width}

@@ -1,9 +1,9 @@
 use Rattle.std.proofs.Common.{refl, subst}
 use Rattle.std.proofs.lemmas.Result.{IfOk-weaker}
 use Rattle.abi_scalar.specs.Lawful.{IsLawfulLayout}
-use Rattle.abi_laid.specs.declared.mark.Mark.TheVariants.{Never}
-use Rattle.abi_laid.specs.Placed.{never as placed_never}
-use Rattle.abi_laid.specs.Well.{IsPut}
+use Rattle.abi_tree.specs.declared.mark.Mark.TheVariants.{Never}
+use Rattle.abi_tree.specs.Placed.{never as placed_never}
+use Rattle.abi_tree.specs.Well.{IsPut}
 use Rattle.rustc_abi.proofs.Values.EmptyLemmas.{Fits-never}
 use Rattle.rustc_abi.proofs.Trees.LayLemmas.{IsAdded-put}
 use Rattle.rustc_abi.proofs.Sizes.CountLemmas.{both_ok, own_put}

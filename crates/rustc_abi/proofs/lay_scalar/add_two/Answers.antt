@@ -3,10 +3,10 @@ use Rattle.std.specs.Cmp.Derive.{both_true}
 use Rattle.std.proofs.lemmas.Bool.{lt-ltb}
 use Rattle.std.proofs.lemmas.Result.{IfOk-weaker}
 use Rattle.abi_scalar.specs.Lawful.{IsLawfulLayout}
-use Rattle.abi_laid.specs.declared.node.Shape.TheVariants.{Pair}
-use Rattle.abi_laid.specs.Nodes.{meaning, types_in}
-use Rattle.abi_laid.specs.Well.{IsPut}
-use Rattle.abi_laid.proofs.Meaning.NodesLemmas.{length-types_in}
+use Rattle.abi_tree.specs.declared.node.Shape.TheVariants.{Pair}
+use Rattle.abi_tree.specs.Nodes.{meaning, types_in}
+use Rattle.abi_tree.specs.Well.{IsPut}
+use Rattle.abi_tree.proofs.Meaning.NodesLemmas.{length-types_in}
 use Rattle.rustc_abi.proofs.Places.LawsLemmas.{pair_laws}
 use Rattle.rustc_abi.proofs.Trees.LayLemmas.{IsAdded-pair}
 use Rattle.rustc_abi.proofs.Sizes.CountLemmas.{both_ok, more_both, own_put}

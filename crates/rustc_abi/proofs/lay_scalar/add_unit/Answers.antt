@@ -2,10 +2,10 @@ use Rattle.std.proofs.Common.{refl, subst}
 use Rattle.std.proofs.lemmas.Result.{IfOk-weaker}
 use Rattle.abi_scalar.specs.Lawful.{IsLawfulLayout}
 use Rattle.abi_scalar.specs.Shape.{listed_offsets}
-use Rattle.abi_laid.specs.declared.mark.Mark.TheVariants.{Unit}
-use Rattle.abi_laid.specs.Placed.{fields}
-use Rattle.abi_laid.specs.Nodes.{parts_at}
-use Rattle.abi_laid.specs.Well.{IsPut, all_at}
+use Rattle.abi_tree.specs.declared.mark.Mark.TheVariants.{Unit}
+use Rattle.abi_tree.specs.Placed.{fields}
+use Rattle.abi_tree.specs.Nodes.{parts_at}
+use Rattle.abi_tree.specs.Well.{IsPut, all_at}
 use Rattle.rustc_abi.proofs.Values.EmptyLemmas.{Fits-unit}
 use Rattle.rustc_abi.proofs.Trees.LayLemmas.{IsAdded-put}
 use Rattle.rustc_abi.proofs.Sizes.CountLemmas.{both_ok, own_put}

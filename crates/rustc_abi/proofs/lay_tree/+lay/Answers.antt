@@ -1,7 +1,7 @@
 use Rattle.std.proofs.Common.{◌≡◌, ◌+◌, ◌++◌, ◌∷◌, [], arith, ap, sym, ◌∙◌, subst, take, map, length, get_or}
 use Rattle.std.proofs.lemmas.List.{take_more, map-append}
 use Rattle.std.proofs.lemmas.Result.{IfOk-weaker, IfErr-weaker}
-use Rattle.abi_laid.specs.Tree.{tree_of, trees}
+use Rattle.abi_tree.specs.Tree.{tree_of, trees}
 use Rattle.rustc_abi.specs.Laying.{AreLaying}
 use Rattle.rustc_abi.specs.Adding.{tree_size, trees_size}
 use Rattle.rustc_abi.proofs.Trees.TreeLemmas.{tree_of-Array, tree_of-Enum, tree_of-Never, tree_of-Pair, tree_of-Scalar, tree_of-Unit, tree_of-Vector, tree_of-Struct, tree_of-Ordered, tree_of-Union, tree_of-Coroutine, trees_size-at, variants_size-at, falls-Enum}

@@ -1,5 +1,5 @@
 use Rattle.std.proofs.Common.{◌+◌, ◌*◌, map, take}
-use Rattle.abi_laid.specs.Tree.{tree_of, trees, trees_of_variants}
+use Rattle.abi_tree.specs.Tree.{tree_of, trees, trees_of_variants}
 use Rattle.rustc_abi.specs.Adding.{AreAdded, AreStillThere, AreVariantsAdded, tree_size, trees_size, variants_size}
 use Rattle.rustc_abi.specs.Count.{AreCounted, AreVariantsCounted}
 use Rattle.rustc_abi.proofs.lay_tree.+lay.Given as goal

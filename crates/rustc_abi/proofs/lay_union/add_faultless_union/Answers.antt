@@ -1,8 +1,8 @@
 use Rattle.std.proofs.Common.{◌≡◌, length, arith}
 use Rattle.std.proofs.lemmas.List.{length-map}
 use Rattle.std.proofs.lemmas.Result.{IfOk-weaker}
-use Rattle.abi_laid.specs.Nodes.{placed_in, types_in}
-use Rattle.abi_laid.specs.Well.{all_at}
+use Rattle.abi_tree.specs.Nodes.{placed_in, types_in}
+use Rattle.abi_tree.specs.Well.{all_at}
 use Rattle.rustc_abi.proofs.Trees.LayLemmas.{faultless_few, faultless_aligns}
 use Rattle.rustc_abi.proofs.Unions.TogetherLemmas.{IsAdded-union, union_refused}
 use Rattle.rustc_abi.proofs.Places.LawsLemmas.{union_places}

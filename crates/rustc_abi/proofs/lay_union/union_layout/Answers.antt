@@ -1,10 +1,10 @@
 use Rattle.std.proofs.Common.{◌≡◌, map, All, sym, ap, ◌∙◌, subst}
 use Rattle.std.proofs.lemmas.List.Elements.{All-map}
 use Rattle.abi_index.specs.Slice.{items_of}
-use Rattle.abi_lists.specs.Union.{only_of}
+use Rattle.abi_univariant.specs.Union.{only_of}
 use Rattle.abi_scalar.specs.Lawful.{IsLawfulLayout}
-use Rattle.abi_laid.specs.Placed.{layout_of}
-use Rattle.abi_laid.specs.Well.{all_at}
+use Rattle.abi_tree.specs.Placed.{layout_of}
+use Rattle.abi_tree.specs.Well.{all_at}
 use Rattle.rustc_abi.proofs.Trees.ListLemmas.{All-from_map, passed_on}
 use Rattle.rustc_abi.proofs.Unions.CalcLemmas.{united_ok, united_err}
 use Rattle.rustc_abi.proofs.lay_union.union_layout.Goals as goal

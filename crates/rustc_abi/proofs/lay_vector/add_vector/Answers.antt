@@ -4,12 +4,12 @@ use Rattle.std.proofs.lemmas.Result.{IfOk-weaker}
 use Rattle.abi_base.specs.declared.data_layout.TargetDataLayout.{TargetDataLayout}
 use Rattle.abi_base.specs.DataLayout.{size_bound}
 use Rattle.abi_scalar.specs.declared.error.LayoutCalculatorError.TheVariants.{SizeOverflow}
-use Rattle.abi_lists.specs.Array.{elements_layout}
-use Rattle.abi_laid.specs.Placed.{layout_of}
+use Rattle.abi_univariant.specs.Array.{elements_layout}
+use Rattle.abi_tree.specs.Placed.{layout_of}
 use Rattle.abi_scalar.specs.Layout.{Layout}
 use Rattle.rustc_abi.specs.declared.error.LayError.{LayError}
 use Rattle.rustc_abi.specs.Error.{named}
-use Rattle.abi_laid.specs.Nodes.{placed_at, types_in}
+use Rattle.abi_tree.specs.Nodes.{placed_at, types_in}
 use Rattle.rustc_abi.proofs.Places.LawsLemmas.{elements_laws, vector_laws}
 use Rattle.rustc_abi.proofs.Unions.CalcLemmas.{vector_made}
 use Rattle.rustc_abi.proofs.Unions.TogetherLemmas.{IsAdded-vector}

@@ -1,6 +1,6 @@
 use Rattle.std.proofs.Common.{◌≡◌, length, arith, subst, sym, true}
-use Rattle.abi_laid.specs.Well.{is_node}
-use Rattle.abi_laid.proofs.Meaning.NodesLemmas.{IsPut-push}
+use Rattle.abi_tree.specs.Well.{is_node}
+use Rattle.abi_tree.proofs.Meaning.NodesLemmas.{IsPut-push}
 use Rattle.rustc_abi.proofs.Sizes.CountLemmas.{more_one}
 use Rattle.rustc_abi.proofs.node.add.Goals as goal
 

@@ -1,6 +1,6 @@
 use Rattle.std.proofs.Common.{◌≡◌, map, take}
-use Rattle.abi_laid.specs.Placed.{layout_of}
-use Rattle.abi_laid.specs.Well.{all_at}
+use Rattle.abi_tree.specs.Placed.{layout_of}
+use Rattle.abi_tree.specs.Well.{all_at}
 use Rattle.rustc_abi.proofs.node.layouts_at.Given as goal
 
 abbrev pub invariant-loop-child : goal.invariant-loop-child

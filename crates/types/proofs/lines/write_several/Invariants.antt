@@ -1,6 +1,6 @@
 -- The variants that are left go on from those that are written.
 use Rattle.std.proofs.Common.{◌≡◌, ◌++◌, drop, string_bytes}
-use Rattle.abi_laid.specs.Laid.{placed_of}
+use Rattle.abi_tree.specs.Laid.{placed_of}
 use Rattle.types.specs.Lines.{several_lines}
 use Rattle.types.proofs.lines.write_several.Given as goal
 

@@ -1,9 +1,9 @@
 -- The tree that was made is a struct under `repr(C)`.
 use Rattle.std.proofs.Common.{Option, ℕ, true, List, Ok, Err, Result, map}
 use Rattle.std.specs.Prelude.{IfErr, IfOk}
-use Rattle.abi_laid.specs.declared.tree.TypeTree.{Struct}
-use Rattle.abi_laid.specs.Placed.{Placed}
-use Rattle.abi_laid.specs.Tree.{Tree, Trees, tree_of, trees}
+use Rattle.abi_tree.specs.declared.tree.TypeTree.{Struct}
+use Rattle.abi_tree.specs.Placed.{Placed}
+use Rattle.abi_tree.specs.Tree.{Tree, Trees, tree_of, trees}
 use Rattle.rustc_abi.specs.declared.error.LayError.{LayError}
 use Rattle.rustc_abi.specs.Fault.{IsRefusedFor}
 use Rattle.rustc_abi.specs.Laying.{AreLaying}

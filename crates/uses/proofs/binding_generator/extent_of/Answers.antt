@@ -1,6 +1,6 @@
 -- The type that was laid out.
 use Rattle.std.proofs.Common.{ap, sym}
-use Rattle.abi_laid.specs.Laid.{placed_of}
+use Rattle.abi_tree.specs.Laid.{placed_of}
 use Rattle.abi_scalar.specs.Layout.{Layout}
 use Rattle.uses.proofs.binding_generator.extent_of.Goals as goal
 

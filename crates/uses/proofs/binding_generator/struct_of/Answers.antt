@@ -1,9 +1,9 @@
 -- The struct that was laid out, from what is said of its order and of its layout.
 use Rattle.std.proofs.Common.{List, ℕ, ap, subst, sym, ◌∙◌}
 use Rattle.abi_scalar.specs.Shape.{listed_offsets}
-use Rattle.abi_laid.specs.Laid.{placed_of}
+use Rattle.abi_tree.specs.Laid.{placed_of}
 use Rattle.abi_scalar.specs.Layout.{Layout}
-use Rattle.abi_laid.specs.Tree.{tree_of}
+use Rattle.abi_tree.specs.Tree.{tree_of}
 use Rattle.uses.specs.InC.{LieAsInC, least_align}
 use Rattle.uses.proofs.Ordered.{offsets_listed, struct_in_c}
 use Rattle.uses.proofs.binding_generator.struct_of.Goals as goal

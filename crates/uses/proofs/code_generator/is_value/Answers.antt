@@ -1,5 +1,5 @@
 -- What was read is held.
-use Rattle.abi_laid.specs.Value.{value_of}
+use Rattle.abi_tree.specs.Value.{value_of}
 use Rattle.uses.proofs.code_generator.is_value.Goals as goal
 
 pub returns-in-Some : goal.returns-in-Some

@@ -1,8 +1,8 @@
 -- The bytes hold the value that was written, so one is found, and it is the only one.
 use Rattle.std.proofs.Common.{List, ℕ, sym, subst}
-use Rattle.abi_laid.specs.Holding.{Holds}
-use Rattle.abi_laid.specs.Laid.{endian_of, placed_of}
-use Rattle.abi_laid.specs.Value.{value_of}
+use Rattle.abi_tree.specs.Holding.{Holds}
+use Rattle.abi_tree.specs.Laid.{endian_of, placed_of}
+use Rattle.abi_tree.specs.Value.{value_of}
 use Rattle.uses.proofs.debugger.read_back.Goals as goal
 
 pub unreachable-requires : goal.unreachable-requires

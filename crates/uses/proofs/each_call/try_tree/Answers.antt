@@ -1,5 +1,5 @@
 -- What was laid out keeps the tree.
-use Rattle.abi_laid.specs.Tree.{tree_of}
+use Rattle.abi_tree.specs.Tree.{tree_of}
 use Rattle.uses.proofs.each_call.try_tree.Goals as goal
 
 pub try_laid-requires : goal.try_laid-requires

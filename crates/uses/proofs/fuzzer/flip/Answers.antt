@@ -1,10 +1,10 @@
 -- The first bytes hold a value, which is the only one that they hold, and the second don't hold it.
 use Rattle.std.proofs.Common.{List, ℕ, refl, sym, subst}
-use Rattle.abi_laid.specs.Deciding.{all_inhabited_of}
-use Rattle.abi_laid.specs.Holding.{Holds}
-use Rattle.abi_laid.specs.Laid.{endian_of, placed_of}
-use Rattle.abi_laid.specs.Places.{is_data_place}
-use Rattle.abi_laid.specs.Value.{Value}
+use Rattle.abi_tree.specs.Deciding.{all_inhabited_of}
+use Rattle.abi_tree.specs.Holding.{Holds}
+use Rattle.abi_tree.specs.Laid.{endian_of, placed_of}
+use Rattle.abi_tree.specs.Places.{is_data_place}
+use Rattle.abi_tree.specs.Value.{Value}
 use Rattle.uses.proofs.Padded.{nothing_decides, other_false}
 use Rattle.uses.proofs.fuzzer.flip.Goals as goal
 

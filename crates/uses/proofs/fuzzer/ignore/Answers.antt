@@ -1,7 +1,7 @@
 -- The bytes are those with a byte of padding changed, which hold the same values.
 use Rattle.std.proofs.Common.{◌≡◌, Err, Ok, Result, inr, rules}
 use Rattle.std.specs.Prelude.{IfErr}
-use Rattle.abi_laid.specs.Laid.{placed_of}
+use Rattle.abi_tree.specs.Laid.{placed_of}
 use Rattle.uses.specs.Ignored.{with_padding}
 use Rattle.uses.proofs.Padded.{same_read, same_values}
 use Rattle.uses.proofs.fuzzer.ignore.Goals as goal

@@ -2,7 +2,7 @@ use Rattle.std.proofs.Common.{◌≡◌, ◌*◌, None, refl}
 use Rattle.std.specs.Prelude.{is_some, unwrap_or}
 use Rattle.abi_scalar.specs.declared.backend_repr.BackendRepr.TheVariants.{Memory}
 use Rattle.abi_scalar.specs.Order.{HasPlaceForEach, IsAscending}
-use Rattle.abi_lists.proofs.Views.Lawful.{array_ok}
+use Rattle.abi_univariant.proofs.Views.Lawful.{array_ok}
 use Rattle.abi_calc.proofs.Arrays.{array_large, array_no_other, array_refused, no_niche, some_niche}
 use Rattle.abi_calc.proofs.calculator.LayoutCalculator.layout_of_array_like.Goals as goal
 

@@ -8,7 +8,7 @@ use Rattle.abi_base.specs.declared.struct_kind.StructKind.TheVariants.{AlwaysSiz
 use Rattle.abi_base.specs.DataLayout.{size_bound}
 use Rattle.abi_index.specs.BitSet.{members_of}
 use Rattle.abi_scalar.specs.declared.error.LayoutCalculatorError.TheVariants.{OutOfMemory, SizeOverflow}
-use Rattle.abi_lists.specs.List.{IsListError}
+use Rattle.abi_univariant.specs.List.{IsListError}
 use Rattle.abi_calc.specs.Coroutine.Layout.{IsStateTag, coroutine_layout, whole_size}
 use Rattle.abi_calc.specs.Coroutine.Lists.{behind, default_repr, first_list}
 use Rattle.abi_calc.specs.Coroutine.Sizes.{own_lists}

@@ -1,7 +1,7 @@
 use Rattle.std.proofs.Common.{◌≡◌, refl, arith}
 use Rattle.abi_scalar.specs.Order.{HasPlaceForEach, IsAscending}
-use Rattle.abi_lists.proofs.UnionsVectors.TooLarge.{vectors_sized}
-use Rattle.abi_lists.proofs.UnionsVectors.VectorLemmas.{scalable_ok}
+use Rattle.abi_univariant.proofs.UnionsVectors.TooLarge.{vectors_sized}
+use Rattle.abi_univariant.proofs.UnionsVectors.VectorLemmas.{scalable_ok}
 use Rattle.abi_calc.proofs.calculator.LayoutCalculator.layout_of_scalable_vector_type.Goals as goal
 
 pub layout_of_scalable-requires-clause-element : goal.layout_of_scalable-requires-clause-element

@@ -3,9 +3,9 @@ use Rattle.abi_base.specs.declared.data_layout.TargetDataLayout.{TargetDataLayou
 use Rattle.abi_scalar.specs.declared.backend_repr.BackendRepr.TheVariants.{Memory, Scalar as OneScalar, SimdVector}
 use Rattle.abi_scalar.specs.declared.scalar.Scalar.{Scalar}
 use Rattle.abi_scalar.specs.Order.{HasPlaceForEach, IsAscending}
-use Rattle.abi_lists.specs.Simd.{lanes_align}
-use Rattle.abi_lists.proofs.UnionsVectors.TooLarge.{vector_sized}
-use Rattle.abi_lists.proofs.UnionsVectors.VectorLemmas.{simd_ok}
+use Rattle.abi_univariant.specs.Simd.{lanes_align}
+use Rattle.abi_univariant.proofs.UnionsVectors.TooLarge.{vector_sized}
+use Rattle.abi_univariant.proofs.UnionsVectors.VectorLemmas.{simd_ok}
 use Rattle.abi_calc.proofs.calculator.LayoutCalculator.layout_of_simd_type.Goals as goal
 
 -- a view that is one scalar is of no other

@@ -9,10 +9,10 @@ use Rattle.abi_scalar.specs.declared.error.LayoutCalculatorError.TheVariants.{Ou
 use Rattle.abi_scalar.specs.declared.variants.RangeFrom.{RangeFrom}
 use Rattle.abi_scalar.specs.declared.variants.RangeToInclusive.{RangeToInclusive}
 use Rattle.abi_scalar.specs.Lawful.{IsLawfulLayout}
-use Rattle.abi_lists.specs.Answer.{IsAnswer}
-use Rattle.abi_lists.specs.Least.{IsEachOrderTooLarge}
-use Rattle.abi_lists.specs.List.{AreSized}
-use Rattle.abi_lists.specs.Placement.{IsNonEmptyIfUnsized}
+use Rattle.abi_univariant.specs.Answer.{IsAnswer}
+use Rattle.abi_univariant.specs.Least.{IsEachOrderTooLarge}
+use Rattle.abi_univariant.specs.List.{AreSized}
+use Rattle.abi_univariant.specs.Placement.{IsNonEmptyIfUnsized}
 use Rattle.abi_calc.specs.Enums.Answer.{HasOneEach, IsGoodSingle}
 use Rattle.abi_calc.specs.Enums.Discriminants.{counting_of}
 use Rattle.abi_calc.specs.Enums.Made.{HasLeastTag, IsMadeOfLists}

@@ -1,6 +1,6 @@
 use Rattle.abi_index.specs.Slice.{items_of}
-use Rattle.abi_lists.specs.Union.{only_of}
-use Rattle.abi_lists.proofs.UnionsVectors.TooLarge.{union_sized}
+use Rattle.abi_univariant.specs.Union.{only_of}
+use Rattle.abi_univariant.proofs.UnionsVectors.TooLarge.{union_sized}
 use Rattle.abi_calc.proofs.Seen.{union_aligned, union_fields, union_marks, union_single, union_viewed}
 use Rattle.abi_calc.proofs.calculator.LayoutCalculator.layout_of_union.Goals as goal
 

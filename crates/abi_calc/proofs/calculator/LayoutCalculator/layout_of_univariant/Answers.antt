@@ -1,6 +1,6 @@
 use Rattle.std.proofs.Common.{◌+◌, ◌≤◌, length, refl, inr}
 use Rattle.abi_index.specs.Slice.{items_of}
-use Rattle.abi_lists.proofs.Promised.LeastLemmas.{answer_large, answer_refused, ascends, first_never, has_greatest_niche, has_least, has_own_niche, has_places, keeps_apart, lies_after, lies_aligned, lies_in_order, listed_err, listed_ok, sized_error, sums_up}
+use Rattle.abi_univariant.proofs.Promised.LeastLemmas.{answer_large, answer_refused, ascends, first_never, has_greatest_niche, has_least, has_own_niche, has_places, keeps_apart, lies_after, lies_aligned, lies_in_order, listed_err, listed_ok, sized_error, sums_up}
 use Rattle.abi_calc.proofs.Seen.{list_marks, list_viewed}
 use Rattle.abi_calc.proofs.calculator.LayoutCalculator.layout_of_univariant.Goals as goal
 

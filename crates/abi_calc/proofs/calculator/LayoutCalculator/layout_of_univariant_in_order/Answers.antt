@@ -1,6 +1,6 @@
 use Rattle.std.proofs.Common.{◌+◌, ◌≤◌, length}
 use Rattle.abi_index.specs.Slice.{items_of}
-use Rattle.abi_lists.proofs.Promised.InOrderLemmas.{handed_after, handed_aligned, handed_apart, handed_ascends, handed_bad, handed_large, handed_largest, handed_lies, handed_niche, handed_no_other, handed_ok, handed_places, handed_refused, handed_told}
+use Rattle.abi_univariant.proofs.Promised.InOrderLemmas.{handed_after, handed_aligned, handed_apart, handed_ascends, handed_bad, handed_large, handed_largest, handed_lies, handed_niche, handed_no_other, handed_ok, handed_places, handed_refused, handed_told}
 use Rattle.abi_calc.proofs.Handed.{free_of_random, handed_marks, handed_viewed}
 use Rattle.abi_calc.proofs.calculator.LayoutCalculator.layout_of_univariant_in_order.Goals as goal
 

@@ -4,7 +4,7 @@ use Rattle.std.specs.Prelude.{All, IsPermutation}
 use Rattle.std.specs.List.{AllPairs}
 use Rattle.std.proofs.lemmas.List.{drop_all, length-map, length-set, take_all, take_more_set, take_rest}
 use Rattle.abi_index.specs.BitSet.{members_of}
-use Rattle.abi_lists.specs.Placement.{source_order}
+use Rattle.abi_univariant.specs.Placement.{source_order}
 use Rattle.abi_scalar.specs.Shape.{listed_offsets}
 use Rattle.abi_scalar.specs.Variant.{variant_of}
 use Rattle.abi_calc.specs.Coroutine.Lists.{own_of}

@@ -1,7 +1,7 @@
 use Rattle.std.proofs.Common.{◌≡◌, ap, arith, fold, length, map, nat_lt, sym, Bool, true, ◌∙◌}
 use Rattle.std.specs.Prelude.{if◌then◌else◌}
 use Rattle.abi_index.specs.Relation.{row_count}
-use Rattle.abi_lists.specs.Placement.{source_order}
+use Rattle.abi_univariant.specs.Placement.{source_order}
 use Rattle.abi_calc.specs.Coroutine.Promotion.{after_row, after_rows, held_by_several, holders_of, used_count}
 use Rattle.abi_calc.proofs.CoroutineLemmas.Holders.{holders_size, several_size}
 use Rattle.abi_calc.proofs.coroutine.promotion.promoted_locals.Goals as goal

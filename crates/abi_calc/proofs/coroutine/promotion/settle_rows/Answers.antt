@@ -2,7 +2,7 @@ use Rattle.std.proofs.Common.{◌≡◌, ◌<◌, map, ap, sym, ◌∙◌}
 use Rattle.std.proofs.lemmas.List.Elements.{All-head, All-rest, All-same}
 use Rattle.abi_index.specs.Indices.{indices_left}
 use Rattle.abi_index.specs.Relation.{row_count}
-use Rattle.abi_lists.specs.Placement.{source_order}
+use Rattle.abi_univariant.specs.Placement.{source_order}
 use Rattle.abi_calc.specs.Coroutine.Promotion.{after_row}
 use Rattle.abi_calc.proofs.CoroutineLemmas.Steps.{left_end, left_start, left_step, left_within, rows_within}
 use Rattle.abi_calc.proofs.coroutine.promotion.settle_rows.Goals as goal

@@ -3,7 +3,7 @@ use Rattle.std.proofs.Common.{◌≡◌, ℕ, ◌<◌, All, List, fold, map}
 use Rattle.abi_index.specs.BitSet.{domain_size}
 use Rattle.abi_index.specs.Indices.{indices_left}
 use Rattle.abi_index.specs.Relation.{row_count}
-use Rattle.abi_lists.specs.Placement.{source_order}
+use Rattle.abi_univariant.specs.Placement.{source_order}
 use Rattle.abi_calc.specs.Coroutine.Promotion.{after_row, holders_of}
 use Rattle.abi_calc.proofs.coroutine.promotion.settle_rows.Given as goal
 

@@ -2,7 +2,7 @@
 use Rattle.std.proofs.Common.{◌≡◌, ◌+◌, ◌∷◌, ◌++◌, ◌∙◌, [], ap, ap₂, arith, map, sym}
 use Rattle.std.proofs.lemmas.List.FromFn.{map-range_with_len_more}
 use Rattle.abi_index.specs.BitSet.{is_member}
-use Rattle.abi_lists.specs.Placement.{source_order}
+use Rattle.abi_univariant.specs.Placement.{source_order}
 use Rattle.abi_calc.specs.Coroutine.States.{rank_of}
 use Rattle.abi_calc.proofs.CoroutineLemmas.States.{rank_more}
 use Rattle.abi_calc.proofs.coroutine.states.ranks_below.Goals as goal

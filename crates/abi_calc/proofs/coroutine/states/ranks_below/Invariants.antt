@@ -1,6 +1,6 @@
 -- The ranks of the locals before the place.
 use Rattle.std.proofs.Common.{◌≡◌, ◌≤◌, map}
-use Rattle.abi_lists.specs.Placement.{source_order}
+use Rattle.abi_univariant.specs.Placement.{source_order}
 use Rattle.abi_calc.specs.Coroutine.States.{rank_of}
 use Rattle.abi_calc.proofs.coroutine.states.ranks_below.Given as goal
 

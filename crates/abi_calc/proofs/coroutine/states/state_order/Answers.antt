@@ -4,7 +4,7 @@ use Rattle.std.specs.Prelude.{All, IfOk, IfSome, slice_index_or}
 use Rattle.std.specs.Option.{option_to_list}
 use Rattle.std.proofs.lemmas.List.{get_or-map, length-map}
 use Rattle.std.proofs.lemmas.List.Elements.{All-map, All-weaker}
-use Rattle.abi_lists.proofs.Sorted.Sorting.{within_order}
+use Rattle.abi_univariant.proofs.Sorted.Sorting.{within_order}
 use Rattle.abi_calc.specs.Coroutine.Lists.{own_of}
 use Rattle.abi_calc.proofs.CoroutineLemmas.States.{count_own_places, held_small, joined_is, members_and_own, order_count}
 use Rattle.abi_calc.proofs.coroutine.states.state_order.Goals as goal

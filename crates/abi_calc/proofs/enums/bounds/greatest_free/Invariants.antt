@@ -1,6 +1,6 @@
 -- The rest of the fields gives the most.
 use Rattle.std.proofs.Common.{◌≡◌, drop, fold, map, max}
-use Rattle.abi_lists.specs.Part.{free_numbers}
+use Rattle.abi_univariant.specs.Part.{free_numbers}
 use Rattle.abi_calc.specs.Enums.Bounds.{greatest_free}
 use Rattle.abi_calc.proofs.enums.bounds.greatest_free.Given as goal
 

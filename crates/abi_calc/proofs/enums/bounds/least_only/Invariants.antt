@@ -1,6 +1,6 @@
 -- The rest of the variants gives the least.
 use Rattle.std.proofs.Common.{◌≡◌, ◌≤◌, drop, fold, map, min}
-use Rattle.abi_lists.specs.Part.{max_align}
+use Rattle.abi_univariant.specs.Part.{max_align}
 use Rattle.abi_calc.specs.Enums.Bounds.{least_only, only_align}
 use Rattle.abi_calc.proofs.enums.bounds.least_only.Given as goal
 

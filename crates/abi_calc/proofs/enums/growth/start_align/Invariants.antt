@@ -1,6 +1,6 @@
 -- The rest of the variants gives the least.
 use Rattle.std.proofs.Common.{◌≡◌, ◌≤◌, drop, map, min}
-use Rattle.abi_lists.specs.Part.{max_align}
+use Rattle.abi_univariant.specs.Part.{max_align}
 use Rattle.abi_calc.specs.Enums.Growth.{start_align}
 use Rattle.abi_calc.proofs.enums.growth.start_align.Given as goal
 

@@ -4,7 +4,7 @@ use Rattle.std.specs.Prelude.{Some, None}
 use Rattle.abi_scalar.specs.Niche.{niche_at}
 use Rattle.abi_scalar.specs.declared.backend_repr.BackendRepr.TheVariants.{Memory}
 use Rattle.abi_scalar.proofs.ReadableLemmas.{lawful_readable}
-use Rattle.abi_lists.specs.Fields.{greater}
+use Rattle.abi_univariant.specs.Fields.{greater}
 use Rattle.abi_calc.specs.Enums.Niche.{if_placed, layout_in_niche, others_empty, room_beside, span_count, variants_from, view_with}
 use Rattle.abi_calc.specs.Enums.Tagged.{lists_align, lists_size}
 use Rattle.abi_scalar.specs.Reserve.{reserved}

@@ -3,8 +3,8 @@ use Rattle.std.proofs.Common.{◌≡◌, ◌∙◌, ◌<◌, ap, arith, length, 
 use Rattle.std.specs.Prelude.{Some, slice_get}
 use Rattle.std.proofs.lemmas.List.{length-map}
 use Rattle.abi_scalar.specs.Niche.{available_in}
-use Rattle.abi_lists.proofs.Views.Lawful.{bound_small}
-use Rattle.abi_lists.proofs.Views.NicheLemmas.{lawful_readable}
+use Rattle.abi_univariant.proofs.Views.Lawful.{bound_small}
+use Rattle.abi_univariant.proofs.Views.NicheLemmas.{lawful_readable}
 use Rattle.abi_calc.specs.Enums.Niche.{if_placed, needing_numbers, niche_layout, room_beside, span_count, variants_from, untagged_of}
 use Rattle.abi_calc.proofs.EnumLemmas.InNiche.{enough, few_of, handed_lawful, known_niche, known_span, much_of, ok_weaker, needing_ascends, needing_within, niche_known, niche_there, no_niche, no_span, span_ascends, span_holds, too_few}
 use Rattle.abi_calc.proofs.enums.in_niche.niche_of_lists.Goals as goal

@@ -1,5 +1,5 @@
 use Rattle.abi_scalar.specs.Scalar.{primitive_of}
-use Rattle.abi_lists.proofs.Views.NicheLemmas.{readable_size}
+use Rattle.abi_univariant.proofs.Views.NicheLemmas.{readable_size}
 use Rattle.abi_calc.proofs.enums.payload.tagged_view.Goals as goal
 
 pub size-new-requires : goal.size-new-requires

@@ -2,8 +2,8 @@
 use Rattle.std.proofs.Common.{◌∙◌, ap, arith, max, refl}
 use Rattle.abi_scalar.specs.Scalar.{primitive_of, scalar_size}
 use Rattle.abi_scalar.proofs.ReadableLemmas.{lawful_readable}
-use Rattle.abi_lists.specs.Fields.{greater}
-use Rattle.abi_lists.proofs.Views.NicheLemmas.{readable_size}
+use Rattle.abi_univariant.specs.Fields.{greater}
+use Rattle.abi_univariant.proofs.Views.NicheLemmas.{readable_size}
 use Rattle.abi_calc.specs.Enums.Tagged.{layout_seen_as}
 use Rattle.abi_calc.proofs.EnumLemmas.Tagged.{same_parts}
 use Rattle.abi_calc.proofs.enums.tagged.layout_seen_as.Goals as goal

@@ -1,6 +1,6 @@
 -- The type so far goes where the first one went.
 use Rattle.std.proofs.Common.{◌≡◌, vec_len}
-use Rattle.abi_laid.specs.Tree.{tree_of}
+use Rattle.abi_tree.specs.Tree.{tree_of}
 use Rattle.abi_text.specs.Reading.{begun_in, put}
 use Rattle.abi_text.proofs.reader.begun.put.Given as goal
 

@@ -1,6 +1,6 @@
 use Rattle.std.proofs.Common.{Bor, List, [], ◌∷◌, ◌≡◌, All, length}
 use Rattle.std.proofs.lemmas.List.Elements.{All-head, All-nil}
-use Rattle.abi_lists.specs.Union.{only_of}
+use Rattle.abi_univariant.specs.Union.{only_of}
 use Rattle.abi_index.specs.declared.idx.FieldIdx.{FieldIdx}
 use Rattle.abi_index.specs.declared.idx.VariantIdx.{VariantIdx}
 use Rattle.abi_scalar.specs.declared.layout_data.LayoutData.{LayoutData}

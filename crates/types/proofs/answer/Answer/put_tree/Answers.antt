@@ -1,4 +1,4 @@
-use Rattle.abi_laid.specs.Tree.{tree_of}
+use Rattle.abi_tree.specs.Tree.{tree_of}
 use Rattle.types.proofs.answer.Answer.put_tree.Goals as goal
 
 pub put_laid-requires : goal.put_laid-requires

@@ -5,8 +5,8 @@ use Rattle.abi_base.specs.Size.{signed_value}
 use Rattle.std.specs.declared.alloc.Global.{Global}
 use Rattle.abi_scalar.specs.declared.repr.ReprOptions.{ReprOptions}
 use Rattle.abi_scalar.specs.Repr.{is_c}
-use Rattle.abi_laid.specs.declared.tree.TypeTree.{TypeTree, Enum}
-use Rattle.abi_laid.specs.Tree.{Tree, enum, tree_of, trees_of_variants}
+use Rattle.abi_tree.specs.declared.tree.TypeTree.{TypeTree, Enum}
+use Rattle.abi_tree.specs.Tree.{Tree, enum, tree_of, trees_of_variants}
 use Rattle.rustc_abi.specs.declared.error.LayError.TheVariants.{OutOfMemory}
 use Rattle.rustc_abi.specs.Fault.{IsRefusedFor}
 use Rattle.uses.specs.EnumInC.{IsEnumInC, LiesAsEnumInC, without_fields}

@@ -1,6 +1,6 @@
 -- One more variant without fields.
 use Rattle.std.proofs.Common.{get_or, refl, ap, ◌∙◌}
-use Rattle.abi_laid.specs.Tree.{trees_of_variants}
+use Rattle.abi_tree.specs.Tree.{trees_of_variants}
 use Rattle.uses.proofs.Trees.{next_fieldless}
 use Rattle.uses.proofs.binding_generator.enums.variants_of.Goals as goal
 

@@ -1,5 +1,5 @@
 use Rattle.std.proofs.Common.{◌≡◌, take}
-use Rattle.abi_laid.specs.Tree.{trees_of_variants}
+use Rattle.abi_tree.specs.Tree.{trees_of_variants}
 use Rattle.uses.specs.EnumInC.{without_fields}
 use Rattle.uses.proofs.binding_generator.enums.variants_of.Given as goal
 

@@ -1,5 +1,5 @@
 use Rattle.std.proofs.Common.{◌≡◌, drop, map}
-use Rattle.abi_laid.specs.Tree.{tree_of, trees}
+use Rattle.abi_tree.specs.Tree.{tree_of, trees}
 use Rattle.uses.specs.FieldOfC.{first_fault}
 use Rattle.uses.proofs.binding_generator.fields.first_fault.Given as goal
 

@@ -1,9 +1,9 @@
 -- The tree that was made is a union under `repr(C)`.
 use Rattle.std.proofs.Common.{List, Ok, Err, Result, map, refl, subst}
 use Rattle.std.specs.Prelude.{IfErr, IfOk}
-use Rattle.abi_laid.specs.declared.tree.TypeTree.{Union}
-use Rattle.abi_laid.specs.Placed.{Placed, layout_of}
-use Rattle.abi_laid.specs.Tree.{Tree, tree_of, trees}
+use Rattle.abi_tree.specs.declared.tree.TypeTree.{Union}
+use Rattle.abi_tree.specs.Placed.{Placed, layout_of}
+use Rattle.abi_tree.specs.Tree.{Tree, tree_of, trees}
 use Rattle.rustc_abi.specs.Fault.{IsRefusedFor}
 use Rattle.rustc_abi.specs.Laying.{AreLaying}
 use Rattle.uses.specs.InC.{HasExtent, IsUnionInC, LieTogetherAsInC}

@@ -1,6 +1,6 @@
 -- A variant as a value.
 use Rattle.std.proofs.Common.{ap, ◌∙◌}
-use Rattle.abi_laid.specs.Value.{value_of, values_of}
+use Rattle.abi_tree.specs.Value.{value_of, values_of}
 use Rattle.uses.proofs.Held.{value_of-Variant}
 use Rattle.uses.proofs.code_generator.tags.index_of.Goals as goal
 

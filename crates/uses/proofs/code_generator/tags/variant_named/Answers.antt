@@ -1,8 +1,8 @@
 -- What was read is the only value that is held.
 use Rattle.std.proofs.Common.{subst, sym}
-use Rattle.abi_laid.specs.Holding.{Holds}
-use Rattle.abi_laid.specs.Laid.{endian_of, placed_of}
-use Rattle.abi_laid.specs.Value.{value_of, variant}
+use Rattle.abi_tree.specs.Holding.{Holds}
+use Rattle.abi_tree.specs.Laid.{endian_of, placed_of}
+use Rattle.abi_tree.specs.Value.{value_of, variant}
 use Rattle.uses.proofs.Held.{only_read}
 use Rattle.uses.proofs.Named.{named_here, no_index, same_index}
 use Rattle.uses.proofs.code_generator.tags.variant_named.Goals as goal

@@ -1,9 +1,9 @@
 -- What was read is the only value that is held.
 use Rattle.std.proofs.Common.{◌≡◌, rules, subst, sym, ◌∙◌}
 use Rattle.std.specs.Prelude.{slice_get}
-use Rattle.abi_laid.specs.Holding.{Holds}
-use Rattle.abi_laid.specs.Laid.{endian_of, placed_of}
-use Rattle.abi_laid.specs.Value.{value_of, values_of, state}
+use Rattle.abi_tree.specs.Holding.{Holds}
+use Rattle.abi_tree.specs.Laid.{endian_of, placed_of}
+use Rattle.abi_tree.specs.Value.{value_of, values_of, state}
 use Rattle.uses.proofs.Held.{inj-state, only_read, part_answer}
 use Rattle.uses.proofs.debugger.parts.local_of_state.Goals as goal
 

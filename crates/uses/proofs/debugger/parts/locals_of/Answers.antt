@@ -1,6 +1,6 @@
 -- A state as a value.
 use Rattle.std.proofs.Common.{ℕ, ap, ◌∙◌}
-use Rattle.abi_laid.specs.Value.{state, value_of, values_of}
+use Rattle.abi_tree.specs.Value.{state, value_of, values_of}
 use Rattle.uses.proofs.Held.{value_of-State}
 use Rattle.uses.proofs.debugger.parts.locals_of.Goals as goal
 

@@ -1,8 +1,8 @@
 -- What was read is the only value that is held.
 use Rattle.std.proofs.Common.{subst}
-use Rattle.abi_laid.specs.Holding.{Holds}
-use Rattle.abi_laid.specs.Laid.{endian_of, placed_of}
-use Rattle.abi_laid.specs.Value.{two, value_of}
+use Rattle.abi_tree.specs.Holding.{Holds}
+use Rattle.abi_tree.specs.Laid.{endian_of, placed_of}
+use Rattle.abi_tree.specs.Value.{two, value_of}
 use Rattle.uses.proofs.Held.{no_both}
 use Rattle.uses.proofs.debugger.parts.numbers_of.Goals as goal
 

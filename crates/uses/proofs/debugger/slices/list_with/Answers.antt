@@ -1,6 +1,6 @@
 -- The values of the list, with one changed.
 use Rattle.std.proofs.Common.{◌≡◌, arith, ap, sym, ◌∙◌, length, ◌≤◌}
-use Rattle.abi_laid.specs.Value.{list, value_of, values_of}
+use Rattle.abi_tree.specs.Value.{list, value_of, values_of}
 use Rattle.uses.specs.Field.{value_at}
 use Rattle.uses.proofs.Held.{inj-list, value_at_past, value_of-List, values_of-set}
 use Rattle.uses.proofs.debugger.slices.list_with.Goals as goal

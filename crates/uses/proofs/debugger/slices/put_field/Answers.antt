@@ -2,11 +2,11 @@
 use Rattle.std.proofs.Common.{◌≡◌, Err, Ok, Result, subst, sym, ◌∙◌}
 use Rattle.std.specs.Prelude.{IfErr}
 use Rattle.std.specs.Result.{IsErrAnd}
-use Rattle.abi_laid.specs.declared.value.error.ValueError.{ValueError}
-use Rattle.abi_laid.specs.Holding.{Holds}
-use Rattle.abi_laid.specs.Laid.{endian_of, placed_of}
-use Rattle.abi_laid.specs.Value.{Values, list, value_of}
-use Rattle.abi_laid.specs.Values.{IsValueOf}
+use Rattle.abi_tree.specs.declared.value.error.ValueError.{ValueError}
+use Rattle.abi_tree.specs.Holding.{Holds}
+use Rattle.abi_tree.specs.Laid.{endian_of, placed_of}
+use Rattle.abi_tree.specs.Value.{Values, list, value_of}
+use Rattle.abi_tree.specs.Values.{IsValueOf}
 use Rattle.uses.specs.Field.{with_value}
 use Rattle.uses.proofs.Held.{inj-list, only_read}
 use Rattle.uses.proofs.debugger.slices.put_field.Goals as goal

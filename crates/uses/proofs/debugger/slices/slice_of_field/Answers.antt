@@ -1,11 +1,11 @@
 -- The layout's offset and the size of the field's handle are those of the field.
 use Rattle.std.proofs.Common.{◌≡◌, ℕ, Some, arith, ap₂, subst, sym, ◌∙◌}
-use Rattle.abi_laid.specs.Bytes.{bytes_at}
-use Rattle.abi_laid.specs.Holding.{Holds}
-use Rattle.abi_laid.specs.Laid.{endian_of, placed_of}
-use Rattle.abi_laid.specs.Handles.{tree_type}
-use Rattle.abi_laid.specs.Placed.{Placed, size_of}
-use Rattle.abi_laid.specs.Value.{Value, Values, list}
+use Rattle.abi_tree.specs.Bytes.{bytes_at}
+use Rattle.abi_tree.specs.Holding.{Holds}
+use Rattle.abi_tree.specs.Laid.{endian_of, placed_of}
+use Rattle.abi_tree.specs.Handles.{tree_type}
+use Rattle.abi_tree.specs.Placed.{Placed, size_of}
+use Rattle.abi_tree.specs.Value.{Value, Values, list}
 use Rattle.uses.specs.Field.{HasFieldAt, value_at}
 use Rattle.uses.proofs.Fields.{each_slice, field_fits, field_inside, field_there, held_field, no_slice}
 use Rattle.uses.proofs.debugger.slices.slice_of_field.Goals as goal

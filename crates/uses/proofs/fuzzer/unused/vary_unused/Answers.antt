@@ -3,10 +3,10 @@ use Rattle.std.proofs.Common.{◌≡◌, ◌∙◌, ap, false, subst, sym, true}
 use Rattle.std.specs.Prelude.{IfOk, Some, if◌then◌else◌, slice_set}
 use Rattle.abi_types.specs.Ty.Runs.{AreUnused}
 use Rattle.abi_types.specs.Ty.Typed.{layout_in}
-use Rattle.abi_laid.specs.Covering.{is_covered}
-use Rattle.abi_laid.specs.Holding.{Holds}
-use Rattle.abi_laid.specs.Laid.{endian_of, placed_of}
-use Rattle.abi_laid.specs.Value.{value_of}
+use Rattle.abi_tree.specs.Covering.{is_covered}
+use Rattle.abi_tree.specs.Holding.{Holds}
+use Rattle.abi_tree.specs.Laid.{endian_of, placed_of}
+use Rattle.abi_tree.specs.Value.{value_of}
 use Rattle.uses.specs.Field.{IsValueFound}
 use Rattle.uses.specs.Spared.{is_spared}
 use Rattle.uses.proofs.Held.{only_read}

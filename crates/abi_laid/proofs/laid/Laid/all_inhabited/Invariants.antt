@@ -1,6 +1,0 @@
-use Rattle.std.proofs.Common.{◌≡◌, drop}
-use Rattle.abi_laid.specs.Deciding.{are_inhabited}
-use Rattle.abi_laid.proofs.laid.Laid.all_inhabited.Given as goal
-
-abbrev pub invariant-loop-i : goal.invariant-loop-i
-invariant-loop-i l = are_inhabited l.self.nodes ≡ are_inhabited (drop l.i l.self.nodes)

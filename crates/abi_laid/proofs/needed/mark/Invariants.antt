@@ -1,6 +1,0 @@
-use Rattle.std.proofs.Common.{take}
-use Rattle.abi_laid.specs.Needed.{MarksPlaces}
-use Rattle.abi_laid.proofs.needed.mark.Given as goal
-
-abbrev pub invariant-loop-place : goal.invariant-loop-place
-invariant-loop-place l = MarksPlaces l.fn.needed l.needed (take l.place-index l.places)

@@ -1,6 +1,0 @@
-use Rattle.std.proofs.Common.{map, take}
-use Rattle.abi_laid.specs.Needed.{MarksPlaces}
-use Rattle.abi_laid.proofs.needed.mark_variants.Given as goal
-
-abbrev pub invariant-loop-variant : goal.invariant-loop-variant
-invariant-loop-variant l = MarksPlaces l.fn.needed l.needed (map (λ v. v.1) (take l.variant-index l.variants))

@@ -1,7 +1,0 @@
-use Rattle.std.proofs.Common.{ap, sym, ◌∙◌}
-use Rattle.abi_laid.specs.declared.node.Node.{Node}
-use Rattle.abi_laid.proofs.Meaning.NodesLemmas.{layout_of-placed_at}
-use Rattle.abi_laid.proofs.nodes.Nodes.layout.Goals as goal
-
-pub returns : goal.returns
-returns c = ap (λ (n : Node). n.layout) c.node.ensures ∙ sym (layout_of-placed_at c.args.self.now c.args.at _ c.requires)

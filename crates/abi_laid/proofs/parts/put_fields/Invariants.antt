@@ -1,9 +1,0 @@
-use Rattle.std.proofs.Common.{List}
-use Rattle.abi_laid.specs.Needed.{ArePartsMade}
-use Rattle.abi_laid.specs.Placed.{Placed}
-use Rattle.abi_laid.proofs.Places.PartsLemmas.{FieldsArePut}
-use Rattle.abi_laid.proofs.parts.put_fields.Given as goal
-
-abbrev pub invariant-loop-i : goal.invariant-loop-i
-invariant-loop-i l =
-    (types : List Placed) → ArePartsMade types l.sets.done.now l.layout.size l.offsets l.children → FieldsArePut types l.variant l.offsets l.children l.fn.parts.items l.parts.items l.i

@@ -1,5 +1,0 @@
-use Rattle.abi_laid.proofs.Places.MarkedLemmas.{MarksRun}
-use Rattle.abi_laid.proofs.runs_of.mark_run.Given as goal
-
-abbrev pub invariant-loop-at : goal.invariant-loop-at
-invariant-loop-at l = MarksRun l.fn.marks l.marks l.offset l.at

@@ -1,6 +1,0 @@
-use Rattle.std.proofs.Common.{subst, sym}
-use Rattle.abi_laid.specs.Needed.{AreNeeded}
-use Rattle.abi_laid.proofs.runs_of.padding.Goals as goal
-
-pub returns-clause-ranges : goal.returns-clause-ranges
-returns-clause-ranges c = c.in_ok-set.ensures c.args.nodes.nodes.now (subst (AreNeeded c.args.nodes.nodes.now) (sym c.deref.ensures.value) c.in_ok-kept.ensures.needed)

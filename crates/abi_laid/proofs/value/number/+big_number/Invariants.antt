@@ -1,5 +1,0 @@
-use Rattle.std.proofs.Common.{length}
-use Rattle.abi_laid.proofs.value.number.+big_number.Given as goal
-
-abbrev pub decreases-big_number : goal.decreases-big_number
-decreases-big_number l = length l.bytes.now

@@ -1,7 +1,0 @@
-use Rattle.std.proofs.Common.{◌∙◌}
-use Rattle.abi_laid.proofs.Written.TagNumberLemmas.{direct_number}
-use Rattle.abi_laid.proofs.value.write.tag_number.Goals as goal
-
-pub returns-in-Direct : goal.returns-in-Direct
-returns-in-Direct c = λ done tag names told.
-    c.truncate.ensures ∙ direct_number c.args.encoding.now done c.args.variants.now c.args.width tag c.args.i (0, 0) c.in-Direct.is names

@@ -1,8 +1,0 @@
--- Those below the counter.
-use Rattle.std.proofs.Common.{◌≡◌, filter}
-use Rattle.abi_lists.specs.ListView.{bulk_of, is_bulky, part_at}
-use Rattle.abi_lists.specs.Placement.{source_order}
-use Rattle.abi_lists.proofs.list_view.bulk_of.Given as goal
-
-abbrev pub invariant-loop-index : goal.invariant-loop-index
-invariant-loop-index g l = l.bulk ≡ bulk_of (filter (λ i. is_bulky (part_at l.parts i)) (source_order l.index))

@@ -1,7 +1,0 @@
-use Rattle.std.proofs.Common.{arith, sym, subst}
-use Rattle.abi_lists.specs.LawfulPart.{IsAlignedPart}
-use Rattle.abi_lists.specs.Placement.{no_part}
-use Rattle.abi_lists.proofs.order.sort_keys.Goals as goal
-
-pub key_of-requires : goal.key_of-requires
-key_of-requires g c = subst IsAlignedPart (sym c.at.ensures) (c.requires c.loop-index.index no_part (omega (arith, c.loop-index-test.true, c.len-index-end.ensures)))

@@ -1,7 +1,0 @@
--- The keys up to the index.
-use Rattle.std.proofs.Common.{◌≡◌, map, take}
-use Rattle.abi_lists.specs.Order.{sort_key}
-use Rattle.abi_lists.proofs.order.sort_keys.Given as goal
-
-abbrev pub invariant-loop-index : goal.invariant-loop-index
-invariant-loop-index g l = l.keys.items ≡ map (sort_key l.rule) (take l.index l.parts)

@@ -1,0 +1,167 @@
+//! Which variant, or state, a tag's number names.
+
+ghost use Rattle.std.specs.Prelude.{◌≡◌, ◌≢◌, ◌<◌, ◌≤◌, All, ℕ, MatchBool, length, true};
+ghost use Rattle.abi_tree.specs.Placed.{is_flagged};
+ghost use Rattle.abi_tree.specs.Nodes.{arms_in, encoding_of, own_fields, parts_at, placed_at, types_in};
+ghost use Rattle.abi_tree.specs.Well.{all_at, are_nodes};
+ghost use Rattle.abi_tree.specs.Tag.{IsSpanned, Names, NamesByNiche, NamesDirectly, niche_number};
+
+use crate::node::{Shape, offsets};
+use crate::nodes::Nodes;
+use abi_base::Size;
+use abi_index::{FieldIdx, Idx, VariantIdx};
+use abi_scalar::{LayoutData, TagEncoding, Variants};
+
+/// How a layout's tag tells variants apart.
+pub(crate) fn encoding_of(layout: &LayoutData<FieldIdx, VariantIdx>) -> TagEncoding<VariantIdx>
+    ensures { result ≡ encoding_of layout.now.variants }
+{
+    match &layout.variants {
+        Variants::Multiple { tag_encoding, .. } => *tag_encoding,
+        _ => TagEncoding::Direct,
+    }
+}
+
+/// The offsets and nodes of the fields of a variant, which has a node of its own.
+pub(crate) fn own_parts(nodes: &Nodes, variant: usize) -> (&[Size], &[usize])
+    requires there { variant < length nodes.now }
+    requires well { are_nodes 0 nodes.now ≡ true }
+    ensures parts { own_fields (placed_at nodes.now variant)
+        ≡ parts_at result.0.now (all_at nodes.now result.1.now) }
+    ensures before { All (λ child. child < variant) result.1.now }
+{
+    let here = nodes.node(variant);
+    match here.shape {
+        Shape::Fields(_, children) => (offsets(here.layout), children),
+        _ => (&[], &[]),
+    }
+}
+
+/// Whether the layout of a field of the variant is flagged as having no value.
+fn is_flagged(nodes: &Nodes, variant: usize) -> bool
+    requires there { variant < length nodes.now }
+    requires well { are_nodes 0 nodes.now ≡ true }
+    ensures { result ≡ is_flagged (own_fields (placed_at nodes.now variant)) }
+{
+    let (offsets, children) = own_parts(nodes, variant);
+    for i in 0..children.len() {
+        if i < offsets.len() && nodes.layout(children[i]).uninhabited {
+            return true;
+        }
+    }
+    false
+}
+
+/// Whether the number of a tag of this width names the variant directly.
+fn is_named_directly(
+    nodes: &Nodes,
+    width: Size,
+    variants: &[(u128, usize)],
+    i: usize,
+    tag: u128,
+) -> bool
+    requires well { are_nodes 0 nodes.now ≡ true }
+    requires there { All (λ v. v.1 < length nodes.now) variants.now }
+    requires width { width ≤ 16 }
+    requires index { i < length variants.now }
+    ensures { MatchBool result
+        (NamesDirectly width (arms_in (types_in nodes.now) variants.now) tag i)
+        (NamesDirectly width (arms_in (types_in nodes.now) variants.now) tag i → ⊥) }
+{
+    let (number, variant) = variants[i];
+    width.truncate(number) == tag && !is_flagged(nodes, variant)
+}
+
+/// The number in the niche for a variant of the span.
+pub(crate) fn niche_number(width: Size, first: usize, start: u128, i: usize) -> u128
+    requires width { width ≤ 16 }
+    requires later { first ≤ i }
+    ensures { result ≡ niche_number width first start i }
+{
+    width.truncate(start.wrapping_add((i - first) as u128))
+}
+
+/// Whether the number is that of some variant of the span, other than the untagged one.
+fn is_of_spanned(
+    width: Size,
+    untagged: usize,
+    first: usize,
+    last: usize,
+    start: u128,
+    tag: u128,
+) -> bool
+    requires width { width ≤ 16 }
+    ensures { MatchBool result
+        ((i : ℕ) × IsSpanned untagged first last i × (tag ≡ niche_number width first start i))
+        ((i : ℕ) → IsSpanned untagged first last i → tag ≢ niche_number width first start i) }
+{
+    for i in first..last {
+        if i != untagged && tag == niche_number(width, first, start, i) {
+            return true;
+        }
+    }
+    if first <= last && last != untagged {
+        tag == niche_number(width, first, start, last)
+    } else {
+        false
+    }
+}
+
+/// Whether the number of a tag of this width names the variant by a niche.
+fn is_named_by_niche(
+    width: Size,
+    untagged: usize,
+    span: (usize, usize),
+    start: u128,
+    i: usize,
+    tag: u128,
+) -> bool
+    requires width { width ≤ 16 }
+    ensures { MatchBool result
+        (NamesByNiche width untagged span.0 span.1 start tag i)
+        (NamesByNiche width untagged span.0 span.1 start tag i → ⊥) }
+{
+    let (first, last) = span;
+    if i == untagged {
+        !is_of_spanned(width, untagged, first, last, start, tag)
+    } else {
+        first <= i && i <= last && tag == niche_number(width, first, start, i)
+    }
+}
+
+/// Whether the number of a tag of this width names the variant with this index.
+pub(crate) fn is_named(
+    nodes: &Nodes,
+    encoding: &TagEncoding<VariantIdx>,
+    width: Size,
+    variants: &[(u128, usize)],
+    i: usize,
+    tag: u128,
+) -> bool
+    requires well { are_nodes 0 nodes.now ≡ true }
+    requires there { All (λ v. v.1 < length nodes.now) variants.now }
+    requires width { width ≤ 16 }
+    requires index { i < length variants.now }
+    ensures { MatchBool result
+        (Names encoding.now width (arms_in (types_in nodes.now) variants.now) tag i)
+        (Names encoding.now width (arms_in (types_in nodes.now) variants.now) tag i → ⊥) }
+{
+    match encoding {
+        TagEncoding::Direct => is_named_directly(nodes, width, variants, i, tag),
+        TagEncoding::Niche {
+            untagged_variant,
+            niche_variants,
+            niche_start,
+        } => is_named_by_niche(
+            width,
+            untagged_variant.as_usize(),
+            (
+                niche_variants.start.as_usize(),
+                niche_variants.last.as_usize(),
+            ),
+            *niche_start,
+            i,
+            tag,
+        ),
+    }
+}
