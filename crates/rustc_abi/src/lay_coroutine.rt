@@ -5,7 +5,7 @@ ghost use Rattle.std.specs.List.{AllPairs};
 ghost use Rattle.abi_base.specs.DataLayout.{IsLawfulDataLayout};
 ghost use Rattle.abi_index.specs.Relation.{column_count, row_count};
 ghost use Rattle.abi_scalar.specs.Lawful.{IsLawfulLayout};
-ghost use Rattle.abi_scalar.specs.Scalar.{IsReadable};
+ghost use Rattle.abi_scalar.specs.Scalar.{IsWellFormed};
 ghost use Rattle.abi_scalar.specs.Variant.{variants_of};
 ghost use Rattle.abi_univariant.specs.Placement.{source_order};
 ghost use Rattle.abi_calc.specs.Coroutine.Layout.{IsStateTag};
@@ -17,11 +17,11 @@ ghost use Rattle.rustc_abi.specs.Coroutines.{IsCoroutined, IsCoroutinedAs};
 ghost use Rattle.rustc_abi.specs.Laying.{IsCoroutineOf, coroutine_fault, most_fields, one_scalar, placed_coroutine};
 ghost use Rattle.rustc_abi.specs.Error.{IsRefused};
 ghost use Rattle.abi_tree.specs.Well.{IsPut, all_at};
-ghost use Rattle.rustc_abi.specs.Adding.{AreArms, AreEachThere, AreStillThere, AreThere, HaveLawfulLayouts, IsCoroutineAdded, variants_in};
-ghost use Rattle.rustc_abi.specs.Enums.{arms_at};
+ghost use Rattle.rustc_abi.specs.Adding.{AreTaggedVariants, AreEachThere, AreStillThere, AreThere, HaveLawfulLayouts, IsCoroutineAdded, variants_in};
+ghost use Rattle.rustc_abi.specs.Enums.{tagged_variants_at};
 ghost use Rattle.rustc_abi.specs.Count.{HasMore, IsOwnPut};
 
-use crate::conflicts::{conflicts, named_each};
+use crate::conflicts::{conflicts, each_state_locals};
 use crate::coroutine_fault::coroutine_fault;
 use crate::error::LayError;
 use crate::lay_enum::add_variants;
@@ -47,13 +47,13 @@ fn indices(alloc: Global, count: usize) -> Result<Vec<u128>, AllocError>
 
 /// The nodes of a coroutine's locals, and the indices of those that each state has.
 #[derive(Clone, Copy)]
-struct Saved<'a> {
+struct StateNodes<'a> {
     locals: &'a [usize],
     states: &'a [Vec<u64>],
 }
 
 /// The nodes of the locals with these indices.
-fn picked(alloc: Global, locals: &[usize], indices: &[u64]) -> Result<Vec<usize>, AllocError>
+fn local_nodes(alloc: Global, locals: &[usize], indices: &[u64]) -> Result<Vec<usize>, AllocError>
     requires { All (λ k. k < length locals.now) indices.now }
     ensures { IfOk result (λ nodes. nodes.items ≡ map (λ k. get_or locals.now k 0) indices.now) }
 {
@@ -65,7 +65,7 @@ fn picked(alloc: Global, locals: &[usize], indices: &[u64]) -> Result<Vec<usize>
 }
 
 /// The nodes of each state's locals, which its indices name.
-fn picked_each(
+fn each_state_nodes(
     alloc: Global,
     locals: &[usize],
     states: &[Vec<u64>],
@@ -76,13 +76,13 @@ fn picked_each(
 {
     let mut children = Vec::with_capacity(alloc, states.len())?;
     for indices in states {
-        children.push(picked(alloc, locals, indices)?)?;
+        children.push(local_nodes(alloc, locals, indices)?)?;
     }
     Ok(children)
 }
 
 /// A node for each state beside the tag, with its locals and with its index as number. A state is no struct, union or
-/// enum, and tells nothing of itself.
+/// enum, and says nothing of itself.
 fn add_each_state(
     alloc: Global,
     nodes: &mut Nodes,
@@ -95,9 +95,9 @@ fn add_each_state(
     requires there { AreEachThere (length nodes.old) children.items }
     requires inside { VariantsInside layout.now.size (variants_of layout.now.variants)
         (variants_in nodes.old children.items) }
-    ensures ok { IfOk result (λ states. AreArms nodes.old nodes.new
+    ensures ok { IfOk result (λ states. AreTaggedVariants nodes.old nodes.new
         (map (λ l. l.size) (variants_of layout.now.variants)) states.items
-        (arms_at layout.now Mark.Plain 0 (variants_of layout.now.variants)
+        (tagged_variants_at layout.now Mark.Plain 0 (variants_of layout.now.variants)
         (source_order (length children.items)) (variants_in nodes.old children.items))) }
     ensures count { IfOk result (λ states.
         HasMore (length states.items) false nodes.old nodes.new) }
@@ -117,9 +117,9 @@ fn add_states(
     layout: LayoutData<FieldIdx, VariantIdx>,
     tag: Scalar,
     prefix: Vec<usize>,
-    saved: Saved<'_>,
+    saved: StateNodes<'_>,
 ) -> Result<usize, LayError>
-    requires tag { IsReadable dl.now tag }
+    requires tag { IsWellFormed dl.now tag }
     requires each { length (variants_of layout.variants) ≡ length saved.states.now }
     requires few { length saved.states.now ≤ most_fields }
     requires few_each { All (λ ks. length ks.items ≤ most_fields) saved.states.now }
@@ -138,7 +138,7 @@ fn add_states(
     ensures err { IfErr result (λ e. e ≡ LayError.OutOfMemory) }
     ensures behind { AreStillThere nodes.old nodes.new }
 {
-    let children = picked_each(alloc, saved.locals, saved.states)?;
+    let children = each_state_nodes(alloc, saved.locals, saved.states)?;
     let tag = add(nodes, LayoutData::scalar(&dl, tag), Shape::Scalar(tag))?;
     let states = add_each_state(alloc, nodes, &layout, children)?;
     add(
@@ -153,7 +153,7 @@ fn add_states(
 }
 
 /// The calculator's answer to a coroutine of these states and conflicts, whose tag lies in this field.
-fn calculated(
+fn calculator_answer(
     alloc: Global,
     dl: &TargetDataLayout,
     prefix: IndexVec<FieldIdx, &LayoutData<FieldIdx, VariantIdx>>,
@@ -200,7 +200,7 @@ fn coroutine_layout(
     nodes: &Nodes,
     prefix: &[usize],
     tag: Scalar,
-    saved: Saved<'_>,
+    saved: StateNodes<'_>,
     pairs: &[(u64, u64)],
 ) -> Result<LayoutData<FieldIdx, VariantIdx>, LayError>
     requires data_layout { IsLawfulDataLayout dl.now }
@@ -219,10 +219,10 @@ fn coroutine_layout(
         (map (λ state. state.items) saved.entry.states.now) pairs.now)) }
 {
     let relation = conflicts(alloc, saved.locals.len(), pairs)?;
-    let states = named_each(alloc, saved.states)?;
+    let states = each_state_locals(alloc, saved.states)?;
     let prefix = layouts_at(alloc, nodes, prefix)?;
     let locals = layouts_at(alloc, nodes, saved.locals)?;
-    calculated(
+    calculator_answer(
         alloc,
         dl,
         prefix,
@@ -260,7 +260,7 @@ fn add_faultless_coroutine(
     ensures behind { AreStillThere nodes.old nodes.new }
 {
     let tag = state_tag(states.len());
-    let saved = Saved { locals, states };
+    let saved = StateNodes { locals, states };
     let layout = coroutine_layout(alloc, dl, nodes, &prefix, tag, saved, pairs)?;
     add_states(alloc, dl, nodes, layout, tag, prefix, saved)
 }

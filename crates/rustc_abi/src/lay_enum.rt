@@ -4,21 +4,21 @@ ghost use Rattle.std.specs.Prelude.{◌≡◌, ◌<◌, ◌≤◌, ◌∷◌, []
 ghost use Rattle.std.specs.List.{list_all};
 ghost use Rattle.abi_base.specs.DataLayout.{IsLawfulDataLayout};
 ghost use Rattle.abi_scalar.specs.Lawful.{IsLawfulLayout};
-ghost use Rattle.abi_scalar.specs.Scalar.{IsReadable};
+ghost use Rattle.abi_scalar.specs.Scalar.{IsWellFormed};
 ghost use Rattle.abi_scalar.specs.Variant.{variant_layout, variants_of};
 ghost use Rattle.abi_univariant.specs.List.{HasLawfulAligns};
 ghost use Rattle.abi_tree.specs.Placed.{Placed, size_of, tagged};
 ghost use Rattle.abi_tree.specs.Nodes.{encoding_of, tag_offset};
-ghost use Rattle.rustc_abi.specs.Enums.{IsEnumed, IsTagIntegerAnswer, arms_at, has_equal, is_discriminant, layouts_of};
+ghost use Rattle.rustc_abi.specs.Enums.{IsEnumed, IsTagIntegerAnswer, tagged_variants_at, has_equal, is_discriminant, layouts_of};
 ghost use Rattle.rustc_abi.specs.Laying.{IsEnumOf, enum_fault, most_fields, one_scalar, placed_enum};
 ghost use Rattle.rustc_abi.specs.Inside.{VariantsInside};
 ghost use Rattle.abi_tree.specs.Laws.{have_places};
 ghost use Rattle.rustc_abi.specs.Error.{IsRefused};
 ghost use Rattle.abi_tree.specs.Well.{IsPut};
-ghost use Rattle.rustc_abi.specs.Adding.{AreArms, AreEachThere, AreStillThere, HasReadableTag, HasVariants, HaveLawfulLayouts, HavePlaces, IsEnumAdded, variants_in};
+ghost use Rattle.rustc_abi.specs.Adding.{AreTaggedVariants, AreEachThere, AreStillThere, HasWellFormedTag, HasVariants, HaveLawfulLayouts, HavePlaces, IsEnumAdded, variants_in};
 ghost use Rattle.rustc_abi.specs.Count.{HasMore, IsOwnPut};
 
-use crate::discriminants::{has_equal, is_discriminant, numbered};
+use crate::discriminants::{has_equal, is_discriminant, number_variants};
 use crate::error::LayError;
 use crate::lay_fields::{has_bad_align, has_bad_index};
 use crate::node::{add, layouts_at};
@@ -91,7 +91,7 @@ fn variant_layouts<'a>(
 
 /// The calculator's answer to variants with these discriminants, where the tag's integer that is asked for is the
 /// enum's.
-fn calculated<D: Fn(RangeFrom<i128>, RangeToInclusive<u128>) -> (Integer, bool)>(
+fn calculator_answer<D: Fn(RangeFrom<i128>, RangeToInclusive<u128>) -> (Integer, bool)>(
     alloc: Global,
     dl: &TargetDataLayout,
     repr: &ReprOptions,
@@ -118,7 +118,7 @@ where
         map (map (λ lent. lent.now)) variants.now ≡ layouts_of all →
         IsRefused (IsEnumed dl.now repr.now numbers.now all) e) }
 {
-    let items = numbered(alloc, numbers)?;
+    let items = number_variants(alloc, numbers)?;
     let answer = LayoutCalculator::new(dl).layout_of_struct_or_enum(
         alloc,
         repr,
@@ -154,7 +154,7 @@ fn enum_layout(
         (variants_in nodes.now children.now))) }
 {
     let variants = variant_layouts(alloc, nodes, children)?;
-    calculated(
+    calculator_answer(
         alloc,
         dl,
         repr,
@@ -201,9 +201,9 @@ pub(crate) fn add_variants(
     requires there { AreEachThere (length nodes.old) children.items }
     requires inside { VariantsInside layout.now.size (variants_of layout.now.variants)
         (variants_in nodes.old children.items) }
-    ensures ok { IfOk result (λ variants. AreArms nodes.old nodes.new
+    ensures ok { IfOk result (λ variants. AreTaggedVariants nodes.old nodes.new
         (map (λ l. l.size) (variants_of layout.now.variants)) variants.items
-        (arms_at layout.now mark 0 (variants_of layout.now.variants) numbers.now
+        (tagged_variants_at layout.now mark 0 (variants_of layout.now.variants) numbers.now
         (variants_in nodes.old children.items))) }
     ensures count { IfOk result (λ variants.
         HasMore (length variants.items) false nodes.old nodes.new) }
@@ -220,9 +220,9 @@ pub(crate) fn add_variants(
     Ok(variants)
 }
 
-/// Variants that a tag tells apart: the discriminant of each, and its fields as nodes.
+/// Variants that a tag distinguishes: the discriminant of each, and its fields as nodes.
 #[derive(Drop)]
-struct Told<'a> {
+struct VariantNodes<'a> {
     numbers: &'a [u128],
     children: Vec<Vec<usize>>,
 }
@@ -236,28 +236,35 @@ fn add_tagged(
     layout: LayoutData<FieldIdx, VariantIdx>,
     mark: Mark,
     tag: Scalar,
-    told: Told<'_>,
+    tag_distinguishes: VariantNodes<'_>,
 ) -> Result<usize, LayError>
-    requires tag { IsReadable dl.now tag }
-    requires variants { length (variants_of layout.variants) ≡ length told.children.items }
-    requires each { length told.numbers.now ≡ length told.children.items }
-    requires few { length told.children.items ≤ most_fields }
-    requires few_each { All (λ fields. length fields.items ≤ most_fields) told.children.items }
-    requires there { AreEachThere (length nodes.old) told.children.items }
+    requires tag { IsWellFormed dl.now tag }
+    requires variants { length (variants_of layout.variants) ≡ length tag_distinguishes.children.items }
+    requires each { length tag_distinguishes.numbers.now ≡ length tag_distinguishes.children.items }
+    requires few { length tag_distinguishes.children.items ≤ most_fields }
+    requires few_each { All (λ fields. length fields.items ≤ most_fields) tag_distinguishes.children.items }
+    requires there { AreEachThere (length nodes.old) tag_distinguishes.children.items }
     requires places { have_places layout.size layout.fields
         (size_of (one_scalar dl.now tag) ∷ []) ≡ true }
     requires inside { VariantsInside layout.size (variants_of layout.variants)
-        (variants_in nodes.old told.children.items) }
+        (variants_in nodes.old tag_distinguishes.children.items) }
     ensures ok { IfOk result (λ i. IsPut nodes.old nodes.new i (tagged layout mark
         (tag_offset layout) (one_scalar dl.now tag) (encoding_of layout.variants)
-        (arms_at layout mark 0 (variants_of layout.variants) told.entry.numbers.now
-        (variants_in nodes.old told.entry.children.items)))) }
+        (tagged_variants_at layout mark 0 (variants_of layout.variants) tag_distinguishes.entry.numbers.now
+        (variants_in nodes.old tag_distinguishes.entry.children.items)))) }
     ensures own { IfOk result (IsOwnPut nodes.old nodes.new) }
     ensures err { IfErr result (λ e. e ≡ LayError.OutOfMemory) }
     ensures behind { AreStillThere nodes.old nodes.new }
 {
     let tag = add(nodes, LayoutData::scalar(&dl, tag), Shape::Scalar(tag))?;
-    let variants = add_variants(alloc, nodes, &layout, mark, told.numbers, told.children)?;
+    let variants = add_variants(
+        alloc,
+        nodes,
+        &layout,
+        mark,
+        tag_distinguishes.numbers,
+        tag_distinguishes.children,
+    )?;
     add(
         nodes,
         layout,
@@ -279,7 +286,7 @@ fn add_placed(
     numbers: &[u128],
     children: Vec<Vec<usize>>,
 ) -> Result<usize, LayError>
-    requires tag { HasReadableTag dl.now layout.variants }
+    requires tag { HasWellFormedTag dl.now layout.variants }
     requires variants { HasVariants (length children.items) layout.variants }
     requires each { length numbers.now ≡ length children.items }
     requires few { length children.items ≤ most_fields }
@@ -302,8 +309,8 @@ fn add_placed(
             add(nodes, layout, Shape::Single(mark, fields))
         }
         Variants::Multiple { tag, .. } => {
-            let told = Told { numbers, children };
-            add_tagged(alloc, dl, nodes, layout, mark, tag, told)
+            let tag_distinguishes = VariantNodes { numbers, children };
+            add_tagged(alloc, dl, nodes, layout, mark, tag, tag_distinguishes)
         }
     }
 }

@@ -14,7 +14,7 @@ ghost use Rattle.abi_tree.specs.Well.{all_at};
 ghost use Rattle.rustc_abi.specs.Adding.{AreStillThere, AreThere, HaveLawfulLayouts, IsTypeAdded};
 ghost use Rattle.rustc_abi.specs.Count.{IsOwnPut};
 ghost use Rattle.rustc_abi.specs.Error.{IsRefused};
-ghost use Rattle.rustc_abi.specs.Laying.{IsListedInOrder, IsOrderedFieldsAnswer, most_fields, ordered_fault, randomized};
+ghost use Rattle.rustc_abi.specs.Laying.{IsListedInOrder, IsOrderedFieldsAnswer, most_fields, ordered_fault, with_randomize_flag};
 ghost use Rattle.rustc_abi.specs.declared.error.LayError.TheVariants.{BadOrder, OutOfMemory};
 
 use crate::error::LayError;
@@ -29,8 +29,8 @@ use bitflags::Flags;
 use std::alloc::Global;
 
 /// The same repr, under which fields may lie in any order.
-fn randomized(repr: &ReprOptions) -> ReprOptions
-    ensures { result ≡ randomized repr.now }
+fn with_randomize_flag(repr: &ReprOptions) -> ReprOptions
+    ensures { result ≡ with_randomize_flag repr.now }
 {
     let mut flags = repr.flags;
     flags.insert(ReprFlags::RANDOMIZE_LAYOUT);
@@ -129,7 +129,15 @@ fn add_faultless_ordered(
     ensures behind { AreStillThere nodes.old nodes.new }
 {
     let kind = kind_of(always_sized, &children);
-    let layout = ordered_layout(alloc, dl, nodes, &randomized(repr), kind, order, &children)?;
+    let layout = ordered_layout(
+        alloc,
+        dl,
+        nodes,
+        &with_randomize_flag(repr),
+        kind,
+        order,
+        &children,
+    )?;
     add(
         nodes,
         layout,

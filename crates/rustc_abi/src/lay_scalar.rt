@@ -64,7 +64,11 @@ fn scalar_fault(dl: &TargetDataLayout, value: Scalar) -> Option<LayError>
 }
 
 /// A node for a scalar without a fault.
-fn add_lawful(dl: &TargetDataLayout, nodes: &mut Nodes, value: Scalar) -> Result<usize, LayError>
+fn add_faultless_scalar(
+    dl: &TargetDataLayout,
+    nodes: &mut Nodes,
+    value: Scalar,
+) -> Result<usize, LayError>
     requires data_layout { IsLawfulDataLayout dl.now }
     requires faultless { scalar_fault dl.now value ≡ None }
     ensures ok { IfOk result (λ i.
@@ -80,7 +84,7 @@ fn add_lawful(dl: &TargetDataLayout, nodes: &mut Nodes, value: Scalar) -> Result
     Ok(node)
 }
 
-/// A node for a scalar. Its fault is told before memory is asked for.
+/// A node for a scalar. Its fault is reported before memory is asked for.
 #[inline(never)]
 pub(crate) fn add_scalar(
     dl: &TargetDataLayout,
@@ -98,7 +102,7 @@ pub(crate) fn add_scalar(
 {
     match scalar_fault(dl, value) {
         Some(fault) => Err(fault),
-        None => add_lawful(dl, nodes, value),
+        None => add_faultless_scalar(dl, nodes, value),
     }
 }
 
@@ -148,12 +152,12 @@ fn add_two(
     ensures err { IfErr result (λ e. e ≡ LayError.OutOfMemory) }
     ensures behind { AreStillThere nodes.old nodes.new }
 {
-    let first = add_lawful(dl, nodes, a)?;
-    let second = add_lawful(dl, nodes, b)?;
+    let first = add_faultless_scalar(dl, nodes, a)?;
+    let second = add_faultless_scalar(dl, nodes, b)?;
     add(nodes, layout, Shape::Pair { first, second })
 }
 
-/// A node for two scalars, and one for each of them. Their fault is told before memory is asked for.
+/// A node for two scalars, and one for each of them. Their fault is reported before memory is asked for.
 #[inline(never)]
 pub(crate) fn add_pair(
     alloc: Global,

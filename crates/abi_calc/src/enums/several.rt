@@ -6,19 +6,19 @@ ghost use Rattle.std.specs.Iterator.Runs.{EachRunFrom, WholeRun};
 ghost use Rattle.abi_base.specs.DataLayout.{IsLawfulDataLayout};
 ghost use Rattle.abi_scalar.specs.Lawful.{IsLawfulLayout, IsLawfulNiche};
 ghost use Rattle.abi_univariant.specs.List.{HasLawfulAligns};
-ghost use Rattle.abi_calc.specs.Enums.Beside.{AreToldApart};
+ghost use Rattle.abi_calc.specs.Enums.Beside.{AreDistinguished};
 ghost use Rattle.abi_calc.specs.Enums.Answer.{HasOneEach};
 ghost use Rattle.abi_calc.specs.Enums.Bounds.{least_whole, most_free};
-ghost use Rattle.abi_calc.specs.Enums.Choice.{IsNicheAnswer, better};
-ghost use Rattle.abi_calc.specs.Enums.Discriminants.{counting_of};
+ghost use Rattle.abi_calc.specs.Enums.Choice.{IsNicheAnswer, preferred_layout};
+ghost use Rattle.abi_calc.specs.Enums.Discriminants.{counted_discriminants};
 ghost use Rattle.abi_calc.specs.Enums.Lists.{AreGoodLists, AreListLayouts};
 ghost use Rattle.abi_calc.specs.Enums.Promised.{AreSizedVariants, IsSizedEnum};
-ghost use Rattle.abi_calc.specs.Enums.Several.{AreLawfulTags, HasEnumSize, IsAskedFor, IsBestAnswer, IsBetterAnswer, IsEnumAnswer, IsSeveralAnswer};
+ghost use Rattle.abi_calc.specs.Enums.Several.{AreWellFormedTags, HasEnumSize, IsAskedFor, IsBestAnswer, IsBetterAnswer, IsEnumAnswer, IsSeveralAnswer};
 
 use crate::calculator::LayoutCalculator;
-use crate::enums::bounds::{First, tag_wins, which_first, wins};
-use crate::enums::choice::better;
-use crate::enums::discriminants::{asked_with, counting_of, listed};
+use crate::enums::bounds::{FirstLayout, tag_wins, which_first, wins};
+use crate::enums::choice::preferred_layout;
+use crate::enums::discriminants::{collect_discriminants, counted_discriminants, discr_range};
 use abi_base::{HasDataLayout, Integer, Size, TargetDataLayout};
 use abi_index::{Idx, IndexVec};
 use abi_scalar::{
@@ -27,7 +27,7 @@ use abi_scalar::{
 use std::alloc::Global;
 
 /// The tag's integer, and whether it is signed, that is answered where it has to hold these discriminants.
-fn asked_for<D: Fn(RangeFrom<i128>, RangeToInclusive<u128>) -> (Integer, bool)>(
+fn tag_integer<D: Fn(RangeFrom<i128>, RangeToInclusive<u128>) -> (Integer, bool)>(
     dl: &TargetDataLayout,
     repr: &ReprOptions,
     values: &[u128],
@@ -39,7 +39,7 @@ where
     requires callable { D.IsAlwaysCallable discr_range_of_repr }
     ensures { IsAskedFor dl.now repr.now (D.post discr_range_of_repr) values.now result.0 result.1 }
 {
-    let asked = asked_with(dl, repr, values);
+    let asked = discr_range(dl, repr, values);
     discr_range_of_repr(
         RangeFrom { start: asked.least },
         RangeToInclusive {
@@ -84,7 +84,7 @@ impl<Cx: HasDataLayout> LayoutCalculator<Cx> {
             return Ok(niche);
         }
         match self.layout_of_tagged(alloc, variants, repr, asked.0, asked.1, values) {
-            Ok(tagged) => Ok(better(dl, tagged, niche)),
+            Ok(tagged) => Ok(preferred_layout(dl, tagged, niche)),
             Err(error) => Err(error),
         }
     }
@@ -146,10 +146,10 @@ impl<Cx: HasDataLayout> LayoutCalculator<Cx> {
         ensures exact { (result ≡ Err LayoutCalculatorError.OutOfMemory) ⊎
             ((niche : Option (LayoutData FieldIdx VariantIdx)) × IsNicheAnswer AreListLayouts
             F.layout_of FieldIdx.at VariantIdx.at (Cx.target self.now.cx) repr.now variants.now niche ×
-            (result ≡ Ok (better (Cx.target self.now.cx) tagged niche))) }
+            (result ≡ Ok (preferred_layout (Cx.target self.now.cx) tagged niche))) }
     {
         match self.layout_of_niche(alloc, variants, repr) {
-            Ok(Some(niche)) => Ok(better(self.cx.data_layout(), tagged, niche)),
+            Ok(Some(niche)) => Ok(preferred_layout(self.cx.data_layout(), tagged, niche)),
             Ok(None) => Ok(tagged),
             Err(want) => Err(want),
         }
@@ -222,13 +222,13 @@ impl<Cx: HasDataLayout> LayoutCalculator<Cx> {
             (λ l. All (λ fields. length fields ≤ FieldIdx.MAX_INDEX + 1) variants.now) }
     {
         match which_first(self.cx.data_layout(), repr, asked.0, variants) {
-            First::OnlyTagged => {
+            FirstLayout::OnlyTagged => {
                 self.layout_of_tagged(alloc, variants, repr, asked.0, asked.1, values)
             }
-            First::Tagged { least, free } => {
+            FirstLayout::Tagged { least, free } => {
                 self.layout_tag_first(alloc, repr, variants, asked, values, (least, free))
             }
-            First::Niche => self.layout_niche_first(alloc, repr, variants, asked, values),
+            FirstLayout::Niche => self.layout_niche_first(alloc, repr, variants, asked, values),
         }
     }
 
@@ -260,7 +260,7 @@ impl<Cx: HasDataLayout> LayoutCalculator<Cx> {
         requires named { All (λ item.
             VariantIdx.number item.0 < length variants.now) discriminants.now }
         requires callable { D.IsAlwaysCallable discr_range_of_repr }
-        requires tags { AreLawfulTags VariantIdx.number (Cx.target self.now.cx) repr.now
+        requires tags { AreWellFormedTags VariantIdx.number (Cx.target self.now.cx) repr.now
             (D.post discr_range_of_repr) (map (map F.layout_of) variants.now) discriminants.now }
         ensures exact { IsEnumAnswer F.layout_of FieldIdx.at
             FieldIdx.number VariantIdx.at VariantIdx.number (Cx.target self.now.cx) repr.now
@@ -268,15 +268,15 @@ impl<Cx: HasDataLayout> LayoutCalculator<Cx> {
         ensures lawful { IfOk result (IsLawfulLayout (Cx.target self.now.cx)) }
         ensures within { IfOk result
             (λ l. All (λ fields. length fields ≤ FieldIdx.MAX_INDEX + 1) variants.now) }
-        ensures told { IfOk result (AreToldApart (Cx.target self.now.cx) VariantIdx.number
+        ensures tag_distinguishes { IfOk result (AreDistinguished (Cx.target self.now.cx) VariantIdx.number
             (map (map F.layout_of) variants.now) discriminants.now) }
         ensures sized { IsSizedEnum F.layout_of
             (HasEnumSize F.layout_of FieldIdx.at (VariantIdx.at 0)) (Cx.target self.now.cx) repr.now
-            (D.post discr_range_of_repr) (counting_of VariantIdx.number repr.now
+            (D.post discr_range_of_repr) (counted_discriminants VariantIdx.number repr.now
             (map (map F.layout_of) variants.now) discriminants.now) variants.now result }
     {
-        let values = counting_of(alloc, repr, variants, discriminants)?;
-        let asked = asked_for(self.cx.data_layout(), repr, &values, discr_range_of_repr);
+        let values = counted_discriminants(alloc, repr, variants, discriminants)?;
+        let asked = tag_integer(self.cx.data_layout(), repr, &values, discr_range_of_repr);
         self.better_layout(alloc, repr, variants, asked, &values)
     }
 
@@ -309,7 +309,7 @@ impl<Cx: HasDataLayout> LayoutCalculator<Cx> {
         requires ends { IsFinite (I.remaining discriminants) }
         requires each { EachRunFrom I.next_gives discriminants (λ run. IsTrue run.whole →
             HasOneEach VariantIdx.number (length variants.now) run.items ×
-            AreLawfulTags VariantIdx.number (Cx.target self.now.cx) repr.now
+            AreWellFormedTags VariantIdx.number (Cx.target self.now.cx) repr.now
             (D.post discr_range_of_repr) (map (map F.layout_of) variants.now) run.items) }
         ensures exact { IsSeveralAnswer
             F.layout_of FieldIdx.at FieldIdx.number VariantIdx.at VariantIdx.number
@@ -317,7 +317,7 @@ impl<Cx: HasDataLayout> LayoutCalculator<Cx> {
             (λ items. WholeRun I.next_gives discriminants (λ run. items ≡ run.items)) result }
         ensures lawful { IfOk result (IsLawfulLayout (Cx.target self.now.cx)) }
         ensures within { IfOk result (λ l. All (λ fields. length fields ≤ FieldIdx.MAX_INDEX + 1) variants.now) }
-        ensures told { IfOk result (λ l. WholeRun I.next_gives discriminants (λ run. AreToldApart
+        ensures tag_distinguishes { IfOk result (λ l. WholeRun I.next_gives discriminants (λ run. AreDistinguished
             (Cx.target self.now.cx) VariantIdx.number (map (map F.layout_of) variants.now) run.items l)) }
         ensures sized { AreSizedVariants F.layout_of FieldIdx.at (VariantIdx.at 0) VariantIdx.number
             (Cx.target self.now.cx) repr.now (D.post discr_range_of_repr) I.next_gives discriminants
@@ -326,7 +326,7 @@ impl<Cx: HasDataLayout> LayoutCalculator<Cx> {
         if repr.packed() {
             return Err(LayoutCalculatorError::ReprConflict);
         }
-        let items = listed(alloc, variants.len(), discriminants)?;
+        let items = collect_discriminants(alloc, variants.len(), discriminants)?;
         self.layout_of_enum(alloc, repr, variants, discr_range_of_repr, &items)
     }
 }

@@ -101,6 +101,6 @@ returns-clause-ok c =
     let tells : IsStateTag (length all) tag = subst (λ n. IsStateTag n tag) (sym (length-map c.args.states.now (λ (state : Vec ℕ Global). state.items))) c.state_tag-tag.ensures in
     let laid = rw c.deref.ensures.value at c.in_ok-layout.ensures.ok in
     IfOk-weaker c.add_states.result _ _
-    (λ i put first own told tell fits fit. IsAdded-coroutine c.args.dl.now c.requires.data_layout pres ps all c.args.pairs.now tag none tells c.requires.prefix c.requires.locals c.in_ok-layout.layout laid
-    ns c.add_states.new.nodes i first own put told tell fits fit)
+    (λ i put first own tag_distinguishes tell fits fit. IsAdded-coroutine c.args.dl.now c.requires.data_layout pres ps all c.args.pairs.now tag none tells c.requires.prefix c.requires.locals c.in_ok-layout.layout laid
+    ns c.add_states.new.nodes i first own put tag_distinguishes tell fits fit)
     c.add_states.ensures.ok

@@ -242,25 +242,25 @@ lay_struct-returns-in-None-clause-behind t c = still_after _ _ _ c.in_ok-childre
 pub lay_struct-returns-in-Some-clause-ok : goal.lay_struct-returns-in-Some-clause-ok
 lay_struct-returns-in-Some-clause-ok t c =
     let before = c.in_ok-children.ensures.ok in
-    let told = rw c.deref.ensures.value at c.add_ordered.ensures.ok in
+    let tag_distinguishes = rw c.deref.ensures.value at c.add_ordered.ensures.ok in
     rw c.in-Some.is
     (IfOk-weaker c.add_ordered.result _ _
-    (λ i h. AreAdded-after _ _ _ _ _ _ i _ before (h _ before.exact before.fits)) told)
+    (λ i h. AreAdded-after _ _ _ _ _ _ i _ before (h _ before.exact before.fits)) tag_distinguishes)
 
 pub lay_struct-returns-in-Some-clause-counted : goal.lay_struct-returns-in-Some-clause-counted
 lay_struct-returns-in-Some-clause-counted t c =
     let before = c.in_ok-children.ensures.ok in
-    let told = rw c.deref.ensures.value at c.add_ordered.ensures.ok in
+    let tag_distinguishes = rw c.deref.ensures.value at c.add_ordered.ensures.ok in
     rw c.in-Some.is
-    (both_ok c.add_ordered.result _ _ _ told c.add_ordered.ensures.own
+    (both_ok c.add_ordered.result _ _ _ tag_distinguishes c.add_ordered.ensures.own
     (λ i h own. struct_counted c.args.dl.now _ _ _ i _ _ _ _ c.in_ok-children.ensures.counted (h _ before.exact before.fits) own))
 
 pub lay_struct-returns-in-Some-clause-err : goal.lay_struct-returns-in-Some-clause-err
 lay_struct-returns-in-Some-clause-err t c =
     let before = c.in_ok-children.ensures.ok in
-    let told = rw c.deref.ensures.value at c.add_ordered.ensures.err in
+    let tag_distinguishes = rw c.deref.ensures.value at c.add_ordered.ensures.err in
     rw c.in-Some.is
-    (IfErr-weaker c.add_ordered.result _ _ (λ e refused. ordered_tree_refused c.args.dl.now c.args.repr.now c.args.always_sized _ _ _ e before.exact refused) told)
+    (IfErr-weaker c.add_ordered.result _ _ (λ e refused. ordered_tree_refused c.args.dl.now c.args.repr.now c.args.always_sized _ _ _ e before.exact refused) tag_distinguishes)
 
 pub lay_struct-returns-in-Some-clause-behind : goal.lay_struct-returns-in-Some-clause-behind
 lay_struct-returns-in-Some-clause-behind t c = still_after _ _ _ c.in_ok-children.ensures.behind c.add_ordered.ensures.behind
@@ -298,23 +298,23 @@ lay_enum-add_enum-requires-clause-lawful t c = VariantsFit-lawful c.args.dl.now 
 pub lay_enum-returns-clause-ok : goal.lay_enum-returns-clause-ok
 lay_enum-returns-clause-ok t c =
     let before = c.in_ok-children.ensures.ok in
-    let told = c.add_enum.ensures.ok in
+    let tag_distinguishes = c.add_enum.ensures.ok in
     IfOk-weaker c.add_enum.result _ _
-    (λ i h. AreVariantsAdded-after c.args.dl.now _ _ _ _ _ i _ before (h _ (c.deref.ensures.value ∙ c.in_ok-numbers.ensures) before.exact before.fits)) told
+    (λ i h. AreVariantsAdded-after c.args.dl.now _ _ _ _ _ i _ before (h _ (c.deref.ensures.value ∙ c.in_ok-numbers.ensures) before.exact before.fits)) tag_distinguishes
 
 pub lay_enum-returns-clause-counted : goal.lay_enum-returns-clause-counted
 lay_enum-returns-clause-counted t c =
     let before = c.in_ok-children.ensures.ok in
-    let told = c.add_enum.ensures.ok in
-    both_ok c.add_enum.result _ _ _ told c.add_enum.ensures.own
+    let tag_distinguishes = c.add_enum.ensures.ok in
+    both_ok c.add_enum.result _ _ _ tag_distinguishes c.add_enum.ensures.own
     (λ i h own. enum_counted c.args.dl.now _ _ _ i _ _ c.in_ok-children.ensures.counted
     (h _ (c.deref.ensures.value ∙ c.in_ok-numbers.ensures) before.exact before.fits) own)
 
 pub lay_enum-returns-clause-err : goal.lay_enum-returns-clause-err
 lay_enum-returns-clause-err t c =
     let before = c.in_ok-children.ensures.ok in
-    let told = rw (c.deref.ensures.value ∙ c.in_ok-numbers.ensures) at c.add_enum.ensures.err in
-    IfErr-weaker c.add_enum.result _ _ (λ e refused. enum_tree_refused c.args.dl.now c.args.repr.now _ _ e before.exact refused) told
+    let tag_distinguishes = rw (c.deref.ensures.value ∙ c.in_ok-numbers.ensures) at c.add_enum.ensures.err in
+    IfErr-weaker c.add_enum.result _ _ (λ e refused. enum_tree_refused c.args.dl.now c.args.repr.now _ _ e before.exact refused) tag_distinguishes
 
 pub lay_enum-returns-clause-behind : goal.lay_enum-returns-clause-behind
 lay_enum-returns-clause-behind t c = still_after _ _ _ c.in_ok-children.ensures.behind c.add_enum.ensures.behind
@@ -350,23 +350,23 @@ pub lay_coroutine-returns-clause-ok : goal.lay_coroutine-returns-clause-ok
 lay_coroutine-returns-clause-ok t c =
     let first = AreAdded-later c.args.dl.now _ _ _ _ _ _ _ c.in_ok-prefix.ensures.ok c.in_ok-locals.ensures.ok in
     let own = c.in_ok-locals.ensures.ok in
-    let told = rw c.deref.ensures.value at c.add_coroutine.ensures.ok in
-    IfOk-weaker c.add_coroutine.result _ _ (λ i h. AreAdded-after _ _ _ _ _ _ i _ first (h _ _ first.exact own.exact first.fits own.fits)) told
+    let tag_distinguishes = rw c.deref.ensures.value at c.add_coroutine.ensures.ok in
+    IfOk-weaker c.add_coroutine.result _ _ (λ i h. AreAdded-after _ _ _ _ _ _ i _ first (h _ _ first.exact own.exact first.fits own.fits)) tag_distinguishes
 
 pub lay_coroutine-returns-clause-counted : goal.lay_coroutine-returns-clause-counted
 lay_coroutine-returns-clause-counted t c =
     let first = AreAdded-later c.args.dl.now _ _ _ _ _ _ _ c.in_ok-prefix.ensures.ok c.in_ok-locals.ensures.ok in
     let own = c.in_ok-locals.ensures.ok in
-    let told = rw c.deref.ensures.value at c.add_coroutine.ensures.ok in
-    both_ok c.add_coroutine.result _ _ _ told c.add_coroutine.ensures.own
+    let tag_distinguishes = rw c.deref.ensures.value at c.add_coroutine.ensures.ok in
+    both_ok c.add_coroutine.result _ _ _ tag_distinguishes c.add_coroutine.ensures.own
     (λ i h put. coroutine_counted c.args.dl.now _ _ _ _ i _ _ _ _ c.in_ok-prefix.ensures.counted c.in_ok-locals.ensures.counted (h _ _ first.exact own.exact first.fits own.fits) put)
 
 pub lay_coroutine-returns-clause-err : goal.lay_coroutine-returns-clause-err
 lay_coroutine-returns-clause-err t c =
     let first = AreAdded-later c.args.dl.now _ _ _ _ _ _ _ c.in_ok-prefix.ensures.ok c.in_ok-locals.ensures.ok in
-    let told = rw c.deref.ensures.value at c.add_coroutine.ensures.err in
+    let tag_distinguishes = rw c.deref.ensures.value at c.add_coroutine.ensures.err in
     IfErr-weaker c.add_coroutine.result _ _
-    (λ e refused. coroutine_tree_refused c.args.dl.now _ _ (map (λ state. state.items) c.args.states.now) c.args.conflicts.now _ _ e first.exact c.in_ok-locals.ensures.ok.exact refused) told
+    (λ e refused. coroutine_tree_refused c.args.dl.now _ _ (map (λ state. state.items) c.args.states.now) c.args.conflicts.now _ _ e first.exact c.in_ok-locals.ensures.ok.exact refused) tag_distinguishes
 
 pub lay_coroutine-returns-clause-behind : goal.lay_coroutine-returns-clause-behind
 lay_coroutine-returns-clause-behind t c =

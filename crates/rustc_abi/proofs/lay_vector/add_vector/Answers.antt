@@ -32,8 +32,8 @@ add-requires-2-clause-laws c =
 
 -- where all lanes are below the bound, their array has a layout
 never_refused : (dl : TargetDataLayout) (element : Layout) (lanes : ℕ) (e : LayError) (below : Bool) → below ≡ true → Err e ≡ named {H = ℕ} (if below then Ok (elements_layout 0 true lanes element) else Err SizeOverflow) → ⊥
-never_refused dl element lanes e true is told = cc
-never_refused dl element lanes e false is told = cc
+never_refused dl element lanes e true is tag_distinguishes = cc
+never_refused dl element lanes e false is tag_distinguishes = cc
 
 pub returns-in_err-array-clause-err : goal.returns-in_err-array-clause-err
 returns-in_err-array-clause-err c =
@@ -41,8 +41,8 @@ returns-in_err-array-clause-err c =
     let element = layout_of (placed_at c.args.nodes.now c.args.element) in
     let answer = c.in_ok-layout.ensures.ok in
     let below = (vector_made dl element c.args.lanes c.args.packed c.in_ok-layout.layout answer).below in
-    let told = c.in_err-array.ensures.exact in
-    absurd (never_refused dl element c.args.lanes _ (nat_lt (element.size * c.args.lanes) (size_bound dl)) below told)
+    let tag_distinguishes = c.in_err-array.ensures.exact in
+    absurd (never_refused dl element c.args.lanes _ (nat_lt (element.size * c.args.lanes) (size_bound dl)) below tag_distinguishes)
 
 pub returns-clause-ok : goal.returns-clause-ok
 returns-clause-ok c =

@@ -27,13 +27,13 @@ tagged_view-view-requires-clause-tag g c =
     tag_lawful c.args.dl.now c.grown_tag-integer.result c.args.asked.1 c.args.values.now c.in_ok-range.range
     (subst (λ n. IsTagRange n c.args.values.now c.in_ok-range.range) c.size.ensures c.in_ok-range.ensures)
 
-pub layout_seen_as-requires-clause-tag : goal.layout_seen_as-requires-clause-tag
-layout_seen_as-requires-clause-tag g c =
+pub layout_with_view-requires-clause-tag : goal.layout_with_view-requires-clause-tag
+layout_with_view-requires-clause-tag g c =
     tag_lawful c.args.dl.now c.grown_tag-integer.result c.args.asked.1 c.args.values.now c.in_ok-range.range
     (subst (λ n. IsTagRange n c.args.values.now c.in_ok-range.range) c.size.ensures c.in_ok-range.ensures)
 
-pub layout_seen_as-requires-clause-count : goal.layout_seen_as-requires-clause-count
-layout_seen_as-requires-clause-count g c = rw (lists_count c.args.variants.now c.args.lists c.requires.lists) c.requires.count
+pub layout_with_view-requires-clause-count : goal.layout_with_view-requires-clause-count
+layout_with_view-requires-clause-count g c = rw (lists_count c.args.variants.now c.args.lists c.requires.lists) c.requires.count
 
 pub returns-in-Ok-clause-exact : goal.returns-in-Ok-clause-exact
 returns-in-Ok-clause-exact g c =
