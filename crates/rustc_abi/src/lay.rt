@@ -32,6 +32,7 @@ ghost use Rattle.rustc_abi.specs.Fault.{IsRefusedFor};
 
 use crate::error::LayError;
 use crate::lay_tree::lay_tree;
+use crate::layout_cx::LayoutCx;
 use abi_base::TargetDataLayout;
 use abi_tree::{Laid, Nodes, TypeTree};
 use std::alloc::Global;
@@ -129,6 +130,6 @@ pub fn lay_out(alloc: Global, dl: &TargetDataLayout, tree: &TypeTree) -> Result<
 {
     refuse_unlawful(dl)?;
     let mut nodes = Nodes::new(alloc);
-    let _root = lay_tree(alloc, dl, &mut nodes, tree)?;
+    let _root = lay_tree(LayoutCx { alloc, dl }, &mut nodes, tree)?;
     Ok(Laid::new(nodes, dl.endian))
 }

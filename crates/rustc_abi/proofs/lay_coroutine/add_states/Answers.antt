@@ -22,7 +22,7 @@ use Rattle.rustc_abi.proofs.Trees.StillLemmas.{still_after}
 use Rattle.rustc_abi.proofs.lay_coroutine.add_states.Goals as goal
 
 pub add-requires-clause-widths : goal.add-requires-clause-widths
-add-requires-clause-widths c = scalar_width c.args.dl.now c.args.tag c.scalar.result c.scalar.ensures.exact c.requires.tag
+add-requires-clause-widths c = scalar_width c.args.cx.dl.now c.args.tag c.scalar.result c.scalar.ensures.exact c.requires.tag
 
 pub add_each_state-requires-clause-each : goal.add_each_state-requires-clause-each
 add_each_state-requires-clause-each c =
@@ -64,14 +64,14 @@ add-requires-2-clause-laws c =
     let old = c.args.nodes.now in
     let one = c.add.new.nodes in
     let two = c.add_each_state.new.nodes in
-    let put : IsPut old one c.in_ok-tag.tag (one_scalar c.args.dl.now c.args.tag) = rw c.scalar.ensures.exact at c.in_ok-tag.ensures.ok in
+    let put : IsPut old one c.in_ok-tag.tag (one_scalar c.args.cx.dl.now c.args.tag) = rw c.scalar.ensures.exact at c.in_ok-tag.ensures.ok in
     let prefix : All (λ child. child < length old) c.args.prefix.items = c.requires.prefix in
-    states_keep old one two c.in_ok-tag.tag (one_scalar c.args.dl.now c.args.tag) c.args.prefix c.in_ok-states.states _ c.args.layout _ put c.in_ok-states.ensures.ok prefix c.requires.places c.requires.inside
+    states_keep old one two c.in_ok-tag.tag (one_scalar c.args.cx.dl.now c.args.tag) c.args.prefix c.in_ok-states.states _ c.args.layout _ put c.in_ok-states.ensures.ok prefix c.requires.places c.requires.inside
 
 pub add-requires-2-clause-widths : goal.add-requires-2-clause-widths
 add-requires-2-clause-widths c =
-    let put : IsPut c.args.nodes.now c.add.new.nodes c.in_ok-tag.tag (one_scalar c.args.dl.now c.args.tag) = rw c.scalar.ensures.exact at c.in_ok-tag.ensures.ok in
-    tag_width c.args.dl.now c.args.tag c.args.nodes.now c.add.new.nodes c.add_each_state.new.nodes c.in_ok-tag.tag c.requires.tag put c.in_ok-states.ensures.ok.kept
+    let put : IsPut c.args.nodes.now c.add.new.nodes c.in_ok-tag.tag (one_scalar c.args.cx.dl.now c.args.tag) = rw c.scalar.ensures.exact at c.in_ok-tag.ensures.ok in
+    tag_width c.args.cx.dl.now c.args.tag c.args.nodes.now c.add.new.nodes c.add_each_state.new.nodes c.in_ok-tag.tag c.requires.tag put c.in_ok-states.ensures.ok.kept
 
 pub add-requires-2-clause-earlier : goal.add-requires-2-clause-earlier
 add-requires-2-clause-earlier c =
@@ -106,12 +106,12 @@ returns-clause-ok c =
     let tagged_variants =
     subst (λ vs. AreTaggedVariants one two sizes c.in_ok-states.states.items
     (tagged_variants_at layout Plain 0 (variants_of layout.variants) (source_order (length all)) vs)) same own in
-    let tag : IsPut old one c.in_ok-tag.tag (one_scalar c.args.dl.now c.args.tag) = rw c.scalar.ensures.exact at put in
-    let tag_distinguishes = states_told c.args.layout (all_at old c.args.prefix.items) c.args.prefix.items (one_scalar c.args.dl.now c.args.tag) (variants_of c.args.layout.variants) (all_at old locals) all
+    let tag : IsPut old one c.in_ok-tag.tag (one_scalar c.args.cx.dl.now c.args.tag) = rw c.scalar.ensures.exact at put in
+    let tag_distinguishes = states_told c.args.layout (all_at old c.args.prefix.items) c.args.prefix.items (one_scalar c.args.cx.dl.now c.args.tag) (variants_of c.args.layout.variants) (all_at old locals) all
     (length-map c.args.prefix.items (placed_in (types_in old))) in
     IfOk-weaker c.add-2.result _ _
     (λ i last. subst (IsPut old c.add-2.new.nodes i) tag_distinguishes
-    (IsPut-states old one two _ c.in_ok-tag.tag i (one_scalar c.args.dl.now c.args.tag) c.args.prefix c.in_ok-states.states _ _ c.args.layout tag tagged_variants last prefix))
+    (IsPut-states old one two _ c.in_ok-tag.tag i (one_scalar c.args.cx.dl.now c.args.tag) c.args.prefix c.in_ok-states.states _ _ c.args.layout tag tagged_variants last prefix))
     c.add-2.ensures.ok
 
 pub returns-clause-own : goal.returns-clause-own

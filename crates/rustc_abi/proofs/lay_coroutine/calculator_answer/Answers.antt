@@ -26,17 +26,17 @@ returns-in_err-answer-clause-err c =
     let exact = rw (c.new.ensures, c.new-2.ensures, c.new-3.ensures, plain_lists c.args.states.now) at c.in_err-answer.ensures.exact in
     let one : exact.0 ≡ c.args.tag = one_tag (length c.args.states.now) exact.0 c.args.tag exact.1 c.requires.tag in
     let field = exact.2 in
-    let holds : field.now ≡ scalar_layout 0 c.args.dl.now c.args.tag = search rules in
+    let holds : field.now ≡ scalar_layout 0 c.args.cx.dl.now c.args.tag = search rules in
     passed_on _ _ _ c.from_residual.ensures.1
-    (λ pres ps pairs before all entries. coroutined_err (λ r. r.now) c.args.dl.now c.args.prefix c.args.tag field c.args.locals.now c.args.states.now c.args.conflicts.now c.requires.rows c.requires.columns holds
+    (λ pres ps pairs before all entries. coroutined_err (λ r. r.now) c.args.cx.dl.now c.args.prefix c.args.tag field c.args.locals.now c.args.states.now c.args.conflicts.now c.requires.rows c.requires.columns holds
     pres ps pairs before all entries c.in_err-answer.field-0.0
-    (subst (λ tag. IsCoroutineAnswer (λ r. r.now) (λ i. i) (λ i. i) 0 c.args.dl.now c.args.prefix tag field c.args.locals.now c.args.states.now c.args.conflicts.now (Err c.in_err-answer.field-0.0)) one exact.4))
+    (subst (λ tag. IsCoroutineAnswer (λ r. r.now) (λ i. i) (λ i. i) 0 c.args.cx.dl.now c.args.prefix tag field c.args.locals.now c.args.states.now c.args.conflicts.now (Err c.in_err-answer.field-0.0)) one exact.4))
 
 pub returns-clause-ok : goal.returns-clause-ok
 returns-clause-ok c pres ps pairs before all entries =
     let exact = rw (c.new.ensures, c.new-2.ensures, c.new-3.ensures, plain_lists c.args.states.now) at c.in_ok-answer.ensures.exact in
     let one : exact.0 ≡ c.args.tag = one_tag (length c.args.states.now) exact.0 c.args.tag exact.1 c.requires.tag in
     let field = exact.2 in
-    let holds : field.now ≡ scalar_layout 0 c.args.dl.now c.args.tag = search rules in
-    coroutined_ok (λ r. r.now) c.args.dl.now c.args.prefix c.args.tag field c.args.locals.now c.args.states.now c.args.conflicts.now c.requires.rows c.requires.columns holds pres ps pairs before all entries c.in_ok-answer.field-0
-    (subst (λ tag. IsCoroutineAnswer (λ r. r.now) (λ i. i) (λ i. i) 0 c.args.dl.now c.args.prefix tag field c.args.locals.now c.args.states.now c.args.conflicts.now (Ok c.in_ok-answer.field-0)) one exact.4)
+    let holds : field.now ≡ scalar_layout 0 c.args.cx.dl.now c.args.tag = search rules in
+    coroutined_ok (λ r. r.now) c.args.cx.dl.now c.args.prefix c.args.tag field c.args.locals.now c.args.states.now c.args.conflicts.now c.requires.rows c.requires.columns holds pres ps pairs before all entries c.in_ok-answer.field-0
+    (subst (λ tag. IsCoroutineAnswer (λ r. r.now) (λ i. i) (λ i. i) 0 c.args.cx.dl.now c.args.prefix tag field c.args.locals.now c.args.states.now c.args.conflicts.now (Ok c.in_ok-answer.field-0)) one exact.4)

@@ -27,15 +27,15 @@ each_state_locals-requires-clause-known c =
 pub calculator_answer-requires-clause-prefix : goal.calculator_answer-requires-clause-prefix
 calculator_answer-requires-clause-prefix c =
     let ps = all_at c.args.nodes.now c.args.prefix.now in
-    All-from_map (IsLawfulLayout c.args.dl.now) (λ r. r.now) c.in_ok-prefix.prefix
-    (subst (All (IsLawfulLayout c.args.dl.now)) (sym c.in_ok-prefix.ensures) (All-map (IsLawfulLayout c.args.dl.now) layout_of ps c.requires.prefix))
+    All-from_map (IsLawfulLayout c.args.cx.dl.now) (λ r. r.now) c.in_ok-prefix.prefix
+    (subst (All (IsLawfulLayout c.args.cx.dl.now)) (sym c.in_ok-prefix.ensures) (All-map (IsLawfulLayout c.args.cx.dl.now) layout_of ps c.requires.prefix))
 
 pub calculator_answer-requires-clause-locals : goal.calculator_answer-requires-clause-locals
 calculator_answer-requires-clause-locals c =
     let ps = all_at c.args.nodes.now c.args.saved.locals.now in
     let lent = ap (map (λ r. r.now)) (c.as_raw.ensures.items ∙ c.as_slice.ensures) ∙ c.in_ok-locals.ensures in
-    All-from_map (IsLawfulLayout c.args.dl.now) (λ r. r.now) c.as_raw.result.now
-    (subst (All (IsLawfulLayout c.args.dl.now)) (sym lent) (All-map (IsLawfulLayout c.args.dl.now) layout_of ps c.requires.locals))
+    All-from_map (IsLawfulLayout c.args.cx.dl.now) (λ r. r.now) c.as_raw.result.now
+    (subst (All (IsLawfulLayout c.args.cx.dl.now)) (sym lent) (All-map (IsLawfulLayout c.args.cx.dl.now) layout_of ps c.requires.locals))
 
 pub calculator_answer-requires-clause-count : goal.calculator_answer-requires-clause-count
 calculator_answer-requires-clause-count c =

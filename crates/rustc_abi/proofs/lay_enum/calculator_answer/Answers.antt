@@ -23,7 +23,7 @@ layout_of_struct_or_enum-answer-requires-clause-fields g c = rw (c.new.ensures, 
 
 pub layout_of_struct_or_enum-answer-requires-clause-each : goal.layout_of_struct_or_enum-answer-requires-clause-each
 layout_of_struct_or_enum-answer-requires-clause-each g c p trigger from whole =
-    let dl : TargetDataLayout = c.args.dl.now in
+    let dl : TargetDataLayout = c.args.cx.dl.now in
     let repr : ReprOptions = c.args.repr.now in
     let numbers : List ℕ = c.args.numbers.now in
     let hs = items_of c.new-2.result in
@@ -43,7 +43,7 @@ layout_of_struct_or_enum-answer-requires-clause-each g c p trigger from whole =
 
 pub returns-in_err-answer-clause-err : goal.returns-in_err-answer-clause-err
 returns-in_err-answer-clause-err g c =
-    let dl : TargetDataLayout = c.args.dl.now in
+    let dl : TargetDataLayout = c.args.cx.dl.now in
     let repr : ReprOptions = c.args.repr.now in
     let hs = items_of c.new-2.result in
     let asks : RangeFrom ℤ → RangeToInclusive ℕ → Integer × Bool → Type 0 = λ least greatest answer. g.D.Fn.post c.args.discr_range_of_repr (least, (greatest, tt)) answer in
@@ -57,7 +57,7 @@ returns-in_err-answer-clause-err g c =
 
 pub returns-clause-ok : goal.returns-clause-ok
 returns-clause-ok g c all same =
-    let dl : TargetDataLayout = c.args.dl.now in
+    let dl : TargetDataLayout = c.args.cx.dl.now in
     let repr : ReprOptions = c.args.repr.now in
     let hs = items_of c.new-2.result in
     let asks : RangeFrom ℤ → RangeToInclusive ℕ → Integer × Bool → Type 0 = λ least greatest answer. g.D.Fn.post c.args.discr_range_of_repr (least, (greatest, tt)) answer in

@@ -33,7 +33,7 @@ fields_layout-requires-clause-lawful c = rw c.deref-2.ensures.value c.requires.l
 
 pub add-requires-clause-laws : goal.add-requires-clause-laws
 add-requires-clause-laws c =
-    let dl = c.args.dl.now in
+    let dl = c.args.cx.dl.now in
     let ns = c.args.nodes.now in
     let ps = all_at ns c.args.children.items in
     let as_many : length ps ≡ length c.args.children.items = length-map c.args.children.items (placed_in (types_in ns)) in
@@ -46,7 +46,7 @@ add-requires-clause-earlier c = all_below _ c.args.children.items c.requires.the
 
 pub returns-clause-ok : goal.returns-clause-ok
 returns-clause-ok c =
-    let dl = c.args.dl.now in
+    let dl = c.args.cx.dl.now in
     let ps = all_at c.args.nodes.now c.args.children.items in
     let as_many : length ps ≡ length c.args.children.items = length-map c.args.children.items (placed_in (types_in c.args.nodes.now)) in
     let kind = c.kind_of-kind.ensures ps (rw c.deref.ensures.value as_many) in
@@ -60,7 +60,7 @@ returns-clause-ok c =
 
 pub returns-in_err-layout-clause-err : goal.returns-in_err-layout-clause-err
 returns-in_err-layout-clause-err c =
-    let dl = c.args.dl.now in
+    let dl = c.args.cx.dl.now in
     let ps = all_at c.args.nodes.now c.args.children.items in
     let as_many : length ps ≡ length c.args.children.items = length-map c.args.children.items (placed_in (types_in c.args.nodes.now)) in
     let kind = c.kind_of-kind.ensures ps (rw c.deref.ensures.value as_many) in
