@@ -76,7 +76,7 @@ pub record IsUnivariantInOrder {F V H : Type 0} (layout_of : H → LayoutData F 
   pub placed : IfOk result (LiesInOrder number dl repr kind (map layout_of fields) order)
   -- It is refused as a bad order where the order isn't allowed, memory aside, and nowhere else.
   pub bad_order : result ≡ Err BadOrder → IsOrderOf dl repr kind (length fields) (map number order) → ⊥
-  pub tag_distinguishes : (IsOrderOf dl repr kind (length fields) (map number order) → ⊥) → IsAnswer (Err BadOrder) result
+  pub bad_order_reported : (IsOrderOf dl repr kind (length fields) (map number order) → ⊥) → IsAnswer (Err BadOrder) result
   -- It is refused for its size only where it is too large in this order, and a list of sized fields always then; sized fields in
   -- an allowed order are refused by no other name.
   pub too_large : result ≡ Err SizeOverflow → size_bound dl ≤ size_by dl repr kind (map layout_of fields) (map number order)

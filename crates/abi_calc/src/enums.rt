@@ -95,7 +95,7 @@ impl<Cx: HasDataLayout> LayoutCalculator<Cx> {
             (D.post discr_range_of_repr) (λ items. WholeRun I.next_gives discriminants (λ run. items ≡ run.items))
             (strategy_of is_enum repr.now (map (map F.layout_of) (items_of variants.entry))) result }
         ensures lawful { IfOk result (IsLawfulLayout (Cx.target self.now.cx)) }
-        ensures tag_distinguishes { IsStructOrEnum F.layout_of FieldIdx.at FieldIdx.number VariantIdx.at VariantIdx.number
+        ensures promised { IsStructOrEnum F.layout_of FieldIdx.at FieldIdx.number VariantIdx.at VariantIdx.number
             (Cx.target self.now.cx) repr.now is_enum always_sized niche_optimizations
             (D.post discr_range_of_repr) I.next_gives discriminants (items_of variants.entry) result }
     {

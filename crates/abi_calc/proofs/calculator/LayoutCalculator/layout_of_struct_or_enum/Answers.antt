@@ -38,8 +38,8 @@ none_or_several is = cc
 
 -- ---- no value
 
-pub returns-in-NoValue-clause-tag_distinguishes : goal.returns-in-NoValue-clause-tag_distinguishes
-returns-in-NoValue-clause-tag_distinguishes g c =
+pub returns-in-NoValue-clause-promised : goal.returns-in-NoValue-clause-promised
+returns-in-NoValue-clause-promised g c =
     let way : strategy_of c.args.is_enum c.args.repr.now (map (map g.F.LayoutHandle.layout_of) (items_of c.args.variants)) ≡ NoValue
     = ap (λ vs. strategy_of c.args.is_enum c.args.repr.now (map (map g.F.LayoutHandle.layout_of) vs)) (sym c.as_raw-all.ensures.items) ∙ sym c.strategy_of.ensures ∙ c.in-NoValue.is in
     record {
@@ -107,8 +107,8 @@ returns-in-OneList-clause-exact g c =
     c.args.niche_optimizations asks (λ items. WholeRun g.I.Iterator.next_gives c.args.discriminants (λ run. items ≡ run.items)) (strategy_of c.args.is_enum c.args.repr.now (map (map g.F.LayoutHandle.layout_of) vs))
     c.layout_of_single.result c.in-OneList.index c.single_kind-kind.result (items_of c.as_slice.result) c.new.result (read g c) c.new.ensures c.layout_of_single.ensures.exact
 
-pub returns-in-OneList-clause-tag_distinguishes : goal.returns-in-OneList-clause-tag_distinguishes
-returns-in-OneList-clause-tag_distinguishes g c =
+pub returns-in-OneList-clause-promised : goal.returns-in-OneList-clause-promised
+returns-in-OneList-clause-promised g c =
     let lo = g.F.LayoutHandle.layout_of in
     let dl : TargetDataLayout = g.Cx.HasDataLayout.target c.args.self.now.cx in
     let repr = c.args.repr.now in
@@ -163,8 +163,8 @@ returns-in-Several-clause-exact g c =
     c.args.niche_optimizations asks (λ items. WholeRun g.I.Iterator.next_gives c.args.discriminants (λ run. items ≡ run.items)) (strategy_of c.args.is_enum c.args.repr.now (map (map g.F.LayoutHandle.layout_of) vs))
     c.layout_of_several.result c.as_raw-all.result.now way c.as_raw-all.ensures.items c.layout_of_several.ensures.exact
 
-pub returns-in-Several-clause-tag_distinguishes : goal.returns-in-Several-clause-tag_distinguishes
-returns-in-Several-clause-tag_distinguishes g c =
+pub returns-in-Several-clause-promised : goal.returns-in-Several-clause-promised
+returns-in-Several-clause-promised g c =
     let lo = g.F.LayoutHandle.layout_of in
     let at = g.FieldIdx.Idx.at in
     let number = g.FieldIdx.Idx.number in
