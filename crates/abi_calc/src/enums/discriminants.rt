@@ -21,6 +21,15 @@ pub struct DiscrRange {
     pub greatest: u128,
 }
 
+/// A tag that is asked for: its integer, and whether that is signed; and the discriminants that it has to hold, those that
+/// count.
+#[derive(Clone, Copy)]
+pub(crate) struct TagRequest<'a> {
+    pub(crate) integer: Integer,
+    pub(crate) is_signed: bool,
+    pub(crate) values: &'a [u128],
+}
+
 /// The discriminants that the iterator gives; there is room for `count` of them before any is asked for.
 pub(crate) fn collect_discriminants<VariantIdx: Idx, I: Iterator<Item = (VariantIdx, u128)>>(
     alloc: Global,

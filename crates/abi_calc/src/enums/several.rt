@@ -18,7 +18,9 @@ ghost use Rattle.abi_calc.specs.Enums.Several.{AreWellFormedTags, HasEnumSize, I
 use crate::calculator::LayoutCalculator;
 use crate::enums::bounds::{FirstLayout, tag_wins, which_first, wins};
 use crate::enums::choice::preferred_layout;
-use crate::enums::discriminants::{collect_discriminants, counted_discriminants, discr_range};
+use crate::enums::discriminants::{
+    TagRequest, collect_discriminants, counted_discriminants, discr_range,
+};
 use abi_base::{HasDataLayout, Integer, Size, TargetDataLayout};
 use abi_index::{Idx, IndexVec};
 use abi_scalar::{
@@ -61,8 +63,7 @@ impl<Cx: HasDataLayout> LayoutCalculator<Cx> {
         alloc: Global,
         repr: &ReprOptions,
         variants: &[IndexVec<FieldIdx, F>],
-        asked: (Integer, bool),
-        values: &[u128],
+        tag: TagRequest<'_>,
         niche: LayoutData<FieldIdx, VariantIdx>,
     ) -> Result<LayoutData<FieldIdx, VariantIdx>, LayoutCalculatorError<F>>
         requires data_layout { IsLawfulDataLayout (Cx.target self.now.cx) }
@@ -77,13 +78,13 @@ impl<Cx: HasDataLayout> LayoutCalculator<Cx> {
         requires within { All (λ fields. length fields ≤ FieldIdx.MAX_INDEX + 1) variants.now }
         ensures exact { (result ≡ Err LayoutCalculatorError.OutOfMemory) ⊎ IsBetterAnswer
             F.layout_of FieldIdx.at FieldIdx.number (VariantIdx.at 0) (Cx.target self.now.cx) repr.now
-            asked.0 asked.1 values.now variants.now (Some niche) result }
+            tag.entry.integer tag.entry.is_signed tag.entry.values.now variants.now (Some niche) result }
     {
         let dl = self.cx.data_layout();
-        if wins(dl, asked.0, &niche, variants) {
+        if wins(dl, tag.integer, &niche, variants) {
             return Ok(niche);
         }
-        match self.layout_of_tagged(alloc, variants, repr, asked.0, asked.1, values) {
+        match self.layout_of_tagged(alloc, variants, repr, tag) {
             Ok(tagged) => Ok(preferred_layout(dl, tagged, niche)),
             Err(error) => Err(error),
         }
@@ -99,8 +100,7 @@ impl<Cx: HasDataLayout> LayoutCalculator<Cx> {
         alloc: Global,
         repr: &ReprOptions,
         variants: &[IndexVec<FieldIdx, F>],
-        asked: (Integer, bool),
-        values: &[u128],
+        tag: TagRequest<'_>,
     ) -> Result<LayoutData<FieldIdx, VariantIdx>, LayoutCalculatorError<F>>
         requires data_layout { IsLawfulDataLayout (Cx.target self.now.cx) }
         requires fields { All (All (λ f. IsLawfulLayout (Cx.target self.now.cx)
@@ -111,15 +111,13 @@ impl<Cx: HasDataLayout> LayoutCalculator<Cx> {
         requires some { 0 < length variants.now }
         ensures exact { (result ≡ Err LayoutCalculatorError.OutOfMemory) ⊎ IsBestAnswer F.layout_of
             FieldIdx.at FieldIdx.number VariantIdx.at (Cx.target self.now.cx) repr.now
-            asked.0 asked.1 values.now variants.now result }
+            tag.entry.integer tag.entry.is_signed tag.entry.values.now variants.now result }
         ensures within { IfOk result
             (λ l. All (λ fields. length fields ≤ FieldIdx.MAX_INDEX + 1) variants.now) }
     {
         match self.layout_of_niche(alloc, variants, repr) {
-            Ok(Some(niche)) => self.layout_beside_niche(
-                alloc, repr, variants, asked, values, niche,
-            ),
-            Ok(None) => self.layout_of_tagged(alloc, variants, repr, asked.0, asked.1, values),
+            Ok(Some(niche)) => self.layout_beside_niche(alloc, repr, variants, tag, niche),
+            Ok(None) => self.layout_of_tagged(alloc, variants, repr, tag),
             Err(want) => Err(want),
         }
     }
@@ -166,8 +164,7 @@ impl<Cx: HasDataLayout> LayoutCalculator<Cx> {
         alloc: Global,
         repr: &ReprOptions,
         variants: &[IndexVec<FieldIdx, F>],
-        asked: (Integer, bool),
-        values: &[u128],
+        tag: TagRequest<'_>,
         bounds: (Size, u128),
     ) -> Result<LayoutData<FieldIdx, VariantIdx>, LayoutCalculatorError<F>>
         requires data_layout { IsLawfulDataLayout (Cx.target self.now.cx) }
@@ -183,11 +180,11 @@ impl<Cx: HasDataLayout> LayoutCalculator<Cx> {
             ≡ most_free (Cx.target self.now.cx) repr.now (map (map F.layout_of) variants.now) }
         ensures exact { (result ≡ Err LayoutCalculatorError.OutOfMemory) ⊎ IsBestAnswer F.layout_of
             FieldIdx.at FieldIdx.number VariantIdx.at (Cx.target self.now.cx) repr.now
-            asked.0 asked.1 values.now variants.now result }
+            tag.entry.integer tag.entry.is_signed tag.entry.values.now variants.now result }
         ensures within { IfOk result
             (λ l. All (λ fields. length fields ≤ FieldIdx.MAX_INDEX + 1) variants.now) }
     {
-        match self.layout_of_tagged(alloc, variants, repr, asked.0, asked.1, values) {
+        match self.layout_of_tagged(alloc, variants, repr, tag) {
             Ok(tagged) => {
                 if tag_wins(self.cx.data_layout(), bounds.0, bounds.1, &tagged) {
                     return Ok(tagged);
@@ -205,8 +202,7 @@ impl<Cx: HasDataLayout> LayoutCalculator<Cx> {
         alloc: Global,
         repr: &ReprOptions,
         variants: &[IndexVec<FieldIdx, F>],
-        asked: (Integer, bool),
-        values: &[u128],
+        tag: TagRequest<'_>,
     ) -> Result<LayoutData<FieldIdx, VariantIdx>, LayoutCalculatorError<F>>
         requires data_layout { IsLawfulDataLayout (Cx.target self.now.cx) }
         requires fields { All (All (λ f. IsLawfulLayout (Cx.target self.now.cx)
@@ -217,18 +213,16 @@ impl<Cx: HasDataLayout> LayoutCalculator<Cx> {
         requires some { 0 < length variants.now }
         ensures exact { (result ≡ Err LayoutCalculatorError.OutOfMemory) ⊎ IsBestAnswer F.layout_of
             FieldIdx.at FieldIdx.number VariantIdx.at (Cx.target self.now.cx) repr.now
-            asked.0 asked.1 values.now variants.now result }
+            tag.entry.integer tag.entry.is_signed tag.entry.values.now variants.now result }
         ensures within { IfOk result
             (λ l. All (λ fields. length fields ≤ FieldIdx.MAX_INDEX + 1) variants.now) }
     {
-        match which_first(self.cx.data_layout(), repr, asked.0, variants) {
-            FirstLayout::OnlyTagged => {
-                self.layout_of_tagged(alloc, variants, repr, asked.0, asked.1, values)
-            }
+        match which_first(self.cx.data_layout(), repr, tag.integer, variants) {
+            FirstLayout::OnlyTagged => { self.layout_of_tagged(alloc, variants, repr, tag) }
             FirstLayout::Tagged { least, free } => {
-                self.layout_tag_first(alloc, repr, variants, asked, values, (least, free))
+                self.layout_tag_first(alloc, repr, variants, tag, (least, free))
             }
-            FirstLayout::Niche => self.layout_niche_first(alloc, repr, variants, asked, values),
+            FirstLayout::Niche => self.layout_niche_first(alloc, repr, variants, tag),
         }
     }
 
@@ -277,7 +271,12 @@ impl<Cx: HasDataLayout> LayoutCalculator<Cx> {
     {
         let values = counted_discriminants(alloc, repr, variants, discriminants)?;
         let asked = tag_integer(self.cx.data_layout(), repr, &values, discr_range_of_repr);
-        self.better_layout(alloc, repr, variants, asked, &values)
+        let tag = TagRequest {
+            integer: asked.0,
+            is_signed: asked.1,
+            values: &values,
+        };
+        self.better_layout(alloc, repr, variants, tag)
     }
 
     /// The layout of an enum of several variants, from the discriminants of all, which the iterator gives. Refused as

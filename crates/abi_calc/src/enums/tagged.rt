@@ -13,11 +13,11 @@ ghost use Rattle.abi_calc.specs.Enums.Promised.{IsPlacedByTag, IsSizedByTag};
 ghost use Rattle.abi_calc.specs.Enums.Tagged.{IsTaggedAnswer, IsTaggedBy, layout_with_view, lists_align, lists_size};
 
 use crate::calculator::LayoutCalculator;
-use crate::enums::discriminants::tag_range;
+use crate::enums::discriminants::{TagRequest, tag_range};
 use crate::enums::growth::{grow_variant, grown_tag, start_align};
 use crate::enums::lists::behind_tag;
 use crate::enums::payload::{adopt_view, tagged_view};
-use abi_base::{AbiAlign, Align, HasDataLayout, Integer, Primitive, Size, TargetDataLayout};
+use abi_base::{AbiAlign, Align, HasDataLayout, Primitive, Size, TargetDataLayout};
 use abi_index::{Idx, IndexList, IndexVec};
 use abi_scalar::{
     BackendRepr, FieldsShape, LayoutCalculatorError, LayoutData, LayoutHandle, Niche, ReprOptions,
@@ -170,8 +170,7 @@ fn layout_of_lists<FieldIdx: Idx, VariantIdx: Idx, F: LayoutHandle<FieldIdx, Var
     dl: &TargetDataLayout,
     variants: &[IndexVec<FieldIdx, F>],
     repr: &ReprOptions,
-    asked: (Integer, bool),
-    values: &[u128],
+    request: TagRequest<'_>,
     lists: UnivariantLayouts<FieldIdx, VariantIdx>,
 ) -> Result<LayoutData<FieldIdx, VariantIdx>, LayoutCalculatorError<F>>
     requires data_layout { IsLawfulDataLayout dl.now }
@@ -179,26 +178,33 @@ fn layout_of_lists<FieldIdx: Idx, VariantIdx: Idx, F: LayoutHandle<FieldIdx, Var
     requires lists { AreListsOf variants.now lists }
     requires lawful { All (IsLawfulLayout dl.now) lists }
     requires count { length variants.now ≤ VariantIdx.MAX_INDEX + 1 }
-    ensures exact { IfOk result (IsTaggedBy FieldIdx.number (FieldIdx.at 0) dl.now repr.now asked.0
-        asked.1 values.now (map (map F.layout_of) variants.now) lists) }
+    ensures exact { IfOk result (IsTaggedBy FieldIdx.number (FieldIdx.at 0) dl.now repr.now request.entry.integer
+        request.entry.is_signed request.entry.values.now (map (map F.layout_of) variants.now) lists) }
     ensures fault { IfErr result (λ e.
         ((size_bound dl.now ≤ lists_size dl.now lists) × (e ≡ LayoutCalculatorError.SizeOverflow)) ⊎
         (e ≡ LayoutCalculatorError.OutOfMemory)) }
 {
-    let (asked, signed) = asked;
     let align = lists_align(dl, &lists);
     let Some(size) = bounded_size(dl, &lists, align) else {
         return Err(LayoutCalculatorError::SizeOverflow);
     };
-    let integer = grown_tag(dl, repr, asked, start_align(variants, &lists));
-    let range = tag_range(alloc, integer.size(), values)?;
+    let integer = grown_tag(dl, repr, request.integer, start_align(variants, &lists));
+    let range = tag_range(alloc, integer.size(), request.values)?;
     let tag = Scalar::Initialized {
-        value: Primitive::Int(integer, signed),
+        value: Primitive::Int(integer, request.is_signed),
         valid_range: range,
     };
-    let view = tagged_view(dl, tag, size, align, asked.size(), variants, &lists);
+    let view = tagged_view(
+        dl,
+        tag,
+        size,
+        align,
+        request.integer.size(),
+        variants,
+        &lists,
+    );
     let whole = EnumExtent { view, align, size };
-    match layout_with_view(alloc, dl, repr, asked.size(), tag, whole, lists) {
+    match layout_with_view(alloc, dl, repr, request.integer.size(), tag, whole, lists) {
         Ok(layout) => Ok(layout),
         Err(error) => Err(error.into()),
     }
@@ -220,9 +226,7 @@ impl<Cx: HasDataLayout> LayoutCalculator<Cx> {
         alloc: Global,
         variants: &[IndexVec<FieldIdx, F>],
         repr: &ReprOptions,
-        asked: Integer,
-        signed: bool,
-        values: &[u128],
+        tag: TagRequest<'_>,
     ) -> Result<LayoutData<FieldIdx, VariantIdx>, LayoutCalculatorError<F>>
         requires data_layout { IsLawfulDataLayout (Cx.target self.now.cx) }
         requires fields { All (All (λ f. IsLawfulLayout (Cx.target self.now.cx)
@@ -232,21 +236,19 @@ impl<Cx: HasDataLayout> LayoutCalculator<Cx> {
         requires unpacked { repr.now.pack ≡ None }
         requires some { 0 < length variants.now }
         ensures exact { IsTaggedAnswer F.layout_of FieldIdx.at FieldIdx.number (VariantIdx.at 0)
-            (Cx.target self.now.cx) repr.now asked signed values.now variants.now result }
+            (Cx.target self.now.cx) repr.now tag.entry.integer tag.entry.is_signed tag.entry.values.now variants.now result }
         ensures lawful { IfOk result (IsLawfulLayout (Cx.target self.now.cx)) }
         ensures within { IfOk result
             (λ l. All (λ fields. length fields ≤ FieldIdx.MAX_INDEX + 1) variants.now) }
-        ensures placed { IfOk result (IsPlacedByTag (Cx.target self.now.cx) asked values.now
+        ensures placed { IfOk result (IsPlacedByTag (Cx.target self.now.cx) tag.entry.integer tag.entry.values.now
             (map (map F.layout_of) variants.now)) }
         ensures sized { IsSizedByTag F.layout_of FieldIdx.at (VariantIdx.at 0)
-            (Cx.target self.now.cx) repr.now asked variants.now result }
+            (Cx.target self.now.cx) repr.now tag.entry.integer variants.now result }
     {
         let dl = self.cx.data_layout();
-        let kind = behind_tag(dl, repr, asked, variants);
+        let kind = behind_tag(dl, repr, tag.integer, variants);
         match self.lists_of_variants(alloc, variants, repr, &kind) {
-            Ok(lists) => {
-                layout_of_lists(alloc, dl, variants, repr, (asked, signed), values, lists)
-            }
+            Ok(lists) => layout_of_lists(alloc, dl, variants, repr, tag, lists),
             Err(error) => Err(error),
         }
     }
