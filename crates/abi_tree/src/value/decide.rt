@@ -26,7 +26,7 @@ use crate::node::{NodeRef, Shape, offsets, state_tag_offset, tag_offset};
 use crate::nodes::Nodes;
 use crate::runs_of::{set_at, sets_of};
 use crate::value::named::encoding_of;
-use crate::value::write::{TagLayout, put_number, tagged_variants_of, write_tag};
+use crate::value::write::{TagLayout, put_number, tagged_nodes, write_tag};
 use abi_base::{Endian, Size};
 use abi_index::{Idx, RangeSet, VariantIdx};
 use abi_scalar::{Scalar, TagEncoding};
@@ -255,7 +255,7 @@ fn put_variant(
     ensures put { PutsCovering cover.entry.order at bytes.old bytes.new place
         (placed_at cover.entry.nodes.now node) }
 {
-    let beside = tagged_variants_of(here.shape);
+    let beside = tagged_nodes(here.shape);
     let encoding = encoding_of(here.layout);
     let tag_layout = TagLayout {
         encoding: &encoding,
@@ -288,7 +288,7 @@ fn put_state(
     ensures put { PutsCovering cover.entry.order at bytes.old bytes.new place
         (placed_at cover.entry.nodes.now node) }
 {
-    let beside = tagged_variants_of(here.shape);
+    let beside = tagged_nodes(here.shape);
     let direct = TagEncoding::Direct;
     let tag_layout = TagLayout {
         encoding: &direct,

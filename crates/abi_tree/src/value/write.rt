@@ -96,7 +96,7 @@ pub(crate) struct TaggedNodes<'a> {
 }
 
 /// What a node of this shape names beside its layout; nothing where there is no tag.
-pub(crate) fn tagged_variants_of(shape: &Shape) -> TaggedNodes<'_>
+pub(crate) fn tagged_nodes(shape: &Shape) -> TaggedNodes<'_>
     ensures tagged { (mark : Mark) (tag : ℕ) (all : _) → shape.now ≡ Shape.Tagged mark tag all →
         (result.tag ≡ tag) × (result.tagged_variants.now ≡ all.items) }
     ensures states { (prefix : _) (tag : ℕ) (all : _) → shape.now ≡ Shape.States prefix tag all →
@@ -282,7 +282,7 @@ pub(crate) fn write_node(
                 walk,
                 node,
                 layout,
-                tagged_variants_of(here.shape),
+                tagged_nodes(here.shape),
                 value,
                 at,
                 bytes,
@@ -293,7 +293,7 @@ pub(crate) fn write_node(
                 walk,
                 node,
                 layout,
-                tagged_variants_of(here.shape),
+                tagged_nodes(here.shape),
                 value,
                 at,
                 bytes,

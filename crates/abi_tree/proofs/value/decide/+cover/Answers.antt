@@ -276,13 +276,13 @@ pub put_variant-put_tagged_variant-requires : goal.put_variant-put_tagged_varian
 put_variant-put_tagged_variant-requires t c =
     let ns = c.args.cover.nodes.now in
     let is = c.requires.tagged in
-    let own = c.tagged_variants_of-beside.ensures.tagged is.0 is.1 is.2 is.3 in
+    let own = c.tagged_nodes-beside.ensures.tagged is.0 is.1 is.2 is.3 in
     let have = c.requires.sets in
     let kept = c.args.cover.kept.now in
     let sets = c.args.cover.sets.now in
     let layout : Layout = c.args.here.layout.now in
     let vs : List (ℕ × ℕ) = is.2.items in
-    let lent : c.tagged_variants_of-beside.result.tagged_variants.now ≡ vs = own.1 in
+    let lent : c.tagged_nodes-beside.result.tagged_variants.now ≡ vs = own.1 in
     let there = kept_there ns kept sets have c.args.node c.requires.kept in
     let room = kept_room ns kept sets have c.args.node c.requires.kept in
     let some : 0 < layout.size = c.requires.some in
@@ -323,7 +323,7 @@ pub put_variant-returns-clause-put : goal.put_variant-returns-clause-put
 put_variant-returns-clause-put t c =
     let ns = c.args.cover.nodes.now in
     let is = c.requires.tagged in
-    let own = c.tagged_variants_of-beside.ensures.tagged is.0 is.1 is.2 is.3 in
+    let own = c.tagged_nodes-beside.ensures.tagged is.0 is.1 is.2 is.3 in
     let have = c.requires.sets in
     let layout : Layout = c.args.here.layout.now in
     let new : List ℕ = c.put_tagged_variant.new.bytes in
@@ -337,7 +337,7 @@ put_variant-returns-clause-put t c =
     subst (λ e. PutsCoveringTaggedVariant c.args.cover.order c.args.at c.args.bytes.now new c.args.place e (tag_offset layout) tag (types_in ns) vs) c.encoding_of-encoding.ensures
     (subst (λ o. PutsCoveringTaggedVariant c.args.cover.order c.args.at c.args.bytes.now new c.args.place c.encoding_of-encoding.result o tag (types_in ns) vs) c.tag_offset.ensures
     (subst (λ ws. PutsCoveringTaggedVariant c.args.cover.order c.args.at c.args.bytes.now new c.args.place c.encoding_of-encoding.result c.tag_offset.result tag (types_in ns) ws) own.1
-    (subst (λ j. PutsCoveringTaggedVariant c.args.cover.order c.args.at c.args.bytes.now new c.args.place c.encoding_of-encoding.result c.tag_offset.result (placed_at ns j) (types_in ns) c.tagged_variants_of-beside.result.tagged_variants.now) own.0
+    (subst (λ j. PutsCoveringTaggedVariant c.args.cover.order c.args.at c.args.bytes.now new c.args.place c.encoding_of-encoding.result c.tag_offset.result (placed_at ns j) (types_in ns) c.tagged_nodes-beside.result.tagged_variants.now) own.0
     c.put_tagged_variant.ensures.put))) in
     subst (PutsCovering c.args.cover.order c.args.at c.args.bytes.now new c.args.place) (sym facts.2) (λ b all held. put b all (λ k d lt. omega (arith, sizes k d lt, held.0)) (held.1, held.2, held.3))
 
@@ -345,7 +345,7 @@ pub put_state-put_parts-requires : goal.put_state-put_parts-requires
 put_state-put_parts-requires t c =
     let ns = c.args.cover.nodes.now in
     let is = c.requires.states in
-    let own = c.tagged_variants_of-beside.ensures.states is.0 is.1 is.2 is.3 in
+    let own = c.tagged_nodes-beside.ensures.states is.0 is.1 is.2 is.3 in
     let have = c.requires.sets in
     let layout : Layout = c.args.here.layout.now in
     let there = kept_there ns c.args.cover.kept.now c.args.cover.sets.now have c.args.node c.requires.kept in
@@ -368,13 +368,13 @@ pub put_state-put_tagged_variant-requires : goal.put_state-put_tagged_variant-re
 put_state-put_tagged_variant-requires t c =
     let ns = c.args.cover.nodes.now in
     let is = c.requires.states in
-    let own = c.tagged_variants_of-beside.ensures.states is.0 is.1 is.2 is.3 in
+    let own = c.tagged_nodes-beside.ensures.states is.0 is.1 is.2 is.3 in
     let have = c.requires.sets in
     let kept = c.args.cover.kept.now in
     let sets = c.args.cover.sets.now in
     let layout : Layout = c.args.here.layout.now in
     let vs : List (ℕ × ℕ) = is.2.items in
-    let lent : c.tagged_variants_of-beside.result.tagged_variants.now ≡ vs = own.2 in
+    let lent : c.tagged_nodes-beside.result.tagged_variants.now ≡ vs = own.2 in
     let there = kept_there ns kept sets have c.args.node c.requires.kept in
     let room = kept_room ns kept sets have c.args.node c.requires.kept in
     let some : 0 < layout.size = c.requires.some in
@@ -418,7 +418,7 @@ pub put_state-returns-clause-put : goal.put_state-returns-clause-put
 put_state-returns-clause-put t c =
     let ns = c.args.cover.nodes.now in
     let is = c.requires.states in
-    let own = c.tagged_variants_of-beside.ensures.states is.0 is.1 is.2 is.3 in
+    let own = c.tagged_nodes-beside.ensures.states is.0 is.1 is.2 is.3 in
     let have = c.requires.sets in
     let layout : Layout = c.args.here.layout.now in
     let mid : List ℕ = c.put_parts.new.bytes in
@@ -437,7 +437,7 @@ put_state-returns-clause-put t c =
     let put : PutsCoveringTaggedVariant c.args.cover.order c.args.at mid new c.args.place Direct (state_tag_offset layout (length prefix)) tag (types_in ns) vs =
     subst (λ o. PutsCoveringTaggedVariant c.args.cover.order c.args.at mid new c.args.place Direct o tag (types_in ns) vs) offset
     (subst (λ ws. PutsCoveringTaggedVariant c.args.cover.order c.args.at mid new c.args.place Direct c.state_tag_offset.result tag (types_in ns) ws) own.2
-    (subst (λ j. PutsCoveringTaggedVariant c.args.cover.order c.args.at mid new c.args.place Direct c.state_tag_offset.result (placed_at ns j) (types_in ns) c.tagged_variants_of-beside.result.tagged_variants.now) own.1 c.put_tagged_variant.ensures.put)) in
+    (subst (λ j. PutsCoveringTaggedVariant c.args.cover.order c.args.at mid new c.args.place Direct c.state_tag_offset.result (placed_at ns j) (types_in ns) c.tagged_nodes-beside.result.tagged_variants.now) own.1 c.put_tagged_variant.ensures.put)) in
     subst (PutsCovering c.args.cover.order c.args.at c.args.bytes.now new c.args.place) (sym facts.3)
     (λ b all held. states_put c.args.cover.order layout c.args.place c.args.at b c.args.bytes.now mid new (parts_at (listed_offsets layout.fields) (all_at ns prefix)) (state_tag_offset layout (length prefix)) tag (tagged_variants_in (types_in ns) vs)
     (front b all) (put b all (λ k d lt. omega (arith, sizes k d lt, held.0))) held)

@@ -195,7 +195,7 @@ write_node-write_variant-requires t c =
     let size = node_size ns c.args.node _ c.requires.there c.node-here.ensures in
     let facts = tagged_node ns c.args.walk.well c.args.node _ c.requires.there c.node-here.ensures c.requires.room c.in-Tagged.mark c.in-Tagged.tag c.in-Tagged.variants c.in-Tagged.is in
     let width = tag_width_at ns c.args.walk.well c.args.walk.widths c.args.node _ c.requires.there c.node-here.ensures c.in-Tagged.mark c.in-Tagged.tag c.in-Tagged.variants c.in-Tagged.is in
-    let named = c.tagged_variants_of.ensures.tagged c.in-Tagged.mark c.in-Tagged.tag c.in-Tagged.variants c.in-Tagged.is in (
+    let named = c.tagged_nodes.ensures.tagged c.in-Tagged.mark c.in-Tagged.tag c.in-Tagged.variants c.in-Tagged.is in (
       omega (arith, c.decreases),
       (
         c.requires.there,
@@ -216,10 +216,10 @@ write_node-returns-in-Tagged-clause-put t c =
     let v : Value = value_of c.args.value.now in
     let new : List ℕ = c.write_variant.new.bytes in
     let facts = tagged_node ns c.args.walk.well c.args.node _ c.requires.there c.node-here.ensures c.requires.room c.in-Tagged.mark c.in-Tagged.tag c.in-Tagged.variants c.in-Tagged.is in
-    let named = c.tagged_variants_of.ensures.tagged c.in-Tagged.mark c.in-Tagged.tag c.in-Tagged.variants c.in-Tagged.is in
+    let named = c.tagged_nodes.ensures.tagged c.in-Tagged.mark c.in-Tagged.tag c.in-Tagged.variants c.in-Tagged.is in
     let whole : ℕ → List (ℕ × ℕ) → Placed = λ tag vs. tagged layout c.in-Tagged.mark (tag_offset layout) (placed_at ns tag) (encoding_of layout.variants) (tagged_variants_in (types_in ns) vs) in
-    let is : whole c.tagged_variants_of.result.tag c.tagged_variants_of.result.tagged_variants.now ≡ placed_at ns c.args.node =
-    ap (λ tag. whole tag c.tagged_variants_of.result.tagged_variants.now) named.0 ∙ ap (whole c.in-Tagged.tag) named.1 ∙ sym facts.2 in
+    let is : whole c.tagged_nodes.result.tag c.tagged_nodes.result.tagged_variants.now ≡ placed_at ns c.args.node =
+    ap (λ tag. whole tag c.tagged_nodes.result.tagged_variants.now) named.0 ∙ ap (whole c.in-Tagged.tag) named.1 ∙ sym facts.2 in
     on_ok_weaker c.write_variant.result
     (λ put b all.
     subst (λ p. Holds c.args.walk.order p b v → IsPutOver (is_covered p v) c.args.at b c.args.bytes.now new) is (put c.in-Tagged.mark b all))
@@ -232,7 +232,7 @@ write_node-write_state-requires t c =
     let size = node_size ns c.args.node _ c.requires.there c.node-here.ensures in
     let facts = states_node ns c.args.walk.well c.args.node _ c.requires.there c.node-here.ensures c.requires.room c.in-States.prefix c.in-States.tag c.in-States.states c.in-States.is in
     let width = state_tag_width_at ns c.args.walk.well c.args.walk.widths c.args.node _ c.requires.there c.node-here.ensures c.in-States.prefix c.in-States.tag c.in-States.states c.in-States.is in
-    let named = c.tagged_variants_of-in-States.ensures.states c.in-States.prefix c.in-States.tag c.in-States.states c.in-States.is in (
+    let named = c.tagged_nodes-in-States.ensures.states c.in-States.prefix c.in-States.tag c.in-States.states c.in-States.is in (
       omega (arith, c.decreases),
       (
         c.requires.there,
@@ -250,8 +250,8 @@ write_node-returns-in-States-clause-put t c =
     let v : Value = value_of c.args.value.now in
     let new : List ℕ = c.write_state.new.bytes in
     let facts = states_node ns c.args.walk.well c.args.node _ c.requires.there c.node-here.ensures c.requires.room c.in-States.prefix c.in-States.tag c.in-States.states c.in-States.is in
-    let named = c.tagged_variants_of-in-States.ensures.states c.in-States.prefix c.in-States.tag c.in-States.states c.in-States.is in
-    let beside = c.tagged_variants_of-in-States.result in
+    let named = c.tagged_nodes-in-States.ensures.states c.in-States.prefix c.in-States.tag c.in-States.states c.in-States.is in
+    let beside = c.tagged_nodes-in-States.result in
     let whole : List ℕ → ℕ → List (ℕ × ℕ) → Placed = λ ps tag vs. states_in (types_in ns) layout ps tag vs in
     let is : whole beside.prefix.now beside.tag beside.tagged_variants.now ≡ placed_at ns c.args.node =
     ap (λ ps. whole ps beside.tag beside.tagged_variants.now) named.0 ∙ ap (λ tag. whole c.in-States.prefix.items tag beside.tagged_variants.now) named.1 ∙ ap (whole c.in-States.prefix.items c.in-States.tag) named.2
