@@ -3,7 +3,7 @@ use Rattle.std.specs.Prelude.{◌≡◌, ℕ, zero, suc, ◌<◌, true, List, sl
 use Rattle.abi_scalar.specs.Shape.{field_count}
 use Rattle.abi_types.specs.declared.ty.interface.TyAndLayout.{TyAndLayout}
 use Rattle.abi_types.specs.Ty.Typed.{Marks, Typed, typed, no_type, no_marks, layout_in}
-use Rattle.abi_types.specs.Ty.Lawful.{IsLawfulType}
+use Rattle.abi_types.specs.Ty.Lawful.{IsWellFormedType}
 use Rattle.abi_tests.specs.declared.own_types.OwnMarks.{OwnMarks}
 use Rattle.abi_tests.specs.declared.own_types.OwnType.{OwnType}
 use Rattle.abi_tests.specs.declared.own_types.OwnTy.{OwnTy}
@@ -39,6 +39,6 @@ abbrev pub handle_depth : TyAndLayout OwnTy → ℕ
 handle_depth this = this.ty.depth
 
 -- The layout beside a type is its own, and the type keeps the laws.
-pub record IsLawfulHandle (this : TyAndLayout OwnTy) : Type 0 where
+pub record IsWellFormedHandle (this : TyAndLayout OwnTy) : Type 0 where
   pub layout : layout_in (handle_type this) ≡ this.layout.0.now
-  pub lawful : IsLawfulType (handle_type this)
+  pub well_formed : IsWellFormedType (handle_type this)

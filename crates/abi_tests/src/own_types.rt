@@ -5,8 +5,8 @@ ghost use Rattle.std.specs.Prelude.{◌≡◌, ℕ, ◌+◌, ◌<◌, ◌≤◌,
 ghost use Rattle.abi_scalar.specs.Shape.{field_count, field_offset};
 ghost use Rattle.abi_scalar.specs.Variant.{variants_of};
 ghost use Rattle.abi_types.specs.Ty.Typed.{Typed, at_variant, field_in, layout_in, marks_of};
-ghost use Rattle.abi_types.specs.Ty.Lawful.{CanBeNamed, DepthFalls, IsLawfulType, NamesVariant};
-ghost use Rattle.abi_tests.specs.OwnTypes.{HasParts, IsLawfulHandle, handle_depth, handle_type, own_marks, place_at, typed_in};
+ghost use Rattle.abi_types.specs.Ty.Lawful.{CanBeNamed, DepthFalls, IsWellFormedType, NamesVariant};
+ghost use Rattle.abi_tests.specs.OwnTypes.{HasParts, IsWellFormedHandle, handle_depth, handle_type, own_marks, place_at, typed_in};
 
 use abi_base::{PointeeInfo, Size};
 use abi_index::{FieldIdx, VariantIdx};
@@ -75,8 +75,8 @@ fn size_in(types: &[OwnType], depth: u64, at: usize) -> u64
 
 /// The type at a place, beside its layout.
 pub fn typed_at(types: &[OwnType], depth: u64, at: usize) -> TyAndLayout<'_, OwnTy<'_>>
-    requires { IsLawfulType (typed_in types.now depth at) }
-    ensures lawful { IsLawfulHandle result }
+    requires { IsWellFormedType (typed_in types.now depth at) }
+    ensures well_formed { IsWellFormedHandle result }
     ensures same { handle_type result ≡ typed_in types.now depth at }
     ensures depth { handle_depth result ≡ depth }
 {
@@ -88,7 +88,7 @@ pub fn typed_at(types: &[OwnType], depth: u64, at: usize) -> TyAndLayout<'_, Own
 
 /// What the type says of itself.
 fn marks_in(this: TyAndLayout<'_, OwnTy<'_>>) -> OwnMarks
-    requires { IsLawfulHandle this }
+    requires { IsWellFormedHandle this }
     ensures { marks_of (handle_type this.entry) ≡ own_marks result }
 {
     this.ty.types[this.ty.at].marks
@@ -148,7 +148,7 @@ fn offset_of(own: &OwnType, i: usize) -> Option<u64>
 /// Whether a field lies inside, and keeps the laws.
 #[cycle(laws)]
 fn field_keeps_laws(types: &[OwnType], depth: u64, own: &OwnType, i: usize) -> bool
-    ensures kept { IsTrue result → IsLawfulType (typed_in types.now depth (place_at own.now.fields i)) }
+    ensures kept { IsTrue result → IsWellFormedType (typed_in types.now depth (place_at own.now.fields i)) }
     ensures inside { IsTrue result → field_offset own.now.layout.fields i
         + (layout_in (typed_in types.now depth (place_at own.now.fields i))).size
         ≤ own.now.layout.size }
@@ -168,7 +168,7 @@ fn field_keeps_laws(types: &[OwnType], depth: u64, own: &OwnType, i: usize) -> b
 /// Whether the type at the place keeps the laws.
 #[cycle(laws)]
 pub fn keeps_laws(types: &[OwnType], depth: u64, at: usize) -> bool
-    ensures { IsTrue result → IsLawfulType (typed_in types.now depth at) }
+    ensures { IsTrue result → IsWellFormedType (typed_in types.now depth at) }
 {
     if depth == 0 || at >= types.len() {
         return false;
@@ -190,9 +190,9 @@ impl<'a, C> TyAbiInterface<'a, C> for OwnTy<'a> {
     ghost use Rattle.abi_scalar.specs.Shape.{field_count};
     ghost use Rattle.abi_types.specs.Ty.Typed.{at_variant, field_in, layout_in, marks_of};
     ghost use Rattle.abi_types.specs.Ty.Lawful.{DepthFalls, NamesVariant};
-    ghost use Rattle.abi_tests.specs.OwnTypes.{IsLawfulHandle, handle_depth, handle_type};
+    ghost use Rattle.abi_tests.specs.OwnTypes.{IsWellFormedHandle, handle_depth, handle_type};
 
-    ghost is_valid = { IsLawfulHandle };
+    ghost is_valid = { IsWellFormedHandle };
 
     ghost depth_of = { handle_depth };
 
@@ -200,7 +200,7 @@ impl<'a, C> TyAbiInterface<'a, C> for OwnTy<'a> {
 
     ghost layout_law = { λ this h. h.layout };
 
-    ghost lawful_law = { λ this h. h.lawful };
+    ghost lawful_law = { λ this h. h.well_formed };
 
     /// The type itself, since it has one variant.
     fn ty_and_layout_for_variant(
@@ -208,9 +208,9 @@ impl<'a, C> TyAbiInterface<'a, C> for OwnTy<'a> {
         _cx: &C,
         variant_index: VariantIdx,
     ) -> TyAndLayout<'a, OwnTy<'a>>
-        requires valid { IsLawfulHandle this }
+        requires valid { IsWellFormedHandle this }
         requires named { NamesVariant (layout_in (handle_type this)).variants variant_index }
-        ensures valid { IsLawfulHandle result }
+        ensures valid { IsWellFormedHandle result }
         ensures variant { handle_type result ≡ at_variant (handle_type this.entry) variant_index }
         ensures falls { DepthFalls (layout_in (handle_type this.entry)).variants
             (handle_depth result) (handle_depth this.entry) }
@@ -223,9 +223,9 @@ impl<'a, C> TyAbiInterface<'a, C> for OwnTy<'a> {
         _cx: &C,
         i: usize,
     ) -> TyAndLayout<'a, OwnTy<'a>>
-        requires valid { IsLawfulHandle this }
+        requires valid { IsWellFormedHandle this }
         requires within { i < field_count (layout_in (handle_type this)).fields }
-        ensures valid { IsLawfulHandle result }
+        ensures valid { IsWellFormedHandle result }
         ensures field { handle_type result ≡ field_in (handle_type this.entry) i }
         ensures falls { handle_depth result < handle_depth this.entry }
     {
@@ -239,77 +239,77 @@ impl<'a, C> TyAbiInterface<'a, C> for OwnTy<'a> {
         _cx: &C,
         _offset: Size,
     ) -> Option<PointeeInfo>
-        requires { IsLawfulHandle this }
+        requires { IsWellFormedHandle this }
         ensures { result ≡ (marks_of (handle_type this.entry)).pointee _offset }
     {
         None
     }
 
     fn is_adt(this: TyAndLayout<'a, OwnTy<'a>>) -> bool
-        requires { IsLawfulHandle this }
+        requires { IsWellFormedHandle this }
         ensures { result ≡ (marks_of (handle_type this.entry)).is_adt }
     {
         false
     }
 
     fn is_enum(this: TyAndLayout<'a, OwnTy<'a>>) -> bool
-        requires { IsLawfulHandle this }
+        requires { IsWellFormedHandle this }
         ensures { result ≡ (marks_of (handle_type this.entry)).is_enum }
     {
         false
     }
 
     fn is_never(this: TyAndLayout<'a, OwnTy<'a>>) -> bool
-        requires { IsLawfulHandle this }
+        requires { IsWellFormedHandle this }
         ensures { result ≡ (marks_of (handle_type this.entry)).is_never }
     {
         false
     }
 
     fn is_tuple(this: TyAndLayout<'a, OwnTy<'a>>) -> bool
-        requires { IsLawfulHandle this }
+        requires { IsWellFormedHandle this }
         ensures { result ≡ (marks_of (handle_type this.entry)).is_tuple }
     {
         false
     }
 
     fn is_unit(this: TyAndLayout<'a, OwnTy<'a>>) -> bool
-        requires { IsLawfulHandle this }
+        requires { IsWellFormedHandle this }
         ensures { result ≡ (marks_of (handle_type this.entry)).is_unit }
     {
         false
     }
 
     fn is_transparent(this: TyAndLayout<'a, OwnTy<'a>>) -> bool
-        requires { IsLawfulHandle this }
+        requires { IsWellFormedHandle this }
         ensures { result ≡ (marks_of (handle_type this.entry)).is_transparent }
     {
         marks_in(this).transparent
     }
 
     fn is_complex_number_lang_item(this: TyAndLayout<'a, OwnTy<'a>>, _cx: &C) -> bool
-        requires { IsLawfulHandle this }
+        requires { IsWellFormedHandle this }
         ensures { result ≡ (marks_of (handle_type this.entry)).is_complex }
     {
         marks_in(this).complex
     }
 
     fn is_scalable_vector(this: TyAndLayout<'a, OwnTy<'a>>) -> bool
-        requires { IsLawfulHandle this }
+        requires { IsWellFormedHandle this }
         ensures { result ≡ (marks_of (handle_type this.entry)).is_scalable_vector }
     {
         false
     }
 
     fn is_pass_indirectly_in_non_rustic_abis_flag_set(this: TyAndLayout<'a, OwnTy<'a>>) -> bool
-        requires { IsLawfulHandle this }
+        requires { IsWellFormedHandle this }
         ensures { result ≡ (marks_of (handle_type this.entry)).is_passed_indirectly }
     {
         false
     }
 
     fn depth(this: TyAndLayout<'a, OwnTy<'a>>) -> u64
-        requires { IsLawfulHandle this }
+        requires { IsWellFormedHandle this }
         ensures { result ≡ handle_depth this.entry }
     {
         this.ty.depth

@@ -2,7 +2,7 @@
 
 ghost use Rattle.std.specs.Prelude.{◌≡◌, ◌≢◌, ◌<◌, ◌≤◌, All, ℕ, MatchBool, length, true};
 ghost use Rattle.abi_tree.specs.Placed.{is_flagged};
-ghost use Rattle.abi_tree.specs.Nodes.{arms_in, encoding_of, own_fields, parts_at, placed_at, types_in};
+ghost use Rattle.abi_tree.specs.Nodes.{tagged_variants_in, encoding_of, own_fields, parts_at, placed_at, types_in};
 ghost use Rattle.abi_tree.specs.Well.{all_at, are_nodes};
 ghost use Rattle.abi_tree.specs.Tag.{IsSpanned, Names, NamesByNiche, NamesDirectly, niche_number};
 
@@ -12,7 +12,7 @@ use abi_base::Size;
 use abi_index::{FieldIdx, Idx, VariantIdx};
 use abi_scalar::{LayoutData, TagEncoding, Variants};
 
-/// How a layout's tag tells variants apart.
+/// How a layout's tag distinguishes variants.
 pub(crate) fn encoding_of(layout: &LayoutData<FieldIdx, VariantIdx>) -> TagEncoding<VariantIdx>
     ensures { result ≡ encoding_of layout.now.variants }
 {
@@ -65,8 +65,8 @@ fn is_named_directly(
     requires width { width ≤ 16 }
     requires index { i < length variants.now }
     ensures { MatchBool result
-        (NamesDirectly width (arms_in (types_in nodes.now) variants.now) tag i)
-        (NamesDirectly width (arms_in (types_in nodes.now) variants.now) tag i → ⊥) }
+        (NamesDirectly width (tagged_variants_in (types_in nodes.now) variants.now) tag i)
+        (NamesDirectly width (tagged_variants_in (types_in nodes.now) variants.now) tag i → ⊥) }
 {
     let (number, variant) = variants[i];
     width.truncate(number) == tag && !is_flagged(nodes, variant)
@@ -143,8 +143,8 @@ pub(crate) fn is_named(
     requires width { width ≤ 16 }
     requires index { i < length variants.now }
     ensures { MatchBool result
-        (Names encoding.now width (arms_in (types_in nodes.now) variants.now) tag i)
-        (Names encoding.now width (arms_in (types_in nodes.now) variants.now) tag i → ⊥) }
+        (Names encoding.now width (tagged_variants_in (types_in nodes.now) variants.now) tag i)
+        (Names encoding.now width (tagged_variants_in (types_in nodes.now) variants.now) tag i → ⊥) }
 {
     match encoding {
         TagEncoding::Direct => is_named_directly(nodes, width, variants, i, tag),

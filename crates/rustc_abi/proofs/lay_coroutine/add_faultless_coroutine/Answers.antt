@@ -30,11 +30,11 @@ returns-in_err-layout-clause-err c =
     let none = fault_of_nodes ns c.args.prefix.items c.args.locals.now all c.args.pairs.now ∙ c.requires.faultless in
     let tells : IsStateTag (length all) tag = subst (λ n. IsStateTag n tag) (sym (length-map c.args.states.now (λ (state : Vec ℕ Global). state.items))) c.state_tag-tag.ensures in
     let refused = rw c.deref.ensures.value at c.in_err-layout.ensures.err in
-    passed_on _ _ _ c.from_residual.ensures.1 (coroutine_refused c.args.dl.now c.requires.data_layout pres ps all c.args.pairs.now tag none tells c.requires.prefix c.requires.locals _ refused)
+    passed_on _ _ _ c.from_residual.ensures.1 (coroutine_refused c.args.cx.dl.now c.requires.data_layout pres ps all c.args.pairs.now tag none tells c.requires.prefix c.requires.locals _ refused)
 
 pub add_states-requires-clause-tag : goal.add_states-requires-clause-tag
 add_states-requires-clause-tag c =
-    lawful_readable c.args.dl.now c.state_tag-tag.result (state_tag_lawful c.args.dl.now (length c.args.states.now) c.state_tag-tag.result c.state_tag-tag.ensures)
+    lawful_readable c.args.cx.dl.now c.state_tag-tag.result (state_tag_lawful c.args.cx.dl.now (length c.args.states.now) c.state_tag-tag.result c.state_tag-tag.ensures)
 
 pub add_states-requires-clause-each : goal.add_states-requires-clause-each
 add_states-requires-clause-each c =
@@ -46,7 +46,7 @@ add_states-requires-clause-each c =
     let none = fault_of_nodes ns c.args.prefix.items c.args.locals.now all c.args.pairs.now ∙ c.requires.faultless in
     let tells : IsStateTag (length all) tag = subst (λ n. IsStateTag n tag) (sym (length-map c.args.states.now (λ (state : Vec ℕ Global). state.items))) c.state_tag-tag.ensures in
     let laid = rw c.deref.ensures.value at c.in_ok-layout.ensures.ok in
-    coroutine_variants c.args.dl.now c.requires.data_layout pres ps all c.args.pairs.now tag none tells c.requires.prefix c.requires.locals c.in_ok-layout.layout laid
+    coroutine_variants c.args.cx.dl.now c.requires.data_layout pres ps all c.args.pairs.now tag none tells c.requires.prefix c.requires.locals c.in_ok-layout.layout laid
     ∙ length-map c.args.states.now (λ (state : Vec ℕ Global). state.items)
 
 pub add_states-requires-clause-few : goal.add_states-requires-clause-few
@@ -70,7 +70,7 @@ add_states-requires-clause-places c =
     let none = fault_of_nodes ns c.args.prefix.items c.args.locals.now all c.args.pairs.now ∙ c.requires.faultless in
     let tells : IsStateTag (length all) tag = subst (λ n. IsStateTag n tag) (sym (length-map c.args.states.now (λ (state : Vec ℕ Global). state.items))) c.state_tag-tag.ensures in
     let laid = rw c.deref.ensures.value at c.in_ok-layout.ensures.ok in
-    state_places c.args.dl.now c.requires.data_layout pres ps all c.args.pairs.now c.requires.prefix c.requires.locals none tag tells c.in_ok-layout.layout laid
+    state_places c.args.cx.dl.now c.requires.data_layout pres ps all c.args.pairs.now c.requires.prefix c.requires.locals none tag tells c.in_ok-layout.layout laid
 
 pub add_states-requires-clause-inside : goal.add_states-requires-clause-inside
 add_states-requires-clause-inside c =
@@ -83,7 +83,7 @@ add_states-requires-clause-inside c =
     let tells : IsStateTag (length all) tag = subst (λ n. IsStateTag n tag) (sym (length-map c.args.states.now (λ (state : Vec ℕ Global). state.items))) c.state_tag-tag.ensures in
     let laid = rw c.deref.ensures.value at c.in_ok-layout.ensures.ok in
     subst (VariantsInside c.in_ok-layout.layout.size (variants_of c.in_ok-layout.layout.variants)) (map-map (map (placed_in ps)) (λ (state : Vec ℕ Global). state.items) c.args.states.now)
-    (inside_coroutine c.args.dl.now c.requires.data_layout pres ps all c.args.pairs.now c.requires.prefix c.requires.locals none tag tells c.in_ok-layout.layout laid)
+    (inside_coroutine c.args.cx.dl.now c.requires.data_layout pres ps all c.args.pairs.now c.requires.prefix c.requires.locals none tag tells c.in_ok-layout.layout laid)
 
 pub add_states-requires-clause-known : goal.add_states-requires-clause-known
 add_states-requires-clause-known c =
@@ -101,6 +101,6 @@ returns-clause-ok c =
     let tells : IsStateTag (length all) tag = subst (λ n. IsStateTag n tag) (sym (length-map c.args.states.now (λ (state : Vec ℕ Global). state.items))) c.state_tag-tag.ensures in
     let laid = rw c.deref.ensures.value at c.in_ok-layout.ensures.ok in
     IfOk-weaker c.add_states.result _ _
-    (λ i put first own told tell fits fit. IsAdded-coroutine c.args.dl.now c.requires.data_layout pres ps all c.args.pairs.now tag none tells c.requires.prefix c.requires.locals c.in_ok-layout.layout laid
-    ns c.add_states.new.nodes i first own put told tell fits fit)
+    (λ i put first own tag_distinguishes tell fits fit. IsAdded-coroutine c.args.cx.dl.now c.requires.data_layout pres ps all c.args.pairs.now tag none tells c.requires.prefix c.requires.locals c.in_ok-layout.layout laid
+    ns c.add_states.new.nodes i first own put tag_distinguishes tell fits fit)
     c.add_states.ensures.ok

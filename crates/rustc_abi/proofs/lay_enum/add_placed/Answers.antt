@@ -1,7 +1,7 @@
 use Rattle.std.proofs.Common.{ap, arith, length, refl, sym, ◌∙◌}
 use Rattle.abi_scalar.specs.declared.variants.Variants.TheVariants.{Single as OneVariant}
 use Rattle.rustc_abi.proofs.Enums.EnumPlacesLemmas.{single_keeps}
-use Rattle.rustc_abi.proofs.Enums.ArmNodesLemmas.{one_before}
+use Rattle.rustc_abi.proofs.Enums.TaggedVariantNodesLemmas.{one_before}
 use Rattle.rustc_abi.proofs.Sizes.CountLemmas.{both_ok, own_put}
 use Rattle.rustc_abi.proofs.lay_enum.add_placed.Goals as goal
 
