@@ -1,7 +1,7 @@
 //! The layout of two scalars.
 
 ghost use Rattle.std.specs.Prelude.{◌≡◌, ◌<◌, [], ◌∷◌};
-ghost use Rattle.abi_index.specs.Few.{TwoFit};
+ghost use Rattle.abi_index.specs.InlineVec.{TwoFit};
 ghost use Rattle.abi_base.specs.DataLayout.{IsLawfulDataLayout, size_bound};
 ghost use Rattle.abi_scalar.specs.Scalar.{IsWellFormed, IsLawfulScalar};
 ghost use Rattle.abi_scalar.specs.Lawful.{IsLawfulLayout};

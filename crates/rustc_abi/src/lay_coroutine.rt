@@ -45,11 +45,12 @@ fn indices(alloc: Global, count: usize) -> Result<Vec<u128>, AllocError>
     Ok(indices)
 }
 
-/// The nodes of a coroutine's locals, and the indices of those that each state has.
+/// The nodes of a coroutine's locals, the indices of those that each state has, and those of each two that conflict.
 #[derive(Clone, Copy)]
-struct StateNodes<'a> {
-    locals: &'a [usize],
-    states: &'a [Vec<u64>],
+pub(crate) struct StateNodes<'a> {
+    pub(crate) locals: &'a [usize],
+    pub(crate) states: &'a [Vec<u64>],
+    pub(crate) pairs: &'a [(u64, u64)],
 }
 
 /// The nodes of the locals with these indices.
@@ -116,28 +117,28 @@ fn add_states(
     layout: LayoutData<FieldIdx, VariantIdx>,
     tag: Scalar,
     prefix: Vec<usize>,
-    saved: StateNodes<'_>,
+    state_nodes: StateNodes<'_>,
 ) -> Result<usize, LayError>
     requires tag { IsWellFormed cx.dl.now tag }
-    requires each { length (variants_of layout.variants) ≡ length saved.states.now }
-    requires few { length saved.states.now ≤ most_fields }
-    requires few_each { All (λ ks. length ks.items ≤ most_fields) saved.states.now }
+    requires each { length (variants_of layout.variants) ≡ length state_nodes.states.now }
+    requires few { length state_nodes.states.now ≤ most_fields }
+    requires few_each { All (λ ks. length ks.items ≤ most_fields) state_nodes.states.now }
     requires prefix { AreThere (length nodes.old) prefix.items }
-    requires there { AreThere (length nodes.old) saved.locals.now }
-    requires known { All (λ ks. All (λ k. k < length saved.locals.now) ks.items) saved.states.now }
+    requires there { AreThere (length nodes.old) state_nodes.locals.now }
+    requires known { All (λ ks. All (λ k. k < length state_nodes.locals.now) ks.items) state_nodes.states.now }
     requires places { have_places layout.size layout.fields
         (map size_of (all_at nodes.old prefix.items) ++ size_of (one_scalar cx.dl.now tag) ∷ [])
         ≡ true }
     requires inside { VariantsInside layout.size (variants_of layout.variants) (map (λ ks.
-        map (placed_in (all_at nodes.old saved.locals.now)) ks.items) saved.states.now) }
+        map (placed_in (all_at nodes.old state_nodes.locals.now)) ks.items) state_nodes.states.now) }
     ensures ok { IfOk result (λ i. IsPut nodes.old nodes.new i (placed_coroutine cx.entry.dl.now
-        (all_at nodes.old prefix.items) tag (all_at nodes.old saved.entry.locals.now)
-        (map (λ state. state.items) saved.entry.states.now) layout)) }
+        (all_at nodes.old prefix.items) tag (all_at nodes.old state_nodes.entry.locals.now)
+        (map (λ state. state.items) state_nodes.entry.states.now) layout)) }
     ensures own { IfOk result (IsOwnPut nodes.old nodes.new) }
     ensures err { IfErr result (λ e. e ≡ LayError.OutOfMemory) }
     ensures behind { AreStillThere nodes.old nodes.new }
 {
-    let children = each_state_nodes(cx.alloc, saved.locals, saved.states)?;
+    let children = each_state_nodes(cx.alloc, state_nodes.locals, state_nodes.states)?;
     let tag = add(nodes, LayoutData::scalar(&cx.dl, tag), Shape::Scalar(tag))?;
     let states = add_each_state(cx.alloc, nodes, &layout, children)?;
     add(
@@ -197,28 +198,27 @@ fn coroutine_layout(
     nodes: &Nodes,
     prefix: &[usize],
     tag: Scalar,
-    saved: StateNodes<'_>,
-    pairs: &[(u64, u64)],
+    state_nodes: StateNodes<'_>,
 ) -> Result<LayoutData<FieldIdx, VariantIdx>, LayError>
     requires data_layout { IsLawfulDataLayout cx.dl.now }
-    requires faultless { coroutine_fault (length prefix.now) (length saved.locals.now)
-        (map (λ state. state.items) saved.states.now) pairs.now ≡ None }
-    requires tag { IsStateTag (length saved.states.now) tag }
+    requires faultless { coroutine_fault (length prefix.now) (length state_nodes.locals.now)
+        (map (λ state. state.items) state_nodes.states.now) state_nodes.pairs.now ≡ None }
+    requires tag { IsStateTag (length state_nodes.states.now) tag }
     requires before { AreThere (length nodes.now) prefix.now }
-    requires there { AreThere (length nodes.now) saved.locals.now }
+    requires there { AreThere (length nodes.now) state_nodes.locals.now }
     requires prefix { HaveLawfulLayouts cx.dl.now (all_at nodes.now prefix.now) }
-    requires locals { HaveLawfulLayouts cx.dl.now (all_at nodes.now saved.locals.now) }
+    requires locals { HaveLawfulLayouts cx.dl.now (all_at nodes.now state_nodes.locals.now) }
     ensures ok { IfOk result (λ l. IsCoroutined cx.entry.dl.now (all_at nodes.now prefix.now) tag
-        (one_scalar cx.entry.dl.now tag) (all_at nodes.now saved.entry.locals.now)
-        (map (λ state. state.items) saved.entry.states.now) pairs.now (Ok l)) }
+        (one_scalar cx.entry.dl.now tag) (all_at nodes.now state_nodes.entry.locals.now)
+        (map (λ state. state.items) state_nodes.entry.states.now) state_nodes.entry.pairs.now (Ok l)) }
     ensures err { IfErr result (IsRefused (IsCoroutined cx.entry.dl.now (all_at nodes.now prefix.now) tag
-        (one_scalar cx.entry.dl.now tag) (all_at nodes.now saved.entry.locals.now)
-        (map (λ state. state.items) saved.entry.states.now) pairs.now)) }
+        (one_scalar cx.entry.dl.now tag) (all_at nodes.now state_nodes.entry.locals.now)
+        (map (λ state. state.items) state_nodes.entry.states.now) state_nodes.entry.pairs.now)) }
 {
-    let relation = conflicts(cx.alloc, saved.locals.len(), pairs)?;
-    let states = each_state_locals(cx.alloc, saved.states)?;
+    let relation = conflicts(cx.alloc, state_nodes.locals.len(), state_nodes.pairs)?;
+    let states = each_state_locals(cx.alloc, state_nodes.states)?;
     let prefix = layouts_at(cx.alloc, nodes, prefix)?;
-    let locals = layouts_at(cx.alloc, nodes, saved.locals)?;
+    let locals = layouts_at(cx.alloc, nodes, state_nodes.locals)?;
     calculator_answer(
         cx,
         prefix,
@@ -234,30 +234,27 @@ fn add_faultless_coroutine(
     cx: LayoutCx<'_>,
     nodes: &mut Nodes,
     prefix: Vec<usize>,
-    locals: &[usize],
-    states: &[Vec<u64>],
-    pairs: &[(u64, u64)],
+    state_nodes: StateNodes<'_>,
 ) -> Result<usize, LayError>
     requires data_layout { IsLawfulDataLayout cx.dl.now }
-    requires faultless { coroutine_fault (length prefix.items) (length locals.now)
-        (map (λ state. state.items) states.now) pairs.now ≡ None }
+    requires faultless { coroutine_fault (length prefix.items) (length state_nodes.locals.now)
+        (map (λ state. state.items) state_nodes.states.now) state_nodes.pairs.now ≡ None }
     requires before { AreThere (length nodes.old) prefix.items }
-    requires there { AreThere (length nodes.old) locals.now }
+    requires there { AreThere (length nodes.old) state_nodes.locals.now }
     requires prefix { HaveLawfulLayouts cx.dl.now (all_at nodes.old prefix.items) }
-    requires locals { HaveLawfulLayouts cx.dl.now (all_at nodes.old locals.now) }
+    requires locals { HaveLawfulLayouts cx.dl.now (all_at nodes.old state_nodes.locals.now) }
     ensures ok { IfOk result (IsCoroutineAdded cx.entry.dl.now nodes.old nodes.new
-        (all_at nodes.old prefix.items) (all_at nodes.old locals.now)
-        (map (λ state. state.items) states.now) pairs.now) }
+        (all_at nodes.old prefix.items) (all_at nodes.old state_nodes.entry.locals.now)
+        (map (λ state. state.items) state_nodes.entry.states.now) state_nodes.entry.pairs.now) }
     ensures own { IfOk result (IsOwnPut nodes.old nodes.new) }
     ensures err { IfErr result (IsRefused (IsCoroutineOf cx.entry.dl.now
-        (all_at nodes.old prefix.items) (all_at nodes.old locals.now)
-        (map (λ state. state.items) states.now) pairs.now)) }
+        (all_at nodes.old prefix.items) (all_at nodes.old state_nodes.entry.locals.now)
+        (map (λ state. state.items) state_nodes.entry.states.now) state_nodes.entry.pairs.now)) }
     ensures behind { AreStillThere nodes.old nodes.new }
 {
-    let tag = state_tag(states.len());
-    let saved = StateNodes { locals, states };
-    let layout = coroutine_layout(cx, nodes, &prefix, tag, saved, pairs)?;
-    add_states(cx, nodes, layout, tag, prefix, saved)
+    let tag = state_tag(state_nodes.states.len());
+    let layout = coroutine_layout(cx, nodes, &prefix, tag, state_nodes)?;
+    add_states(cx, nodes, layout, tag, prefix, state_nodes)
 }
 
 /// A node for a coroutine of these prefix fields and locals, each as one of the nodes.
@@ -265,26 +262,30 @@ pub(crate) fn add_coroutine(
     cx: LayoutCx<'_>,
     nodes: &mut Nodes,
     prefix: Vec<usize>,
-    locals: &[usize],
-    states: &[Vec<u64>],
-    pairs: &[(u64, u64)],
+    state_nodes: StateNodes<'_>,
 ) -> Result<usize, LayError>
     requires data_layout { IsLawfulDataLayout cx.dl.now }
     requires before { AreThere (length nodes.old) prefix.items }
-    requires there { AreThere (length nodes.old) locals.now }
+    requires there { AreThere (length nodes.old) state_nodes.locals.now }
     requires prefix { HaveLawfulLayouts cx.dl.now (all_at nodes.old prefix.items) }
-    requires locals { HaveLawfulLayouts cx.dl.now (all_at nodes.old locals.now) }
+    requires locals { HaveLawfulLayouts cx.dl.now (all_at nodes.old state_nodes.locals.now) }
     ensures ok { IfOk result (IsCoroutineAdded cx.entry.dl.now nodes.old nodes.new
-        (all_at nodes.old prefix.items) (all_at nodes.old locals.now)
-        (map (λ state. state.items) states.now) pairs.now) }
+        (all_at nodes.old prefix.items) (all_at nodes.old state_nodes.entry.locals.now)
+        (map (λ state. state.items) state_nodes.entry.states.now) state_nodes.entry.pairs.now) }
     ensures own { IfOk result (IsOwnPut nodes.old nodes.new) }
     ensures err { IfErr result (IsRefused (IsCoroutineOf cx.entry.dl.now
-        (all_at nodes.old prefix.items) (all_at nodes.old locals.now)
-        (map (λ state. state.items) states.now) pairs.now)) }
+        (all_at nodes.old prefix.items) (all_at nodes.old state_nodes.entry.locals.now)
+        (map (λ state. state.items) state_nodes.entry.states.now) state_nodes.entry.pairs.now)) }
     ensures behind { AreStillThere nodes.old nodes.new }
 {
-    match coroutine_fault(cx.alloc, prefix.len(), locals.len(), states, pairs)? {
+    match coroutine_fault(
+        cx.alloc,
+        prefix.len(),
+        state_nodes.locals.len(),
+        state_nodes.states,
+        state_nodes.pairs,
+    )? {
         Some(fault) => Err(fault),
-        None => add_faultless_coroutine(cx, nodes, prefix, locals, states, pairs),
+        None => add_faultless_coroutine(cx, nodes, prefix, state_nodes),
     }
 }

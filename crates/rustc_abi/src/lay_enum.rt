@@ -279,19 +279,18 @@ fn add_placed(
     nodes: &mut Nodes,
     layout: LayoutData<FieldIdx, VariantIdx>,
     repr: &ReprOptions,
-    numbers: &[u128],
-    children: Vec<Vec<usize>>,
+    variant_nodes: VariantNodes<'_>,
 ) -> Result<usize, LayError>
     requires tag { HasWellFormedTag cx.dl.now layout.variants }
-    requires variants { HasVariants (length children.items) layout.variants }
-    requires each { length numbers.now ≡ length children.items }
-    requires few { length children.items ≤ most_fields }
-    requires few_each { All (λ fields. length fields.items ≤ most_fields) children.items }
-    requires there { AreEachThere (length nodes.old) children.items }
+    requires variants { HasVariants (length variant_nodes.children.items) layout.variants }
+    requires each { length variant_nodes.numbers.now ≡ length variant_nodes.children.items }
+    requires few { length variant_nodes.children.items ≤ most_fields }
+    requires few_each { All (λ fields. length fields.items ≤ most_fields) variant_nodes.children.items }
+    requires there { AreEachThere (length nodes.old) variant_nodes.children.items }
     requires places { HavePlaces cx.dl.now layout
-        (variants_in nodes.old children.items) layout.variants }
+        (variants_in nodes.old variant_nodes.children.items) layout.variants }
     ensures ok { IfOk result (λ i. IsPut nodes.old nodes.new i (placed_enum cx.entry.dl.now
-        repr.now numbers.now (variants_in nodes.old children.items) layout)) }
+        repr.now variant_nodes.entry.numbers.now (variants_in nodes.old variant_nodes.entry.children.items) layout)) }
     ensures own { IfOk result (IsOwnPut nodes.old nodes.new) }
     ensures err { IfErr result (λ e. e ≡ LayError.OutOfMemory) }
     ensures behind { AreStillThere nodes.old nodes.new }
@@ -300,12 +299,11 @@ fn add_placed(
     match layout.variants {
         Variants::Empty => add(nodes, layout, Shape::Never(mark)),
         Variants::Single { index } => {
-            let mut children = children;
+            let mut children = variant_nodes.children;
             let fields = children.swap_remove(index.as_usize());
             add(nodes, layout, Shape::Single(mark, fields))
         }
         Variants::Multiple { tag, .. } => {
-            let variant_nodes = VariantNodes { numbers, children };
             add_tagged(cx, nodes, layout, mark, tag, variant_nodes)
         }
     }
@@ -333,7 +331,8 @@ fn add_faultless_enum(
     ensures behind { AreStillThere nodes.old nodes.new }
 {
     let layout = enum_layout(cx, nodes, repr, numbers, &children)?;
-    add_placed(cx, nodes, layout, repr, numbers, children)
+    let variant_nodes = VariantNodes { numbers, children };
+    add_placed(cx, nodes, layout, repr, variant_nodes)
 }
 
 /// A node for an enum of these variants, the fields of each as nodes.

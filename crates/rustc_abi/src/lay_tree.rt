@@ -11,7 +11,7 @@ ghost use Rattle.rustc_abi.specs.Count.{AreCounted, AreVariantsCounted, IsCounte
 use crate::discriminants::discriminants;
 use crate::error::LayError;
 use crate::lay_array::add_elements;
-use crate::lay_coroutine::add_coroutine;
+use crate::lay_coroutine::{StateNodes, add_coroutine};
 use crate::lay_enum::add_enum;
 use crate::lay_fields::add_fields;
 use crate::lay_ordered::add_ordered;
@@ -153,7 +153,12 @@ fn lay_coroutine(
 {
     let prefix = lay_each(cx, nodes, prefix)?;
     let locals = lay_each(cx, nodes, locals)?;
-    add_coroutine(cx, nodes, prefix, &locals, states, conflicts)
+    let state_nodes = StateNodes {
+        locals: &locals,
+        states,
+        pairs: conflicts,
+    };
+    add_coroutine(cx, nodes, prefix, state_nodes)
 }
 
 /// Lays out types, one after another, and answers their nodes.

@@ -26,12 +26,12 @@ add-requires-clause-widths c = scalar_width c.args.cx.dl.now c.args.tag c.scalar
 
 pub add_each_state-requires-clause-each : goal.add_each_state-requires-clause-each
 add_each_state-requires-clause-each c =
-    let many = as_many_each c.args.saved.locals.now c.args.saved.states.now c.in_ok-children.children.items c.in_ok-children.ensures in
+    let many = as_many_each c.args.state_nodes.locals.now c.args.state_nodes.states.now c.in_ok-children.children.items c.in_ok-children.ensures in
     c.requires.each ∙ sym many
 
 pub add_each_state-requires-clause-few : goal.add_each_state-requires-clause-few
 add_each_state-requires-clause-few c =
-    let many = as_many_each c.args.saved.locals.now c.args.saved.states.now c.in_ok-children.children.items c.in_ok-children.ensures in
+    let many = as_many_each c.args.state_nodes.locals.now c.args.state_nodes.states.now c.in_ok-children.children.items c.in_ok-children.ensures in
     rw many c.requires.few
 
 pub add_each_state-requires-clause-there : goal.add_each_state-requires-clause-there
@@ -40,23 +40,23 @@ add_each_state-requires-clause-there c =
     let one = c.add.new.nodes in
     let put = c.in_ok-tag.ensures.ok in
     let longer = put.kept.longer in
-    let there : All (λ child. child < length one) c.args.saved.locals.now =
-    All-weaker (λ child. child < length old) (λ child. child < length one) (λ child lt. omega (arith, lt, longer, length-types_in old, length-types_in one)) c.args.saved.locals.now c.requires.there in
-    each_there (length one) c.args.saved.locals.now c.args.saved.states.now c.in_ok-children.children.items there c.requires.known c.in_ok-children.ensures
+    let there : All (λ child. child < length one) c.args.state_nodes.locals.now =
+    All-weaker (λ child. child < length old) (λ child. child < length one) (λ child lt. omega (arith, lt, longer, length-types_in old, length-types_in one)) c.args.state_nodes.locals.now c.requires.there in
+    each_there (length one) c.args.state_nodes.locals.now c.args.state_nodes.states.now c.in_ok-children.children.items there c.requires.known c.in_ok-children.ensures
 
 pub add_each_state-requires-clause-few_each : goal.add_each_state-requires-clause-few_each
 add_each_state-requires-clause-few_each c =
-    each_few most_fields c.args.saved.locals.now c.args.saved.states.now c.in_ok-children.children.items c.requires.few_each c.in_ok-children.ensures
+    each_few most_fields c.args.state_nodes.locals.now c.args.state_nodes.states.now c.in_ok-children.children.items c.requires.few_each c.in_ok-children.ensures
 
 pub add_each_state-requires-clause-inside : goal.add_each_state-requires-clause-inside
 add_each_state-requires-clause-inside c =
     let old = c.args.nodes.now in
     let one = c.add.new.nodes in
     let children : List (Vec ℕ Global) = c.in_ok-children.children.items in
-    let there : All (λ child. child < length old) c.args.saved.locals.now = c.requires.there in
+    let there : All (λ child. child < length old) c.args.state_nodes.locals.now = c.requires.there in
     let same =
-    variants_in-kept old one c.in_ok-tag.ensures.ok.kept children (each_there (length old) c.args.saved.locals.now c.args.saved.states.now children there c.requires.known c.in_ok-children.ensures)
-    ∙ each_means old c.args.saved.locals.now c.args.saved.states.now children c.requires.known c.in_ok-children.ensures in
+    variants_in-kept old one c.in_ok-tag.ensures.ok.kept children (each_there (length old) c.args.state_nodes.locals.now c.args.state_nodes.states.now children there c.requires.known c.in_ok-children.ensures)
+    ∙ each_means old c.args.state_nodes.locals.now c.args.state_nodes.states.now children c.requires.known c.in_ok-children.ensures in
     rw same c.requires.inside
 
 pub add-requires-2-clause-laws : goal.add-requires-2-clause-laws
@@ -84,8 +84,8 @@ returns-clause-ok c =
     let old = c.args.nodes.now in
     let one = c.add.new.nodes in
     let two = c.add_each_state.new.nodes in
-    let locals : List ℕ = c.args.saved.locals.now in
-    let all : List (Vec ℕ Global) = c.args.saved.states.now in
+    let locals : List ℕ = c.args.state_nodes.locals.now in
+    let all : List (Vec ℕ Global) = c.args.state_nodes.states.now in
     let children : List (Vec ℕ Global) = c.in_ok-children.children.items in
     let put = c.in_ok-tag.ensures.ok in
     let prefix : All (λ child. child < length old) c.args.prefix.items = c.requires.prefix in

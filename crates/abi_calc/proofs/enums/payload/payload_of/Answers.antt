@@ -14,6 +14,6 @@ loop-index-preserved g c = record {
   value =
       let step = payload_step c.args.dl.now g.F.LayoutHandle.layout_of (moved_offset c.args.old c.args.new) c.args.fields.now c.args.offsets.now c.loop-index.index c.index-fields-index.result
       c.index-offsets-index.result c.loop-index.payload _ c.loop-index-test.true c.requires.count c.index-fields-index.is c.index-offsets-index.is c.loop-index.invariant.value in
-      rw (c.beside-payload.ensures, c.payload_of_field.ensures.value, c.layout.ensures, c.moved_offset-offset.ensures) step;
-  lawful = rw c.beside-payload.ensures (beside_lawful c.args.dl.now c.loop-index.payload c.payload_of_field.result c.loop-index.invariant.lawful c.payload_of_field.ensures.lawful);
+      rw (c.payload_of_two-payload.ensures, c.payload_of_field.ensures.value, c.layout.ensures, c.moved_offset-offset.ensures) step;
+  lawful = rw c.payload_of_two-payload.ensures (beside_lawful c.args.dl.now c.loop-index.payload c.payload_of_field.result c.loop-index.invariant.lawful c.payload_of_field.ensures.lawful);
 }
