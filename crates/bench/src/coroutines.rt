@@ -7,11 +7,9 @@ ghost use Rattle.abi_scalar.specs.Lawful.{IsLawfulLayout};
 ghost use Rattle.bench.specs.Asked.{IsLawfulCoroutine};
 ghost use Rattle.rustc_abi.specs.Coroutines.{IsHeld};
 
-use crate::lawful::are_lawful;
-use crate::leaves::{Fields, Laid, leaves, picked, single, size_of};
-use crate::numbers::Numbers;
+use crate::inputs::{Fields, Numbers, TypeLayout, are_lawful, list_of, list_of_one, size_of};
+use crate::lines::Line;
 use crate::timing::{Timed, time};
-use crate::wanted::asks_for;
 use abi_base::TargetDataLayout;
 use abi_calc::{LayoutCalculator, state_tag};
 use abi_index::{BitMatrix, FieldIdx, IndexSlice, IndexVec, VariantIdx};
@@ -23,7 +21,7 @@ use std::io;
 type State = IndexVec<FieldIdx, u32>;
 
 /// A state of eight locals, from a place on.
-fn neighbours(alloc: Global, from: u32) -> Result<State, AllocError>
+fn state_of_eight(alloc: Global, from: u32) -> Result<State, AllocError>
     requires { from ≤ 1000 }
     ensures { IfOk result (IsHeld (from + 8)) }
 {
@@ -49,7 +47,7 @@ fn states_of(
     let mut states = Vec::new(alloc);
     for _step in 0..count {
         let from = numbers.below(locals - 8) as u32;
-        states.push(neighbours(alloc, from)?)?;
+        states.push(state_of_eight(alloc, from)?)?;
     }
     Ok(states)
 }
@@ -76,24 +74,24 @@ fn conflicts_of(
 
 /// A coroutine of these locals and of one prefix field.
 #[derive(Drop)]
-struct Coroutine<'a> {
+struct TimedCoroutine<'a> {
     dl: &'a TargetDataLayout,
-    prefix: &'a Laid,
+    prefix: &'a TypeLayout,
     locals: Fields<'a>,
     states: Vec<State>,
     conflicts: BitMatrix<u32, u32>,
 }
 
-impl Timed for Coroutine<'_> {
+impl Timed for TimedCoroutine<'_> {
     ghost is_ready = { IsLawfulCoroutine };
 
     #[tactic(auto, using(abi_calc::proofs::CoroutineLemmas::OneCoroutine::one_tag))]
-    fn made(&self, alloc: Global) -> u64 {
+    fn answer(&self, alloc: Global) -> u64 {
         let dl = self.dl;
-        let Ok(prefix) = single(alloc, self.prefix) else {
+        let Ok(prefix) = list_of_one(alloc, self.prefix) else {
             return 0;
         };
-        let tag: Laid = LayoutData::scalar(dl, state_tag(self.states.len()));
+        let tag: TypeLayout = LayoutData::scalar(dl, state_tag(self.states.len()));
         let states: IndexSlice<VariantIdx, State> = IndexSlice::new(&self.states);
         size_of(LayoutCalculator::new(dl).layout_of_coroutine(
             alloc,
@@ -106,46 +104,34 @@ impl Timed for Coroutine<'_> {
     }
 }
 
-/// Times a coroutine of `count` locals, and of 3 states for 8 locals.
-fn time_coroutine(
+/// Times a coroutine of as many locals as the line has, and of 3 states for 8 locals.
+pub(crate) fn time_coroutine(
     rt: &HostRuntime,
     dl: &TargetDataLayout,
-    leaves: &[Laid],
-    count: u64,
+    leaves: &[TypeLayout],
+    line: Line,
 ) -> io::Result<()>
     requires data_layout { IsLawfulDataLayout dl.now }
     requires leaves { length leaves.now ≡ 5 }
-    requires some { 8 < count }
-    requires few { count ≤ 1000 }
+    requires some { 8 < line.size }
+    requires few { line.size ≤ 1000 }
 {
     let alloc = rt.alloc();
+    let count = line.size;
     let prefix = &leaves[4];
     let mut numbers = Numbers::from(31);
-    let locals = picked(alloc, leaves, &mut numbers, count)?;
+    let locals = list_of(alloc, leaves, &mut numbers, count)?;
     let states = states_of(alloc, &mut numbers, count, 3 * count / 8)?;
     let conflicts = conflicts_of(alloc, &mut numbers, count)?;
     if !prefix.is_lawful(dl) || !are_lawful(dl, locals.as_slice().as_raw()) {
         return Err(io::Error::other("a leaf is unlawful"));
     }
-    let call = Coroutine {
+    let call = TimedCoroutine {
         dl,
         prefix,
         locals,
         states,
         conflicts,
     };
-    time(rt, "coroutine", count, &call)
-}
-
-/// Times coroutines.
-pub(crate) fn time_all(rt: &HostRuntime, words: &str, dl: &TargetDataLayout) -> io::Result<()>
-    requires { IsLawfulDataLayout dl.now }
-{
-    let leaves = leaves(rt.alloc(), dl)?;
-    for count in [100, 200, 400] {
-        if asks_for(words, "coroutine", count) {
-            time_coroutine(rt, dl, &leaves, count)?;
-        }
-    }
-    Ok(())
+    time(rt, line, &call)
 }

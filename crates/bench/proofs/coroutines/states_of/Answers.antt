@@ -7,7 +7,7 @@ pub loop-step-preserved : goal.loop-step-preserved
 loop-step-preserved c =
     let locals = c.args.locals in
     let from = c.below-from.result in
-    let state : List ℕ = c.in_ok-neighbours.field-0 in
+    let state : List ℕ = c.in_ok-state_of_eight.field-0 in
     let near : IsHeld (from + 8) state = search rules in
     let room : from + 8 ≤ locals = search rules in
     let held : IsHeld locals state = (All-weaker (λ l. l < from + 8) (λ l. l < locals) (λ l less. omega (arith, less, room)) state near.0, near.1) in
