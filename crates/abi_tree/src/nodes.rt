@@ -69,7 +69,7 @@ impl PartialEq for Nodes {
         }
         for at in 0..self.len() {
             let mut visits = 0;
-            if !is_equal(self.visit(at, &mut visits), other.read(at, &mut visits)) {
+            if !is_equal(self.visit(at, &mut visits), other.visit(at, &mut visits)) {
                 return false;
             }
         }

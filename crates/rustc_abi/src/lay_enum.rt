@@ -92,8 +92,7 @@ fn variant_layouts<'a>(
 /// The calculator's answer to variants with these discriminants, where the tag's integer that is asked for is the
 /// enum's.
 fn calculator_answer<D: Fn(RangeFrom<i128>, RangeToInclusive<u128>) -> (Integer, bool)>(
-    alloc: Global,
-    dl: &TargetDataLayout,
+    cx: LayoutCx<'_>,
     repr: &ReprOptions,
     variants: &[IndexVec<FieldIdx, &LayoutData<FieldIdx, VariantIdx>>],
     discr_range_of_repr: D,
@@ -101,26 +100,26 @@ fn calculator_answer<D: Fn(RangeFrom<i128>, RangeToInclusive<u128>) -> (Integer,
 ) -> Result<LayoutData<FieldIdx, VariantIdx>, LayError>
 where
     D: Drop,
-    requires data_layout { IsLawfulDataLayout dl.now }
+    requires data_layout { IsLawfulDataLayout cx.dl.now }
     requires aligns { HasLawfulAligns repr.now }
     requires few { length variants.now ≤ most_fields }
     requires each { length numbers.now ≡ length variants.now }
-    requires lawful { All (All (λ lent. IsLawfulLayout dl.now lent.now)) variants.now }
+    requires lawful { All (All (λ lent. IsLawfulLayout cx.dl.now lent.now)) variants.now }
     requires differ { has_equal numbers.now ≡ false }
-    requires narrow { list_all (is_discriminant dl.now repr.now) numbers.now ≡ true }
+    requires narrow { list_all (is_discriminant cx.dl.now repr.now) numbers.now ≡ true }
     requires callable { D.IsAlwaysCallable discr_range_of_repr }
     requires asked { (from : _) (to : _) (answer : _) → D.post discr_range_of_repr from to answer →
-        IsTagIntegerAnswer dl.now repr.now from to answer }
+        IsTagIntegerAnswer cx.dl.now repr.now from to answer }
     ensures ok { IfOk result (λ l. (all : List (List Placed)) →
         map (map (λ lent. lent.now)) variants.now ≡ layouts_of all →
-        IsEnumed dl.now repr.now numbers.now all (Ok l)) }
+        IsEnumed cx.entry.dl.now repr.now numbers.now all (Ok l)) }
     ensures err { IfErr result (λ e. (all : List (List Placed)) →
         map (map (λ lent. lent.now)) variants.now ≡ layouts_of all →
-        IsRefused (IsEnumed dl.now repr.now numbers.now all) e) }
+        IsRefused (IsEnumed cx.entry.dl.now repr.now numbers.now all) e) }
 {
-    let items = number_variants(alloc, numbers)?;
-    let answer = LayoutCalculator::new(dl).layout_of_struct_or_enum(
-        alloc,
+    let items = number_variants(cx.alloc, numbers)?;
+    let answer = LayoutCalculator::new(cx.dl).layout_of_struct_or_enum(
+        cx.alloc,
         repr,
         IndexSlice::new(variants),
         true,
@@ -153,11 +152,12 @@ fn enum_layout(
         (variants_in nodes.now children.now))) }
 {
     let variants = variant_layouts(cx.alloc, nodes, children)?;
+    let dl = cx.dl;
     calculator_answer(
         cx,
         repr,
         &variants,
-        |least, greatest| tag_integer(cx.dl, repr, least.start, greatest.last),
+        |least, greatest| tag_integer(dl, repr, least.start, greatest.last),
         numbers,
     )
 }
