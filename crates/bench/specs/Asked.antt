@@ -8,8 +8,8 @@ use Rattle.abi_calc.specs.Enums.Several.{IsLawfulTag}
 use Rattle.abi_index.specs.Relation.{column_count, row_count}
 use Rattle.abi_scalar.specs.Lawful.{IsLawfulLayout}
 use Rattle.rustc_abi.specs.Coroutines.{IsHeld}
-use Rattle.bench.specs.declared.coroutines.TimedCoroutine.{TimedCoroutine}
-use Rattle.bench.specs.declared.enums.TimedEnum.{TimedEnum}
+use Rattle.bench.specs.declared.calculator.TimedCoroutine.{TimedCoroutine}
+use Rattle.bench.specs.declared.calculator.TimedEnum.{TimedEnum}
 
 -- What is asked of an enum: each variant has one discriminant, in order, and those of the variants that may have values differ by
 -- the integer of the tag.

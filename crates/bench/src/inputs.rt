@@ -13,38 +13,34 @@ use abi_index::{FieldIdx, IndexVec, VariantIdx};
 use abi_scalar::{LayoutCalculatorError, LayoutData, Scalar, WrappingRange};
 use std::alloc::{AllocError, Global};
 
-/// Numbers that look like chance. The state becomes its product with 6364136223846793005, plus 1442695040888963407,
+/// Numbers that look like chance. Its state becomes its product with 6364136223846793005, plus 1442695040888963407,
 /// modulo 2 to the 64, before each; a number is what its upper 31 bits leave.
 #[derive(Clone, Copy)]
-pub(crate) struct Numbers {
-    state: u64,
-}
+pub(crate) struct Numbers(pub(crate) u64);
 
 impl Numbers {
-    /// The numbers from this state on.
-    pub(crate) fn from(state: u64) -> Numbers {
-        Numbers { state }
-    }
-
     /// The next number, which is below this one.
     pub(crate) fn below(&mut self, end: u64) -> u64
         requires { 0 < end }
         ensures { result < end }
     {
-        let more = self.state.wrapping_mul(6_364_136_223_846_793_005);
-        self.state = more.wrapping_add(1_442_695_040_888_963_407);
-        (self.state >> 33) % end
+        let more = self.0.wrapping_mul(6_364_136_223_846_793_005);
+        self.0 = more.wrapping_add(1_442_695_040_888_963_407);
+        (self.0 >> 33) % end
     }
 }
 
-/// The layout of a type.
-pub(crate) type TypeLayout = LayoutData<FieldIdx, VariantIdx>;
+/// The layout of a field.
+pub(crate) type Leaf = LayoutData<FieldIdx, VariantIdx>;
 
 /// Fields of a list.
-pub(crate) type Fields<'a> = IndexVec<FieldIdx, &'a TypeLayout>;
+pub(crate) type Fields<'a> = IndexVec<FieldIdx, &'a Leaf>;
+
+/// Such lists, where there is memory for them.
+pub(crate) type Lists<'a> = Result<Vec<Fields<'a>>, AllocError>;
 
 /// The size of what was laid out, 0 where it is refused.
-pub(crate) fn size_of(answer: Result<TypeLayout, LayoutCalculatorError<&TypeLayout>>) -> u64 {
+pub(crate) fn size_of(answer: Result<Leaf, LayoutCalculatorError<&Leaf>>) -> u64 {
     match answer {
         Ok(layout) => layout.size.bytes(),
         Err(_) => 0,
@@ -79,7 +75,7 @@ pub(crate) fn scalar(place: u64) -> Scalar
 }
 
 /// The layouts of `u8`, `bool`, `u16`, `char` and `u64`.
-pub(crate) fn leaves(alloc: Global, dl: &TargetDataLayout) -> Result<Vec<TypeLayout>, AllocError>
+pub(crate) fn leaves(alloc: Global, dl: &TargetDataLayout) -> Result<Vec<Leaf>, AllocError>
     ensures { IfOk result (λ leaves. vec_len leaves ≡ 5) }
 {
     let mut leaves = Vec::with_capacity(alloc, 5)?;
@@ -92,7 +88,7 @@ pub(crate) fn leaves(alloc: Global, dl: &TargetDataLayout) -> Result<Vec<TypeLay
 /// A list of `count` of the leaves at random.
 pub(crate) fn list_of<'a>(
     alloc: Global,
-    leaves: &'a [TypeLayout],
+    leaves: &'a [Leaf],
     numbers: &mut Numbers,
     count: u64,
 ) -> Result<Fields<'a>, AllocError>
@@ -109,7 +105,7 @@ pub(crate) fn list_of<'a>(
 }
 
 /// A list of the one field.
-pub(crate) fn list_of_one<'a>(alloc: Global, leaf: &'a TypeLayout) -> Result<Fields<'a>, AllocError>
+pub(crate) fn list_of_one<'a>(alloc: Global, leaf: &'a Leaf) -> Result<Fields<'a>, AllocError>
     ensures { IfOk result (λ fields. fields ≡ leaf.entry ∷ []) }
 {
     let mut fields = IndexVec::new(alloc);
@@ -118,7 +114,7 @@ pub(crate) fn list_of_one<'a>(alloc: Global, leaf: &'a TypeLayout) -> Result<Fie
 }
 
 /// Whether each of these is lawful.
-pub(crate) fn are_lawful(dl: &TargetDataLayout, layouts: &[&TypeLayout]) -> bool
+pub(crate) fn are_lawful(dl: &TargetDataLayout, layouts: &[&Leaf]) -> bool
     requires { IsLawfulDataLayout dl.now }
     ensures { IsTrue result → All (λ f. IsLawfulLayout dl.now f.now) layouts.now }
 {

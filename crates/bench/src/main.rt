@@ -6,23 +6,18 @@
 ghost use Rattle.std.specs.Prelude.{◌≡◌, length};
 ghost use Rattle.abi_base.specs.DataLayout.{IsLawfulDataLayout};
 
-mod coroutines;
-mod enums;
+mod calculator;
 mod inputs;
-mod lines;
-mod lists;
-mod timing;
+mod report;
 mod trees;
 mod values;
 
-use crate::coroutines::time_coroutine;
-use crate::enums::{
-    enum_beside_niche, enum_of_ten_fields, enum_of_units, enum_without_niche, time_enum,
+use crate::calculator::{
+    c_repr, enum_of, one_list, small_lists, time_coroutine, time_enum, time_lists, time_union,
 };
-use crate::inputs::{TypeLayout, leaves};
-use crate::lines::{LINES, Line, TimedCall, are_known, is_asked_for};
-use crate::lists::{c_repr, time_list, time_small_lists, time_union};
-use crate::trees::{deep_tree, time_tree, time_walk, wide_tree};
+use crate::inputs::{Leaf, leaves};
+use crate::report::{Call, LINES, Line, Outcome, are_known, is_asked_for};
+use crate::trees::{deep_tree, enum_in_turn, struct_of_words, time_tree, wide_tree};
 use crate::values::{time_least_range, time_parse};
 use abi_base::TargetDataLayout;
 use abi_scalar::ReprOptions;
@@ -35,10 +30,10 @@ const MOST: u64 = 1_000_000;
 fn time_line(
     rt: &HostRuntime,
     dl: &TargetDataLayout,
-    leaves: &[TypeLayout],
-    call: TimedCall,
+    leaves: &[Leaf],
+    call: Call,
     line: Line,
-) -> io::Result<()>
+) -> Outcome
     requires data_layout { IsLawfulDataLayout dl.now }
     requires leaves { length leaves.now ≡ 5 }
 {
@@ -46,28 +41,27 @@ fn time_line(
     if size > MOST {
         return Err(io::Error::other("the size is too great"));
     }
+    let repr = ReprOptions::default();
     match call {
-        TimedCall::List => time_list(rt, dl, leaves, line, ReprOptions::default()),
-        TimedCall::ListInC => time_list(rt, dl, leaves, line, c_repr()),
-        TimedCall::SmallLists => time_small_lists(rt, dl, leaves, line, ReprOptions::default()),
-        TimedCall::SmallListsInC => time_small_lists(rt, dl, leaves, line, c_repr()),
-        TimedCall::Union => time_union(rt, dl, leaves, line),
-        TimedCall::Units => time_enum(rt, dl, line, enum_of_units(alloc, size)?),
-        TimedCall::TenFields => time_enum(rt, dl, line, enum_of_ten_fields(alloc, leaves, size)?),
-        TimedCall::BesideNiche => time_enum(rt, dl, line, enum_beside_niche(alloc, leaves, size)?),
-        TimedCall::WithoutNiche => time_enum(
-            rt,
-            dl,
-            line,
-            enum_without_niche(alloc, leaves, size)?,
-        ),
-        TimedCall::Coroutine if size > 8 && size <= 1000 => time_coroutine(rt, dl, leaves, line),
-        TimedCall::Coroutine => Err(io::Error::other("a coroutine has 9 to 1000 locals")),
-        TimedCall::Parse => time_parse(rt, line),
-        TimedCall::LeastRange(spread) => time_least_range(rt, line, spread),
-        TimedCall::WideTree => time_tree(rt, dl, line, wide_tree(alloc, size)?),
-        TimedCall::DeepTree => time_tree(rt, dl, line, deep_tree(alloc, size)?),
-        TimedCall::Walk(walk) => time_walk(rt, dl, line, walk),
+        Call::List => time_lists(rt, dl, line, one_list(alloc, leaves, size)?, repr),
+        Call::ListInC => time_lists(rt, dl, line, one_list(alloc, leaves, size)?, c_repr()),
+        Call::SmallLists => time_lists(rt, dl, line, small_lists(alloc, leaves)?, repr),
+        Call::SmallListsInC => time_lists(rt, dl, line, small_lists(alloc, leaves)?, c_repr()),
+        Call::Union => time_union(rt, dl, line, one_list(alloc, leaves, size)?),
+        Call::Units | Call::TenFields | Call::BesideNiche | Call::WithoutNiche => {
+            time_enum(rt, dl, line, enum_of(alloc, leaves, call, size)?)
+        }
+        Call::Coroutine if size > 8 && size <= 1000 => time_coroutine(rt, dl, leaves, line),
+        Call::Coroutine => Err(io::Error::other("a coroutine has 9 to 1000 locals")),
+        Call::Parse => time_parse(rt, line),
+        Call::LeastRange => time_least_range(rt, line, 1),
+        Call::SpreadRange => time_least_range(rt, line, 2),
+        Call::DeepTree => time_tree(rt, dl, line, call, deep_tree(alloc, size)?),
+        Call::UnusedBytes => time_tree(rt, dl, line, call, enum_in_turn(alloc, size)?),
+        Call::Register => time_tree(rt, dl, line, call, struct_of_words(alloc, size)?),
+        Call::WideTree | Call::NodePadding | Call::HandlePadding => {
+            time_tree(rt, dl, line, call, wide_tree(alloc, size)?)
+        }
     }
 }
 

@@ -5,8 +5,7 @@ ghost use Rattle.std.specs.Prelude.{⊤};
 ghost use Rattle.abi_tree.specs.Handles.{IsHandle};
 
 use crate::inputs::{Numbers, scalar};
-use crate::lines::Line;
-use crate::timing::{Timed, time};
+use crate::report::{Call, Line, Outcome, Timed, time};
 use abi_base::TargetDataLayout;
 use abi_index::VariantIdx;
 use abi_scalar::{ReprOptions, Variants};
@@ -14,11 +13,10 @@ use abi_tree::Laid;
 use abi_types::{HomogeneousAggregate, TyAndLayout};
 use rustc_abi::{TreeTy, TypeTree, lay_out};
 use std::alloc::{AllocError, Global};
-use std::io;
 
-/// A scalar at random.
-fn leaf(numbers: &mut Numbers) -> TypeTree {
-    TypeTree::Scalar(scalar(numbers.below(5)))
+/// A scalar, by its place among the leaves.
+fn leaf(place: u64) -> TypeTree {
+    TypeTree::Scalar(scalar(place))
 }
 
 /// A struct of these fields.
@@ -34,14 +32,14 @@ fn struct_of(fields: Vec<TypeTree>) -> TypeTree {
 fn struct_of_eight(alloc: Global, numbers: &mut Numbers) -> Result<TypeTree, AllocError> {
     let mut fields = Vec::with_capacity(alloc, 8)?;
     for _step in 0..8 {
-        fields.push(leaf(numbers))?;
+        fields.push(leaf(numbers.below(5)))?;
     }
     Ok(struct_of(fields))
 }
 
 /// A struct of structs of eight scalars, of `nodes` nodes in all, or some less.
 pub(crate) fn wide_tree(alloc: Global, nodes: u64) -> Result<TypeTree, AllocError> {
-    let mut numbers = Numbers::from(11);
+    let mut numbers = Numbers(11);
     let mut fields = Vec::new(alloc);
     for _step in 0..nodes.saturating_sub(1) / 9 {
         fields.push(struct_of_eight(alloc, &mut numbers)?)?;
@@ -51,72 +49,47 @@ pub(crate) fn wide_tree(alloc: Global, nodes: u64) -> Result<TypeTree, AllocErro
 
 /// `depth` structs of a scalar and the struct within, each in the next.
 pub(crate) fn deep_tree(alloc: Global, depth: u64) -> Result<TypeTree, AllocError> {
-    let mut numbers = Numbers::from(13);
-    let mut tree = leaf(&mut numbers);
+    let mut numbers = Numbers(13);
+    let mut tree = leaf(numbers.below(5));
     for _step in 0..depth {
         let mut fields = Vec::with_capacity(alloc, 2)?;
-        fields.push(leaf(&mut numbers))?;
+        fields.push(leaf(numbers.below(5)))?;
         fields.push(tree)?;
         tree = struct_of(fields);
     }
     Ok(tree)
 }
 
-/// Scalars at these places among the leaves.
-fn fields_at(alloc: Global, places: &[u64]) -> Result<Vec<TypeTree>, AllocError> {
-    let mut fields = Vec::with_capacity(alloc, places.len())?;
-    for &place in places {
-        fields.push(TypeTree::Scalar(scalar(place)))?;
-    }
-    Ok(fields)
-}
-
 /// A struct of `count` fields, each a `u64`.
-fn struct_of_words(alloc: Global, count: u64) -> Result<TypeTree, AllocError> {
+pub(crate) fn struct_of_words(alloc: Global, count: u64) -> Result<TypeTree, AllocError> {
     let mut fields = Vec::new(alloc);
     for _step in 0..count {
-        fields.push(TypeTree::Scalar(scalar(4)))?;
+        fields.push(leaf(4))?;
     }
     Ok(struct_of(fields))
 }
 
 /// An enum of `count` variants, each of a `u64`, or of a `u16` and a `u8`, in turn.
-fn enum_in_turn(alloc: Global, count: u64) -> Result<TypeTree, AllocError> {
+pub(crate) fn enum_in_turn(alloc: Global, count: u64) -> Result<TypeTree, AllocError> {
     let mut variants = Vec::new(alloc);
     for step in 0..count {
-        let places: &[u64] = if step % 2 == 0 { &[4] } else { &[2, 0] };
-        variants.push((u128::from(step), fields_at(alloc, places)?))?;
+        let fields = if step % 2 == 0 {
+            vec![in alloc; leaf(4)]?
+        } else {
+            vec![in alloc; leaf(2), leaf(0)]?
+        };
+        variants.push((u128::from(step), fields))?;
     }
     let repr = ReprOptions::default();
     Ok(TypeTree::Enum { repr, variants })
 }
 
-/// A type under a data layout.
-#[derive(Drop)]
-struct TimedTree<'a> {
-    dl: &'a TargetDataLayout,
-    tree: TypeTree,
-}
-
-impl Timed for TimedTree<'_> {
-    ghost is_ready = { λ _. ⊤ };
-
-    fn answer(&self, alloc: Global) -> u64 {
-        match lay_out(alloc, self.dl, &self.tree) {
-            Ok(laid) => laid.layout().size.bytes(),
-            Err(_) => 0,
-        }
+/// The size of a type that is laid out, 0 where it is refused.
+fn size_of_tree(alloc: Global, dl: &TargetDataLayout, tree: &TypeTree) -> u64 {
+    match lay_out(alloc, dl, tree) {
+        Ok(laid) => laid.layout().size.bytes(),
+        Err(_) => 0,
     }
-}
-
-/// Times the layout of a tree.
-pub(crate) fn time_tree(
-    rt: &HostRuntime,
-    dl: &TargetDataLayout,
-    line: Line,
-    tree: TypeTree,
-) -> io::Result<()> {
-    time(rt, line, &TimedTree { dl, tree })
 }
 
 /// A type with its layout.
@@ -169,55 +142,49 @@ fn node_padding_of(alloc: Global, laid: &Laid) -> u64 {
     }
 }
 
-/// A walk over a type: its padding, by its nodes or by its handle, what its second variant leaves unused, or the
-/// register that it is passed in.
-#[derive(Clone, Copy)]
-pub(crate) enum TreeWalk {
-    NodePadding,
-    HandlePadding,
-    UnusedBytes,
-    Register,
-}
-
-/// A type that was laid out, if it could be, and a walk over it.
+/// A type under a data layout, which was laid out for a walk over it: its padding, by its nodes or by its handle, what its
+/// second variant leaves unused, or the register that it is passed in.
 #[derive(Drop)]
-struct TimedWalk {
+struct TimedTree<'a> {
+    dl: &'a TargetDataLayout,
+    tree: TypeTree,
     laid: Option<Laid>,
-    walk: TreeWalk,
+    call: Call,
 }
 
-impl Timed for TimedWalk {
+impl Timed for TimedTree<'_> {
     ghost is_ready = { λ _. ⊤ };
 
     fn answer(&self, alloc: Global) -> u64 {
         let Some(laid) = &self.laid else {
-            return 0;
+            return size_of_tree(alloc, self.dl, &self.tree);
         };
-        match self.walk {
-            TreeWalk::NodePadding => node_padding_of(alloc, laid),
-            TreeWalk::HandlePadding => padding_of(alloc, laid.root()),
-            TreeWalk::UnusedBytes => unused_of(alloc, laid.root()),
-            TreeWalk::Register => register_of(laid.root()),
+        match self.call {
+            Call::NodePadding => node_padding_of(alloc, laid),
+            Call::HandlePadding => padding_of(alloc, laid.root()),
+            Call::UnusedBytes => unused_of(alloc, laid.root()),
+            _ => register_of(laid.root()),
         }
     }
 }
 
-/// The type that a walk goes over, of as many nodes, variants or fields.
-fn tree_for(alloc: Global, walk: TreeWalk, size: u64) -> Result<TypeTree, AllocError> {
-    match walk {
-        TreeWalk::UnusedBytes => enum_in_turn(alloc, size),
-        TreeWalk::Register => struct_of_words(alloc, size),
-        _ => wide_tree(alloc, size),
-    }
-}
-
-/// Times a walk.
-pub(crate) fn time_walk(
+/// Times the layout of a tree, or a walk over it.
+pub(crate) fn time_tree(
     rt: &HostRuntime,
     dl: &TargetDataLayout,
     line: Line,
-    walk: TreeWalk,
-) -> io::Result<()> {
-    let laid = lay_out(rt.alloc(), dl, &tree_for(rt.alloc(), walk, line.size)?).ok();
-    time(rt, line, &TimedWalk { laid, walk })
+    call: Call,
+    tree: TypeTree,
+) -> Outcome {
+    let laid = match call {
+        Call::WideTree | Call::DeepTree => None,
+        _ => lay_out(rt.alloc(), dl, &tree).ok(),
+    };
+    let call = TimedTree {
+        dl,
+        tree,
+        laid,
+        call,
+    };
+    time(rt, line, &call)
 }

@@ -3,8 +3,7 @@
 ghost use Rattle.std.specs.Prelude.{⊤, ◌^◌, ◌<◌, ◌≤◌, All, IfOk};
 
 use crate::inputs::Numbers;
-use crate::lines::Line;
-use crate::timing::{Timed, time};
+use crate::report::{Line, Outcome, Timed, time};
 use abi_base::{AddressSpace, Size, TargetDataLayout};
 use abi_scalar::WrappingRange;
 use std::alloc::{AllocError, Global};
@@ -15,7 +14,7 @@ const SPECS: [&str; 5] = ["i64:64", "v128:128", "m:e", "n8:16", "f64:64"];
 
 /// A text of `count` specs.
 fn text_of(alloc: Global, count: u64) -> Result<String, AllocError> {
-    let mut numbers = Numbers::from(5);
+    let mut numbers = Numbers(5);
     let mut text = String::new(alloc);
     for step in 0..count {
         if step > 0 {
@@ -45,7 +44,7 @@ impl Timed for TimedText {
 }
 
 /// Times the reading of a string of as many specs as the line has.
-pub(crate) fn time_parse(rt: &HostRuntime, line: Line) -> io::Result<()> {
+pub(crate) fn time_parse(rt: &HostRuntime, line: Line) -> Outcome {
     let text = text_of(rt.alloc(), line.size)?;
     time(rt, line, &TimedText { text })
 }
@@ -55,7 +54,7 @@ fn values_of(alloc: Global, count: u64, by: u64) -> Result<Vec<u128>, AllocError
     requires { by ≤ 2 }
     ensures { IfOk result (λ values. All (λ v. v < 2 ^ 32) values.items) }
 {
-    let mut numbers = Numbers::from(8);
+    let mut numbers = Numbers(8);
     let mut values = Vec::new(alloc);
     for _step in 0..count {
         values.push(u128::from(numbers.below(1 << 31) * by))?;
@@ -82,10 +81,10 @@ impl Timed for TimedValues {
     }
 }
 
-/// Times the search for the least range of as many values as the line has: in half of all numbers, or spread over all of
-/// them.
-pub(crate) fn time_least_range(rt: &HostRuntime, line: Line, is_spread: bool) -> io::Result<()> {
-    let by = if is_spread { 2 } else { 1 };
+/// Times the search for the least range of as many values as the line has, multiples of this number.
+pub(crate) fn time_least_range(rt: &HostRuntime, line: Line, by: u64) -> Outcome
+    requires { by ≤ 2 }
+{
     let values = values_of(rt.alloc(), line.size, by)?;
     time(rt, line, &TimedValues { values })
 }
