@@ -6,7 +6,7 @@ use Rattle.abi_scalar.specs.declared.variants.TagEncoding.{TagEncoding}
 use Rattle.abi_scalar.specs.declared.variants.TagEncoding.TheVariants.{Direct}
 use Rattle.abi_scalar.specs.Repr.{is_c}
 use Rattle.abi_tree.specs.Tree.{Tree, Variants, no_variants, enum}
-use Rattle.abi_tree.specs.Placed.{Placed, TaggedVariants, no_tagged_variants, tagged_variant, tagged}
+use Rattle.abi_tree.specs.Placed.{Placed, TaggedVariants, nothing_tagged, tagged_variant, tagged}
 use Rattle.guarantees.specs.Reference.Words.{Extent, HasTaggedVariantForEach, extent_of, extents_of}
 use Rattle.rustc_abi.specs.Lists.{offsets_of}
 use Rattle.guarantees.specs.Reference.CStruct.{IsPlainC, c_offsets, c_struct}
@@ -16,7 +16,7 @@ use Rattle.abi_base.specs.declared.integer.Integer.{Integer}
 
 -- the fields of each variant
 abbrev pub variant_fields : TaggedVariants → List (List Extent)
-variant_fields no_tagged_variants = []
+variant_fields nothing_tagged = []
 variant_fields (tagged_variant number layout mark parts tagged_variants) = extents_of parts ∷ variant_fields tagged_variants
 
 -- those of the variants that have some
@@ -27,7 +27,7 @@ with_fields ((field ∷ fields) ∷ variants) = (field ∷ fields) ∷ with_fiel
 
 -- each variant's fields lie so
 abbrev pub EachVariant : ((fields : List Extent) → (offsets : List ℕ) → Type 0) → TaggedVariants → Type 0
-EachVariant P no_tagged_variants = ⊤
+EachVariant P nothing_tagged = ⊤
 EachVariant P (tagged_variant number layout mark parts tagged_variants) = P (extents_of parts) (offsets_of parts) × EachVariant P tagged_variants
 
 -- "the payload": a union of structs, one for each variant with fields
