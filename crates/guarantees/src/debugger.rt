@@ -50,7 +50,7 @@ pub fn read_back(alloc: Global, laid: &Laid, value: &Value) -> Result<ReadBack, 
 }
 
 /// The value with this index; `None` where there are fewer.
-pub(crate) fn taken(mut values: Vec<Value>, index: usize) -> Option<Value>
+pub(crate) fn item_at(mut values: Vec<Value>, index: usize) -> Option<Value>
     ensures { result ≡ slice_get values.items index }
 {
     if index < values.len() {
@@ -78,7 +78,7 @@ pub fn field_of(
         Holds (endian_of laid.now) (placed_of laid.now) bytes.now (list vs) → ⊥) → found ≡ None) }
 {
     match read_value(alloc, laid, bytes)? {
-        Some(Value::List(values)) => Ok(taken(values, index)),
+        Some(Value::List(values)) => Ok(item_at(values, index)),
         _ => Ok(None),
     }
 }

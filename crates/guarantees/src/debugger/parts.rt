@@ -7,7 +7,7 @@ ghost use Rattle.abi_tree.specs.OfTree.{IsOfTree};
 ghost use Rattle.abi_tree.specs.Value.{Values, state, two, value_of, values_of, variant};
 ghost use Rattle.guarantees.specs.Field.{IsValueFound, value_at};
 
-use crate::debugger::taken;
+use crate::debugger::item_at;
 use rustc_abi::{Laid, Value, read_value};
 use std::alloc::{AllocError, Global};
 
@@ -70,7 +70,7 @@ pub fn field_of_variant(
         return Ok(None);
     };
     match fields_of(value, wanted) {
-        Some(fields) => Ok(taken(fields, index)),
+        Some(fields) => Ok(item_at(fields, index)),
         None => Ok(None),
     }
 }
@@ -97,7 +97,7 @@ pub fn local_of_state(
         return Ok(None);
     };
     match locals_of(value, wanted) {
-        Some(locals) => Ok(taken(locals, index)),
+        Some(locals) => Ok(item_at(locals, index)),
         None => Ok(None),
     }
 }

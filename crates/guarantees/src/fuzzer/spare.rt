@@ -13,7 +13,7 @@ use rustc_abi::{Laid, Value, read_value};
 use std::alloc::{AllocError, Global};
 
 /// Puts a byte at the place, where there is one.
-fn put(bytes: &mut [u8], place: usize, byte: u8)
+fn set_byte(bytes: &mut [u8], place: usize, byte: u8)
     ensures { bytes.new ≡ slice_set bytes.old place byte }
 {
     if place < bytes.len() {
@@ -44,6 +44,6 @@ pub fn vary(
         Holds (endian_of laid.now) (placed_of laid.now) bytes.old v →
         is_covered (placed_of laid.now) v place ≡ false → IsValueFound found (Some v)) }
 {
-    put(bytes, place, byte);
+    set_byte(bytes, place, byte);
     read_value(alloc, laid, bytes)
 }

@@ -15,8 +15,8 @@ returns-in_default-clause-field c = λ vs h.
 pub returns-in-Some-fields_of-clause-field : goal.returns-in-Some-fields_of-clause-field
 returns-in-Some-fields_of-clause-field c = λ vs h.
     let one = rw c.in-Some.is at c.in_ok-value.ensures.one in
-    let taken : c.taken.result ≡ slice_get c.in-Some-fields_of.fields.items c.args.index = search rules in
-    part_answer (Holds (endian_of c.args.laid.now) (placed_of c.args.laid.now) c.args.bytes.now) (value_of c.in-Some.value) c.in-Some-fields_of.fields.items c.args.index c.taken.result
+    let taken : c.item_at.result ≡ slice_get c.in-Some-fields_of.fields.items c.args.index = search rules in
+    part_answer (Holds (endian_of c.args.laid.now) (placed_of c.args.laid.now) c.args.bytes.now) (value_of c.in-Some.value) c.in-Some-fields_of.fields.items c.args.index c.item_at.result
     (only_read c.args.laid.now c.args.bytes.now c.in-Some.value c.requires.laid one) taken (variant c.args.wanted vs) vs
     (λ e. (inj-variant c.args.wanted c.args.wanted vs (values_of c.in-Some-fields_of.fields.items) (e ∙ c.in-Some-fields_of.ensures)).1) h
 

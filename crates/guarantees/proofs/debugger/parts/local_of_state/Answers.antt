@@ -15,8 +15,8 @@ returns-in_default-clause-local c = λ ps vs h.
 pub returns-in-Some-locals_of-clause-local : goal.returns-in-Some-locals_of-clause-local
 returns-in-Some-locals_of-clause-local c = λ ps vs h.
     let one = rw c.in-Some.is at c.in_ok-value.ensures.one in
-    let taken : c.taken.result ≡ slice_get c.in-Some-locals_of.locals.items c.args.index = search rules in
-    part_answer (Holds (endian_of c.args.laid.now) (placed_of c.args.laid.now) c.args.bytes.now) (value_of c.in-Some.value) c.in-Some-locals_of.locals.items c.args.index c.taken.result
+    let taken : c.item_at.result ≡ slice_get c.in-Some-locals_of.locals.items c.args.index = search rules in
+    part_answer (Holds (endian_of c.args.laid.now) (placed_of c.args.laid.now) c.args.bytes.now) (value_of c.in-Some.value) c.in-Some-locals_of.locals.items c.args.index c.item_at.result
     (only_read c.args.laid.now c.args.bytes.now c.in-Some.value c.requires.laid one) taken (state c.args.wanted ps vs) vs
     (λ e. (inj-state c.args.wanted c.args.wanted ps vs c.in-Some-locals_of.ensures.0 (values_of c.in-Some-locals_of.locals.items) (e ∙ c.in-Some-locals_of.ensures.1)).1) h
 

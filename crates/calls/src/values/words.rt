@@ -1,7 +1,7 @@
-//! Values and their bytes that words tell.
+//! Values and their bytes that words write.
 
-use crate::command::{Command, named};
-use crate::stop::{Name, Stop};
+use crate::command::{Command, meaning_of};
+use crate::stop::{Name, Refusal};
 use abi_text::wide;
 use rustc_abi::Value;
 use std::alloc::Global;
@@ -18,7 +18,7 @@ fn digit(byte: u8) -> Option<u8> {
     }
 }
 
-/// The byte that two hexadecimal digits tell.
+/// The byte that two hexadecimal digits write.
 fn byte(word: &[u8]) -> Option<u8> {
     match word {
         [high, low] => Some(digit(*high)?.wrapping_mul(16).wrapping_add(digit(*low)?)),
@@ -26,7 +26,7 @@ fn byte(word: &[u8]) -> Option<u8> {
     }
 }
 
-/// The bytes that all next words tell, up to the end or a closing parenthesis.
+/// The bytes that all next words write, up to the end or a closing parenthesis.
 pub(crate) fn bytes(command: &mut Command) -> Vec<u8> {
     let mut all = Vec::new(command.alloc);
     for _ in 0..u64::MAX {
@@ -41,24 +41,24 @@ pub(crate) fn bytes(command: &mut Command) -> Vec<u8> {
 }
 
 /// Values up to a closing parenthesis.
-#[cycle(told)]
-fn told_each(command: &mut Command, deep: u64) -> Vec<Value> {
+#[cycle(values)]
+fn next_values(command: &mut Command, deep: u64) -> Vec<Value> {
     let mut values = Vec::new(command.alloc);
     for _ in 0..u64::MAX {
         if !command.has_more() {
             break;
         }
-        let item = told(command, deep);
+        let item = next_value(command, deep);
         command.grow(values.push(item));
     }
     values
 }
 
 /// Values between parentheses.
-#[cycle(told)]
-fn told_list(command: &mut Command, deep: u64) -> Vec<Value> {
+#[cycle(values)]
+fn value_list(command: &mut Command, deep: u64) -> Vec<Value> {
     command.expect(b"(");
-    told_each(command, deep)
+    next_values(command, deep)
 }
 
 /// What a value begins with.
@@ -82,32 +82,32 @@ const VALUE_WORDS: [(&[u8], ValueWord); 5] = [
 
 /// What a value begins with that begins with this word.
 fn value_word(word: &[u8]) -> Option<ValueWord> {
-    match named(&VALUE_WORDS, word) {
+    match meaning_of(&VALUE_WORDS, word) {
         Some(begun) => Some(begun),
         None => Some(ValueWord::Num(wide(word)?)),
     }
 }
 
 /// The value that is next, in which values lie so deep at most.
-#[cycle(told)]
-fn told(command: &mut Command, deep: u64) -> Value {
+#[cycle(values)]
+fn next_value(command: &mut Command, deep: u64) -> Value {
     let read = value_word(command.word());
     if deep == 0 {
-        command.stop(Stop::Refused(Name::TooDeep));
+        command.stop(Refusal::Refused(Name::TooDeep));
         return Value::Num(0);
     }
     match command.fits(read, ValueWord::Num(0)) {
         ValueWord::Num(number) => Value::Num(number),
-        ValueWord::List => Value::List(told_each(command, deep - 1)),
-        ValueWord::Pair => Value::Pair(command.wide(), command.wide()),
+        ValueWord::List => Value::List(next_values(command, deep - 1)),
+        ValueWord::Pair => Value::Pair(command.wide_number(), command.wide_number()),
         ValueWord::Variant => {
             let index = command.number() as usize;
-            Value::Variant(index, told_list(command, deep - 1))
+            Value::Variant(index, value_list(command, deep - 1))
         }
         ValueWord::State => Value::State {
             state: command.number() as usize,
-            prefix: told_list(command, deep - 1),
-            locals: told_list(command, deep - 1),
+            prefix: value_list(command, deep - 1),
+            locals: value_list(command, deep - 1),
         },
         ValueWord::Union => {
             command.expect(b"(");
@@ -120,5 +120,5 @@ fn told(command: &mut Command, deep: u64) -> Value {
 
 /// The value that is next.
 pub(crate) fn value(command: &mut Command) -> Value {
-    told(command, MOST_DEEP)
+    next_value(command, MOST_DEEP)
 }
