@@ -5,7 +5,7 @@ use Rattle.std.specs.Str.{is_utf8}
 use Rattle.abi_base.specs.declared.data_layout.TargetDataLayout.{TargetDataLayout}
 use Rattle.abi_base.specs.declared.parse_error.TargetDataLayoutError.{TargetDataLayoutError}
 use Rattle.abi_base.specs.declared.parse_error.TargetDataLayoutError.TheVariants as data_layout
-use Rattle.abi_base.specs.DataLayoutFault.{Fault as Flaw, TellsFault}
+use Rattle.abi_base.specs.DataLayoutFault.{Fault as Flaw, NamesFault}
 use Rattle.rustc_abi.specs.declared.error.LayError.{LayError}
 use Rattle.rustc_abi.specs.declared.error.LayError.TheVariants.{OutOfMemory}
 use Rattle.rustc_abi.specs.Fault.{IsRefusedFor}
@@ -47,7 +47,7 @@ under_none P string reply utf8 is =
     subst (λ b. MatchBool b (IsReplyIn P (data_layout_of string) reply) (reply ≡ record { status = 2; numbers = 0 ∷ [] })) (sym utf8) is
 
 -- a string with a fault, by the number of the error that reports it
-pub flaw_reply : (P : TargetDataLayout → Reply → Type 0) (r : Result TargetDataLayout Flaw) (e : TargetDataLayoutError) (reply : Reply) → TellsFault r e → e ≢ data_layout.OutOfMemory
+pub flaw_reply : (P : TargetDataLayout → Reply → Type 0) (r : Result TargetDataLayout Flaw) (e : TargetDataLayoutError) (reply : Reply) → NamesFault r e → e ≢ data_layout.OutOfMemory
     → reply ≡ record { status = 1; numbers = data_layout_error_number e ∷ [] } → IsReplyIn P r reply
 flaw_reply P r (data_layout.InvalidAddressSpace text cause err) reply is granted same = subst (λ s. IsReplyIn P s reply) (sym is) same
 flaw_reply P r (data_layout.InvalidBits kind text cause err) reply is granted same = subst (λ s. IsReplyIn P s reply) (sym is) same
@@ -60,7 +60,7 @@ flaw_reply P r (data_layout.InvalidBitsSize err) reply is granted same = absurd 
 flaw_reply P r data_layout.OutOfMemory reply is granted same = absurd (granted refl)
 
 -- so does the failure that reports it
-pub fails_flawed : (P : TargetDataLayout → Reply → Type 0) (r : Result TargetDataLayout Flaw) (e : TargetDataLayoutError) (f : LayoutFailure) → TellsFault r e
+pub fails_flawed : (P : TargetDataLayout → Reply → Type 0) (r : Result TargetDataLayout Flaw) (e : TargetDataLayoutError) (f : LayoutFailure) → NamesFault r e
     → FailsAs (λ reply. (e ≢ data_layout.OutOfMemory) × (reply ≡ record { status = 1; numbers = data_layout_error_number e ∷ [] })) f → FailsAs (IsReplyIn P r) f
 fails_flawed P r e (failure.Refused status number) refusal is = (flaw_reply P r e _ refusal is.0.0 is.0.1, is.1)
 fails_flawed P r e failure.OutOfMemory refusal is = is

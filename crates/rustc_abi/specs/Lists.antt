@@ -14,7 +14,7 @@ use Rattle.abi_calc.specs.Coroutine.Lists.{default_repr, first_list, own_list}
 use Rattle.abi_calc.specs.Coroutine.Promotion.{promoted_of}
 use Rattle.abi_calc.specs.Coroutine.Sizes.{behind_first}
 use Rattle.abi_calc.specs.Coroutine.States.{state_offsets}
-use Rattle.abi_calc.specs.Enums.Growth.{moved}
+use Rattle.abi_calc.specs.Enums.Growth.{moved_offset}
 use Rattle.abi_calc.specs.Enums.Lists.{behind_tag}
 use Rattle.abi_calc.specs.Enums.Several.{IsAskedFor}
 use Rattle.abi_univariant.specs.Least.{IsLeastSize, IsPlacedBy, align_by}
@@ -83,7 +83,7 @@ AreLeastVariants dl repr numbers whole place tag Direct tagged_variants =
     × IsAskedFor dl repr (IsTagIntegerAnswer dl repr) (counted repr numbers (fields_of_tagged_variants tagged_variants)) asked signed
     × (integer_size asked ≤ size_of tag)
     × AreMovedLists dl repr (behind_tag dl repr asked (layouts_of (fields_of_tagged_variants tagged_variants)))
-    (moved (integer_size asked) (size_of tag)) tagged_variants
+    (moved_offset (integer_size asked) (size_of tag)) tagged_variants
 AreLeastVariants dl repr numbers whole place tag (Niche untagged span start) tagged_variants =
     AreListsBeside dl repr place (size_of tag) whole untagged 0 tagged_variants
 

@@ -36,7 +36,7 @@ use Rattle.abi_calc.specs.declared.enums.strategy.EnumStrategy.{EnumStrategy}
 use Rattle.abi_calc.specs.declared.enums.strategy.EnumStrategy.TheVariants.{NoValue, OneList, Several}
 use Rattle.abi_calc.specs.Enums.Answer.{IsTypeAnswer}
 use Rattle.abi_calc.specs.Enums.Choice.{IsNicheAnswer, preferred_layout, takes_niche}
-use Rattle.abi_calc.specs.Enums.Growth.{moved}
+use Rattle.abi_calc.specs.Enums.Growth.{moved_offset}
 use Rattle.abi_calc.specs.Enums.Lists.{AreListLayouts, behind_tag}
 use Rattle.abi_calc.specs.Enums.Niche.{if_list, if_niche, if_placed, if_span, needing_numbers, layout_in_niche, niche_layout, room_beside, span_count, span_of, untagged_of, variants_from}
 use Rattle.abi_calc.specs.Enums.EnumStrategy.{strategy_of}
@@ -323,11 +323,11 @@ module _ (dl : TargetDataLayout) where
   moved_by old new a o false is divides fits = fits
 
   behind_aligned : (repr : ReprOptions) (kind : StructKind) (old new whole : ℕ) → repr.pack ≡ None → old ∣ new → (tagged_variants : TaggedVariants)
-      → AreMovedLists dl repr kind (moved old new) tagged_variants → TaggedVariantsBelow whole tagged_variants → AreAlignedIn whole tagged_variants
+      → AreMovedLists dl repr kind (moved_offset old new) tagged_variants → TaggedVariantsBelow whole tagged_variants → AreAlignedIn whole tagged_variants
   behind_aligned repr kind old new whole loose divides nothing_tagged h below = tt
   behind_aligned repr kind old new whole loose divides (tagged_variant number layout mark parts tagged_variants) h below = (
     each_aligned dl whole parts
-        (moved_fit (moved old new) whole (λ a o le fits. moved_by old new a o (o == old) refl divides fits) parts h.0.0 h.0.3 below.0
+        (moved_fit (moved_offset old new) whole (λ a o le fits. moved_by old new a o (o == old) refl divides fits) parts h.0.0 h.0.3 below.0
         (list_fits repr kind parts h.0.0 h.0.1 loose h.0.2)) below.0,
     behind_aligned repr kind old new whole loose divides tagged_variants h.1 below.1,
   )

@@ -31,7 +31,7 @@ use Rattle.abi_calc.specs.declared.enums.strategy.EnumStrategy.TheVariants.{NoVa
 use Rattle.abi_calc.specs.Enums.EnumStrategy.{strategy_of, variant_at}
 use Rattle.abi_calc.specs.Coroutine.Layout.{IsStateTag}
 use Rattle.abi_calc.proofs.EnumLemmas.Deep.{HasOwnNumber, enum_span}
-use Rattle.abi_calc.proofs.EnumLemmas.Whole.{several_some}
+use Rattle.abi_calc.proofs.EnumLemmas.EnumExtent.{several_some}
 use Rattle.abi_tree.specs.declared.mark.Mark.{Mark}
 use Rattle.abi_tree.specs.declared.mark.Mark.TheVariants.{Never, Plain, Unit}
 use Rattle.abi_tree.specs.Mark.{mark_of}
