@@ -1,4 +1,4 @@
 -- what is answered of a type
 pub mod Replies
 -- types, values and layouts as numbers
-pub mod Numbers
+pub mod NumberLemmas

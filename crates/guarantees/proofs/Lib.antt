@@ -19,4 +19,4 @@ pub mod Integers
 pub mod Enumed
 pub mod FaultsOfC
 -- the Rust Reference's chapter on type layout
-mod Reference
+mod ReferenceLemmas

@@ -1,4 +1,4 @@
-use Rattle.abi_c.proofs.Numbers.Layouts.{variants_step}
+use Rattle.abi_c.proofs.NumberLemmas.Layouts.{variants_step}
 use Rattle.abi_c.proofs.numbers.layout.write_each_variant.Goals as goal
 
 pub loop-variant-preserved : goal.loop-variant-preserved

@@ -2,7 +2,7 @@ use Rattle.std.proofs.Common.{None, Some, ap, ◌∙◌}
 use Rattle.abi_index.specs.RangeSet.{is_in_ranges}
 use Rattle.abi_tree.specs.Laid.{placed_of}
 use Rattle.abi_tree.proofs.Places.MaximalLemmas.{padding_listed}
-use Rattle.abi_c.proofs.Numbers.Layouts.{are_listed, not_listed, whole_layout}
+use Rattle.abi_c.proofs.NumberLemmas.Layouts.{are_listed, not_listed, whole_layout}
 use Rattle.abi_c.proofs.numbers.layout.write_layout.Goals as goal
 
 pub returns-then-bytes-gt-MOST_LISTED : goal.returns-then-bytes-gt-MOST_LISTED

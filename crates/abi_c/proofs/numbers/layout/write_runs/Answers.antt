@@ -1,4 +1,4 @@
-use Rattle.abi_c.proofs.Numbers.Layouts.{pairs_step}
+use Rattle.abi_c.proofs.NumberLemmas.Layouts.{pairs_step}
 use Rattle.abi_c.proofs.numbers.layout.write_runs.Goals as goal
 
 pub loop-run-preserved : goal.loop-run-preserved

@@ -4,8 +4,8 @@ use Rattle.std.proofs.lemmas.Result.{IfOk-weaker}
 use Rattle.abi_tree.specs.Tree.{tree_of, enum}
 use Rattle.abi_c.specs.Numbers.Pieces.{◌>>=◌, front_list}
 use Rattle.abi_c.specs.Numbers.FrontTree.{front_of_kind, front_tree, front_variant, variant_kept, variants_of_items}
-use Rattle.abi_c.proofs.Numbers.Many.{passed, so_far-more, so_far-none}
-use Rattle.abi_c.proofs.Numbers.Trees.{enum_tree, front_tree-step}
+use Rattle.abi_c.proofs.NumberLemmas.Many.{passed, so_far-more, so_far-none}
+use Rattle.abi_c.proofs.NumberLemmas.Trees.{enum_tree, front_tree-step}
 use Rattle.abi_c.proofs.numbers.tree.+read.Goals as goal
 
 pub read_each-returns-in_err-tree-clause-err : goal.read_each-returns-in_err-tree-clause-err

@@ -1,7 +1,7 @@
 use Rattle.std.proofs.Common.{◌+◌, ◌*◌, drop, map}
 use Rattle.abi_tree.specs.Tree.{tree_of}
 use Rattle.abi_c.specs.Numbers.FrontTree.{front_tree, front_variant, variant_kept}
-use Rattle.abi_c.proofs.Numbers.Many.{SoFar}
+use Rattle.abi_c.proofs.NumberLemmas.Many.{SoFar}
 use Rattle.abi_c.proofs.numbers.tree.+read.Given as goal
 
 abbrev pub invariant-read_each-loop : goal.invariant-read_each-loop

@@ -1,9 +1,9 @@
 use Rattle.abi_tree.specs.Tree.{tree_of}
 use Rattle.abi_c.specs.Numbers.FlatTree.{flat_tree, IsReadable}
 use Rattle.abi_c.specs.Numbers.FrontTree.{front_tree}
-use Rattle.abi_c.proofs.Numbers.Back.{tree_back}
-use Rattle.abi_c.proofs.Numbers.Sound.{tree_sound}
-use Rattle.abi_c.proofs.Numbers.Whole.{all_read, none_read, only_read, rest_read}
+use Rattle.abi_c.proofs.NumberLemmas.Back.{tree_back}
+use Rattle.abi_c.proofs.NumberLemmas.Sound.{tree_sound}
+use Rattle.abi_c.proofs.NumberLemmas.Whole.{all_read, none_read, only_read, rest_read}
 use Rattle.abi_c.proofs.numbers.tree.read_tree.Goals as goal
 
 pub returns-in_err-tree-clause-unreadable : goal.returns-in_err-tree-clause-unreadable

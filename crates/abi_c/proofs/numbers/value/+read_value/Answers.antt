@@ -4,8 +4,8 @@ use Rattle.std.proofs.lemmas.Result.{IfOk-weaker}
 use Rattle.abi_tree.specs.Value.{value_of}
 use Rattle.abi_c.specs.Numbers.Pieces.{◌>>=◌}
 use Rattle.abi_c.specs.Numbers.FrontValue.{front_of_value_kind, front_value}
-use Rattle.abi_c.proofs.Numbers.Many.{passed, so_far-more, so_far-none}
-use Rattle.abi_c.proofs.Numbers.ValueBack.{front_value-step}
+use Rattle.abi_c.proofs.NumberLemmas.Many.{passed, so_far-more, so_far-none}
+use Rattle.abi_c.proofs.NumberLemmas.ValueBack.{front_value-step}
 use Rattle.abi_c.proofs.numbers.value.+read_value.Goals as goal
 
 pub read_values-returns-in_err-value-clause-err : goal.read_values-returns-in_err-value-clause-err

@@ -1,7 +1,7 @@
 use Rattle.std.proofs.Common.{◌+◌, ◌*◌, drop, map}
 use Rattle.abi_tree.specs.Value.{value_of}
 use Rattle.abi_c.specs.Numbers.FrontValue.{front_value}
-use Rattle.abi_c.proofs.Numbers.Many.{SoFar}
+use Rattle.abi_c.proofs.NumberLemmas.Many.{SoFar}
 use Rattle.abi_c.proofs.numbers.value.+read_value.Given as goal
 
 abbrev pub invariant-read_values-loop : goal.invariant-read_values-loop

@@ -1,7 +1,7 @@
 use Rattle.std.proofs.Common.{drop}
 use Rattle.abi_c.specs.Numbers.Pieces.{front_as}
 use Rattle.abi_c.specs.Numbers.FrontValue.{byte_numbered}
-use Rattle.abi_c.proofs.Numbers.Many.{passed, so_far-more, so_far-none}
+use Rattle.abi_c.proofs.NumberLemmas.Many.{passed, so_far-more, so_far-none}
 use Rattle.abi_c.proofs.numbers.value.read_bytes.Goals as goal
 
 pub returns-in_err-byte-clause-err : goal.returns-in_err-byte-clause-err

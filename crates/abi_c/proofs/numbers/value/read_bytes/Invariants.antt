@@ -1,7 +1,7 @@
 use Rattle.std.proofs.Common.{drop}
 use Rattle.abi_c.specs.Numbers.Pieces.{front_as}
 use Rattle.abi_c.specs.Numbers.FrontValue.{byte_numbered}
-use Rattle.abi_c.proofs.Numbers.Many.{SoFar}
+use Rattle.abi_c.proofs.NumberLemmas.Many.{SoFar}
 use Rattle.abi_c.proofs.numbers.value.read_bytes.Given as goal
 
 abbrev pub invariant-loop : goal.invariant-loop

@@ -1,8 +1,8 @@
 use Rattle.abi_tree.specs.Value.{value_of}
 use Rattle.abi_c.specs.Numbers.FlatValue.{flat_value, IsReadableValue}
 use Rattle.abi_c.specs.Numbers.FrontValue.{front_value}
-use Rattle.abi_c.proofs.Numbers.ValueBack.{value_back, value_sound}
-use Rattle.abi_c.proofs.Numbers.Whole.{all_read, none_read, only_read, rest_read}
+use Rattle.abi_c.proofs.NumberLemmas.ValueBack.{value_back, value_sound}
+use Rattle.abi_c.proofs.NumberLemmas.Whole.{all_read, none_read, only_read, rest_read}
 use Rattle.abi_c.proofs.numbers.value.read_flat_value.Goals as goal
 
 pub returns-in_err-value-clause-unreadable : goal.returns-in_err-value-clause-unreadable

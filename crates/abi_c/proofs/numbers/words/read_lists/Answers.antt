@@ -1,7 +1,7 @@
 use Rattle.std.proofs.Common.{drop, map}
 use Rattle.std.proofs.lemmas.List.{map-append}
 use Rattle.abi_c.specs.Numbers.Pieces.{front_words, list_kept}
-use Rattle.abi_c.proofs.Numbers.Many.{passed, so_far-more, so_far-none}
+use Rattle.abi_c.proofs.NumberLemmas.Many.{passed, so_far-more, so_far-none}
 use Rattle.abi_c.proofs.numbers.words.read_lists.Goals as goal
 
 pub returns-in_err-list-clause-err : goal.returns-in_err-list-clause-err

@@ -1,6 +1,6 @@
 use Rattle.std.proofs.Common.{drop, map}
 use Rattle.abi_c.specs.Numbers.Pieces.{front_words, list_kept}
-use Rattle.abi_c.proofs.Numbers.Many.{SoFar}
+use Rattle.abi_c.proofs.NumberLemmas.Many.{SoFar}
 use Rattle.abi_c.proofs.numbers.words.read_lists.Given as goal
 
 abbrev pub invariant-loop : goal.invariant-loop

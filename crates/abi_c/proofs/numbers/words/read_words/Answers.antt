@@ -1,6 +1,6 @@
 use Rattle.std.proofs.Common.{drop}
 use Rattle.abi_c.specs.Numbers.Pieces.{front_word}
-use Rattle.abi_c.proofs.Numbers.Many.{passed, so_far-more, so_far-none}
+use Rattle.abi_c.proofs.NumberLemmas.Many.{passed, so_far-more, so_far-none}
 use Rattle.abi_c.proofs.numbers.words.read_words.Goals as goal
 
 pub returns-in_err-word-clause-err : goal.returns-in_err-word-clause-err

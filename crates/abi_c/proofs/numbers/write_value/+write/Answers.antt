@@ -1,4 +1,4 @@
-use Rattle.abi_c.proofs.Numbers.ValueSteps.{values_end, values_step}
+use Rattle.abi_c.proofs.NumberLemmas.ValueSteps.{values_end, values_step}
 use Rattle.abi_c.proofs.numbers.write_value.+write.Goals as goal
 
 pub write_each-loop-value-preserved : goal.write_each-loop-value-preserved

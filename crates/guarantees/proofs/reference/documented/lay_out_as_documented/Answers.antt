@@ -14,22 +14,22 @@ use Rattle.guarantees.specs.Reference.Primitive.{IsAlignedBySize, IsSignless, Is
 use Rattle.guarantees.specs.Reference.RustLayout.{IsAligned, IsApart}
 use Rattle.guarantees.specs.Reference.Tags.{HasEnumsOfIndex}
 use Rattle.guarantees.specs.Reference.Transparent.{IsTransparent}
-use Rattle.guarantees.proofs.Reference.Align.{only_raised, only_wide}
-use Rattle.guarantees.proofs.Reference.AlignFree.{only_raised_enum}
-use Rattle.guarantees.proofs.Reference.Arrays.{laid_array}
-use Rattle.guarantees.proofs.Reference.Beside.{laid_addresses, laid_signless, laid_thin, laid_wide}
-use Rattle.guarantees.proofs.Reference.CEnums.{laid_c_enum}
-use Rattle.guarantees.proofs.Reference.CStructs.{laid_c_struct, laid_packed_c}
-use Rattle.guarantees.proofs.Reference.CTags.{laid_c_tag}
-use Rattle.guarantees.proofs.Reference.Everywhere.{each_beside, each_beside_if, each_inner_if, each_known, each_laid, each_laid_if, each_lawful, each_lawful_if, each_only, each_ordered}
-use Rattle.guarantees.proofs.Reference.Options.{known_none, known_size, known_some}
-use Rattle.guarantees.proofs.Reference.PrimitiveEnums.{laid_primitive_enum}
-use Rattle.guarantees.proofs.Reference.Rust.{known_apart, known_packed}
-use Rattle.guarantees.proofs.Reference.Transparents.{known_transparent}
-use Rattle.guarantees.proofs.Reference.Variants.{known_aligned}
-use Rattle.guarantees.proofs.Reference.Small.{laid_by_size, laid_c_union, laid_scalar, laid_unit}
-use Rattle.guarantees.proofs.Reference.Sections.{given}
-use Rattle.guarantees.proofs.Reference.Sections as sections
+use Rattle.guarantees.proofs.ReferenceLemmas.Align.{only_raised, only_wide}
+use Rattle.guarantees.proofs.ReferenceLemmas.AlignFree.{only_raised_enum}
+use Rattle.guarantees.proofs.ReferenceLemmas.Arrays.{laid_array}
+use Rattle.guarantees.proofs.ReferenceLemmas.Beside.{laid_addresses, laid_signless, laid_thin, laid_wide}
+use Rattle.guarantees.proofs.ReferenceLemmas.CEnums.{laid_c_enum}
+use Rattle.guarantees.proofs.ReferenceLemmas.CStructs.{laid_c_struct, laid_packed_c}
+use Rattle.guarantees.proofs.ReferenceLemmas.CTags.{laid_c_tag}
+use Rattle.guarantees.proofs.ReferenceLemmas.Everywhere.{each_beside, each_beside_if, each_inner_if, each_known, each_laid, each_laid_if, each_lawful, each_lawful_if, each_only, each_ordered}
+use Rattle.guarantees.proofs.ReferenceLemmas.Options.{known_none, known_size, known_some}
+use Rattle.guarantees.proofs.ReferenceLemmas.PrimitiveEnums.{laid_primitive_enum}
+use Rattle.guarantees.proofs.ReferenceLemmas.Rust.{known_apart, known_packed}
+use Rattle.guarantees.proofs.ReferenceLemmas.Transparents.{known_transparent}
+use Rattle.guarantees.proofs.ReferenceLemmas.Variants.{known_aligned}
+use Rattle.guarantees.proofs.ReferenceLemmas.Small.{laid_by_size, laid_c_union, laid_scalar, laid_unit}
+use Rattle.guarantees.proofs.ReferenceLemmas.Sections.{given}
+use Rattle.guarantees.proofs.ReferenceLemmas.Sections as sections
 use Rattle.guarantees.specs.Reference.Chapter.{LiesAs}
 use Rattle.guarantees.proofs.reference.documented.lay_out_as_documented.Goals as goal
 
