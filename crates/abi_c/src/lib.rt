@@ -12,8 +12,8 @@ mod values;
 
 ghost use Rattle.std.specs.Prelude.{◌≡◌, ℕ, List};
 ghost use Rattle.abi_text.specs.Output.{IsOutputOf, Output};
-ghost use Rattle.abi_text.specs.Telling.{TellsLayout};
-ghost use Rattle.abi_map.specs.Map.{TellsMap};
+ghost use Rattle.abi_text.specs.Report.{ReportsLayout};
+ghost use Rattle.abi_map.specs.Map.{ReportsMap};
 ghost use Rattle.abi_c.specs.Flat.{IsLayoutReply, IsLentReply};
 ghost use Rattle.abi_c.specs.FlatValues.{IsReadOf, IsReplyOfLaid, IsWrittenOf};
 ghost use Rattle.abi_c.specs.Lent.{IsLentAnswer};
@@ -22,12 +22,12 @@ use crate::flat::answer_numbers;
 use crate::lend::lend;
 use crate::values::{answer_read, answer_write};
 use abi_map::MapText;
-use abi_text::{LayoutText, Telling, answer_input};
+use abi_text::{LayoutText, Report, answer_input};
 use std::alloc::Global;
 
 /// Lends the answer to an input, whose type is printed as `T` says, and answers its status.
-fn answer_text<T: Telling>(alloc: Global, input: &[u8], output: &mut [u8], needed: &mut usize) -> u8
-    ensures { IsLentAnswer (IsOutputOf T.tells input.now) result output.old output.new needed.new }
+fn answer_text<T: Report>(alloc: Global, input: &[u8], output: &mut [u8], needed: &mut usize) -> u8
+    ensures { IsLentAnswer (IsOutputOf T.reports input.now) result output.old output.new needed.new }
 {
     match answer_input::<T>(alloc, input) {
         Ok(answer) => {
@@ -53,9 +53,9 @@ pub extern "C" fn abi_c_layout(
     output: &mut [u8],
     needed: &mut usize,
 ) -> u8
-    ensures answered { IsLentAnswer (IsOutputOf TellsLayout input.now) result output.old output.new needed.new }
-    ensures some { (all : List ℕ) → (o : Output) × IsOutputOf TellsLayout all o }
-    ensures one { (all : List ℕ) (a b : Output) → IsOutputOf TellsLayout all a → IsOutputOf TellsLayout all b → a ≡ b }
+    ensures answered { IsLentAnswer (IsOutputOf ReportsLayout input.now) result output.old output.new needed.new }
+    ensures some { (all : List ℕ) → (o : Output) × IsOutputOf ReportsLayout all o }
+    ensures one { (all : List ℕ) (a b : Output) → IsOutputOf ReportsLayout all a → IsOutputOf ReportsLayout all b → a ≡ b }
 {
     answer_text::<LayoutText>(alloc, input, output, needed)
 }
@@ -68,9 +68,9 @@ pub extern "C" fn abi_c_map(
     output: &mut [u8],
     needed: &mut usize,
 ) -> u8
-    ensures answered { IsLentAnswer (IsOutputOf TellsMap input.now) result output.old output.new needed.new }
-    ensures some { (all : List ℕ) → (o : Output) × IsOutputOf TellsMap all o }
-    ensures one { (all : List ℕ) (a b : Output) → IsOutputOf TellsMap all a → IsOutputOf TellsMap all b → a ≡ b }
+    ensures answered { IsLentAnswer (IsOutputOf ReportsMap input.now) result output.old output.new needed.new }
+    ensures some { (all : List ℕ) → (o : Output) × IsOutputOf ReportsMap all o }
+    ensures one { (all : List ℕ) (a b : Output) → IsOutputOf ReportsMap all a → IsOutputOf ReportsMap all b → a ≡ b }
 {
     answer_text::<MapText>(alloc, input, output, needed)
 }

@@ -4,7 +4,9 @@ use crate::command::{Command, WordSpan};
 use crate::stop::{Name, Refusal};
 use abi_base::{Align, Integer, Primitive, Size, TargetDataLayout};
 use abi_scalar::{ReprOptions, Scalar};
-use abi_text::{Fault, StructRepr, decimal, next_word, read_type, short, struct_repr, wide};
+use abi_text::{
+    Fault, StructRepr, decimal, next_word, number_u32, number_u128, read_type, struct_repr,
+};
 use abi_tree::TypeTree;
 
 /// What the word stands for by a table, if it is there.
@@ -179,7 +181,7 @@ impl Command {
 
     /// A number of 32 bits.
     pub(crate) fn short(&mut self) -> u32 {
-        let read = short(self.word());
+        let read = number_u32(self.word());
         self.fits(read, 0)
     }
 
@@ -195,7 +197,7 @@ impl Command {
 
     /// A number of 128 bits.
     pub(crate) fn wide_number(&mut self) -> u128 {
-        let read = wide(self.word());
+        let read = number_u128(self.word());
         self.fits(read, 0)
     }
 

@@ -2,7 +2,7 @@
 
 use crate::command::{Command, meaning_of};
 use crate::stop::{Name, Refusal};
-use abi_text::wide;
+use abi_text::number_u128;
 use rustc_abi::Value;
 use std::alloc::Global;
 
@@ -84,7 +84,7 @@ const VALUE_WORDS: [(&[u8], ValueWord); 5] = [
 fn value_word(word: &[u8]) -> Option<ValueWord> {
     match meaning_of(&VALUE_WORDS, word) {
         Some(begun) => Some(begun),
-        None => Some(ValueWord::Num(wide(word)?)),
+        None => Some(ValueWord::Num(number_u128(word)?)),
     }
 }
 
