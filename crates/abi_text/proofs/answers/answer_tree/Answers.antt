@@ -35,5 +35,5 @@ returns-in-Ok g c =
 pub returns-in-Err : goal.returns-in-Err
 returns-in-Err g c =
     IfOk-weaker c.answer_error.result _ _
-    (λ a is. report_text g.T.Report.reports c.args.dl.now (tree_of c.args.tree.now) c.in-Err.error c.in-Err.ensures.refusal is.0 (answered_by a) is.1)
+    (λ a is. report_text g.T.Report.reports c.args.dl.now (tree_of c.args.tree.now) c.in-Err.error c.in-Err.ensures.refused is.0 (answered_by a) is.1)
     c.answer_error.ensures
