@@ -16,11 +16,11 @@ use crate::reader::cursor::{
     Cursor, expect, expect_comma, fault, is_done, is_lifetime, is_next, is_pair, next_kind, pass,
     pass_tree, place, take, take_group, take_pair, take_word,
 };
+use crate::reader::depth::{most_nested, one_level_deeper};
 use crate::reader::expressions::read_whole;
 use crate::reader::naming::is_path_name;
 use crate::reader::passing::{pass_angles, pass_bounds};
 use crate::reader::paths::read_path;
-use crate::reader::room::{less, most_nested};
 use crate::syntax::{Path, Type, Unevaluated};
 use crate::tokens::keyword::Keyword;
 use crate::tokens::token::{Bracket, TokenKind};
@@ -234,7 +234,7 @@ pub(crate) fn begins_path(cursor: &Cursor<'_>) -> bool
 
 /// A type. Types and expressions may stand in `room` others here.
 #[cycle(terms)]
-#[tactic(auto, using(crate::proofs::Rooms::type_less, crate::proofs::Rooms::type_none))]
+#[tactic(auto, using(crate::proofs::Depths::type_less, crate::proofs::Depths::type_none))]
 pub(crate) fn read_type(
     names: &mut Names,
     cursor: &mut Cursor<'_>,
@@ -243,7 +243,7 @@ pub(crate) fn read_type(
     ensures { Reads (λ ty. (type_of ty, cursor.new)) (type_read room cursor.old (texts names.old))
         (texts names.new) result }
 {
-    let room = less(cursor, room)?;
+    let room = one_level_deeper(cursor, room)?;
     read_pointed(names, cursor, room)
 }
 
@@ -307,7 +307,7 @@ fn push_type(all: &mut Vec<Type>, one: Type) -> Result<(), SourceFault>
 
 /// The type that stands in parentheses.
 #[cycle(terms)]
-#[tactic(auto, unfolding(crate::specs::Terms::tuple_read), using(crate::proofs::Rooms::tuple_more, crate::proofs::Rooms::tuple_done))]
+#[tactic(auto, unfolding(crate::specs::Terms::tuple_read), using(crate::proofs::Depths::tuple_more, crate::proofs::Depths::tuple_done))]
 fn read_tuple(names: &mut Names, inside: &mut Cursor<'_>, room: u32) -> Result<Type, SourceFault>
     ensures { Reads type_of (tuple_read (readers room) inside.old (texts names.old))
         (texts names.new) result }
