@@ -19,6 +19,7 @@ mod paths;
 mod repeated;
 mod repr;
 mod room;
+mod signatures;
 mod types;
 mod uses;
 mod visibility;

@@ -47,6 +47,7 @@ fn item_in(standing: Standing, said: &Attributes, one: Written) -> Item
         parameters: head.parameters,
         repr: said.repr,
         valid_range: said.valid_range,
+        derives_copy: said.derives_copy,
         unknown_attribute: said.unknown,
         kind,
     }
