@@ -1,4 +1,4 @@
--- Worked facts: alignments at the limit of 2 ^ 29 bytes, and the error that tells each fault.
+-- Worked facts: alignments at the limit of 2 ^ 29 bytes, and the error that names each fault.
 use Rattle.std.proofs.Common.{◌≡◌, ℕ, ◌+◌, ◌^◌, ◌≤◌, List, [], ◌∷◌, false, Ok, Err, refl, arith, rules}
 use Rattle.std.specs.Int.Count.{count_trailing_zeros}
 use Rattle.std.proofs.lemmas.List.Elements.{All-from_recursion}
@@ -10,7 +10,7 @@ use Rattle.abi_base.specs.declared.parse_number.NumberError.{NumberError}
 use Rattle.abi_base.specs.declared.parse_error.TargetDataLayoutError.TheVariants.{InvalidAddressSpace, InvalidBits, MissingAlignment, InvalidAlignment, UnknownPointerSpecification}
 use Rattle.abi_base.specs.Align.{align_of_bytes, max_exponent}
 use Rattle.abi_base.specs.DataLayout.{IsLawfulDataLayout, alignments_of, default_data_layout}
-use Rattle.abi_base.specs.DataLayoutFault.{bad_alignment, bad_bits, bad_space, missing_alignment, unknown_pointer, TellsFault}
+use Rattle.abi_base.specs.DataLayoutFault.{bad_alignment, bad_bits, bad_space, missing_alignment, unknown_pointer, NamesFault}
 use Rattle.abi_base.proofs.Laws.{lawful_default}
 
 -- ---- numbers of bytes that are alignments
@@ -72,31 +72,31 @@ vectors_above l = let high : 30 ≤ 29 = l.limit 12 0 (search rules) in omega ar
 pub spaces_above : IsLawfulDataLayout (spaces_at 30) → ⊥
 spaces_above l = let high : 30 ≤ 29 = l.limit 14 0 (search rules) in omega arith
 
--- ---- each fault, and the error that tells it
+-- ---- each fault, and the error that names it
 
 module _ (kind text cause : Bor (List ℕ)) (number : NumberError) (align : AlignFromBytesError) where
-  pub space_named : TellsFault {A = ℕ} (Err (bad_space text.now cause.now number)) (InvalidAddressSpace text cause number)
+  pub space_named : NamesFault {A = ℕ} (Err (bad_space text.now cause.now number)) (InvalidAddressSpace text cause number)
   space_named = refl
 
-  pub bits_named : TellsFault {A = ℕ} (Err (bad_bits kind.now text.now cause.now number)) (InvalidBits kind text cause number)
+  pub bits_named : NamesFault {A = ℕ} (Err (bad_bits kind.now text.now cause.now number)) (InvalidBits kind text cause number)
   bits_named = refl
 
-  pub missing_named : TellsFault {A = ℕ} (Err (missing_alignment cause.now)) (MissingAlignment cause)
+  pub missing_named : NamesFault {A = ℕ} (Err (missing_alignment cause.now)) (MissingAlignment cause)
   missing_named = refl
 
-  pub alignment_named : TellsFault {A = ℕ} (Err (bad_alignment cause.now align)) (InvalidAlignment cause align)
+  pub alignment_named : NamesFault {A = ℕ} (Err (bad_alignment cause.now align)) (InvalidAlignment cause align)
   alignment_named = refl
 
-  pub pointer_named : TellsFault {A = ℕ} (Err (unknown_pointer text.now)) (UnknownPointerSpecification text)
+  pub pointer_named : NamesFault {A = ℕ} (Err (unknown_pointer text.now)) (UnknownPointerSpecification text)
   pointer_named = refl
 
   -- and not another
-  pub bits_no_space : TellsFault {A = ℕ} (Err (bad_bits kind.now text.now cause.now number)) (InvalidAddressSpace text cause number) → ⊥
+  pub bits_no_space : NamesFault {A = ℕ} (Err (bad_bits kind.now text.now cause.now number)) (InvalidAddressSpace text cause number) → ⊥
   bits_no_space e = (cc)
 
-  pub alignment_no_lack : TellsFault {A = ℕ} (Err (bad_alignment cause.now align)) (MissingAlignment cause) → ⊥
+  pub alignment_no_lack : NamesFault {A = ℕ} (Err (bad_alignment cause.now align)) (MissingAlignment cause) → ⊥
   alignment_no_lack e = (cc)
 
   -- nor by an error where there is no fault
-  pub none_named : (n : ℕ) → TellsFault (Ok n) (MissingAlignment cause) → ⊥
+  pub none_named : (n : ℕ) → NamesFault (Ok n) (MissingAlignment cause) → ⊥
   none_named n e = (cc)

@@ -4,7 +4,7 @@ use Rattle.std.specs.Prelude.{not, codes}
 use Rattle.std.specs.Str.{bytes_eq}
 use Rattle.abi_base.specs.declared.endian.Endian.TheVariants.{Little, Big}
 use Rattle.abi_base.specs.declared.setting.AlignedWord.{AlignedWord}
-use Rattle.abi_base.specs.DataLayoutSpec.{order, instructions, aligned, pointer, integer, vector, ignored, aligned_word, begins, has_parts, lettered_row, spec_parts, row_of_spec, setting_in, setting_of}
+use Rattle.abi_base.specs.DataLayoutSpec.{order, instructions, aligned_spec, pointer, integer, vector, ignored, aligned_word, begins, has_parts, lettered_row, spec_parts, row_of_spec, setting_in, setting_of}
 
 -- a spec, by its first part and the others
 pub setting_first : (spec word : List ℕ) (parts : List (List ℕ)) → spec_parts 58 spec ≡ word ∷ parts → setting_of spec ≡ setting_in (row_of_spec word parts)
@@ -42,7 +42,7 @@ module _ (word : List ℕ) (parts : List (List ℕ)) where
   row_instructions l b p = rw (l, b, p) refl
 
   pub row_aligned : (named : AlignedWord) → not (has_parts parts) && bytes_eq word (codes "e") ≡ false → not (has_parts parts) && bytes_eq word (codes "E") ≡ false
-      → not (has_parts parts) && begins 80 word ≡ false → aligned_word word ≡ Some named → row_of_spec word parts ≡ aligned named word parts
+      → not (has_parts parts) && begins 80 word ≡ false → aligned_word word ≡ Some named → row_of_spec word parts ≡ aligned_spec named word parts
   unfolding row_of_spec
   row_aligned named l b p a = rw (l, b, p, a) refl
 

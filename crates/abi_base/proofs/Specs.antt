@@ -8,7 +8,7 @@ use Rattle.abi_base.specs.declared.parse_error.TargetDataLayoutError.TheVariants
 use Rattle.std.specs.Prelude.{codes}
 use Rattle.std.specs.Int.{div_ceil}
 use Rattle.abi_base.specs.Align.{align_of_bytes}
-use Rattle.abi_base.specs.DataLayoutFault.{Fault, bad_space, bad_bits, missing_alignment, bad_alignment, unknown_pointer, IsReading, TellsFault}
+use Rattle.abi_base.specs.DataLayoutFault.{Fault, bad_space, bad_bits, missing_alignment, bad_alignment, unknown_pointer, IsReading, NamesFault}
 use Rattle.abi_base.specs.DataLayoutSpec.{◌>>=◌, alignment_in, begins, begins_alphabetic, bits_in, has_parts, or_fault, spec_parts, pointer_setting, pointers_in, setting_of, space_text, settings_of}
 use Rattle.abi_base.specs.DataLayoutText.{data_layout_in, default_with, with_instructions, with_settings}
 
@@ -17,7 +17,7 @@ abbrev pub answer_from : TargetDataLayout → (least : ℕ) → List (List ℕ) 
 answer_from dl least specs = settings_of specs >>= λ ss. Ok (with_instructions (with_settings dl least ss))
 
 -- a fault that is told of a part is told of the whole
-pub told : {A B : Type 0} (a : Result A Fault) (b : Result B Fault) (e : TargetDataLayoutError) → TellsFault a e → ((f : Fault) → a ≡ Err f → b ≡ Err f) → TellsFault b e
+pub told : {A B : Type 0} (a : Result A Fault) (b : Result B Fault) (e : TargetDataLayoutError) → NamesFault a e → ((f : Fault) → a ≡ Err f → b ≡ Err f) → NamesFault b e
 told a b (InvalidAddressSpace text cause err) h k = k (bad_space text.now cause.now err) h
 told a b (InvalidBits kind text cause err) h k = k (bad_bits kind.now text.now cause.now err) h
 told a b (MissingAlignment cause) h k = k (missing_alignment cause.now) h
@@ -29,7 +29,7 @@ told a b (InvalidBitsSize err) h k = absurd h
 told a b OutOfMemory h k = tt
 
 -- an error that is passed on
-pub refused : {A B : Type 0} (a : Result A Fault) (b : Result B Fault) (e : TargetDataLayoutError) (r : Result B TargetDataLayoutError) → TellsFault a e → ((f : Fault) → a ≡ Err f → b ≡ Err f) → r ≡ Err e → IsReading b r
+pub refused : {A B : Type 0} (a : Result A Fault) (b : Result B Fault) (e : TargetDataLayoutError) (r : Result B TargetDataLayoutError) → NamesFault a e → ((f : Fault) → a ≡ Err f → b ≡ Err f) → r ≡ Err e → IsReading b r
 refused a b e r h k is = rw is (told a b e h k)
 
 -- a reading of one answer is a reading of an equal one
@@ -84,5 +84,5 @@ unfolding data_layout_in
 at_first dl space text e = ap (λ (d : TargetDataLayout). answer_from d 64 (spec_parts 45 text)) e
 
 -- an error that is passed on
-pub err_passes : {A B : Type 0} (a : Result A Fault) (b : Result B Fault) (e : TargetDataLayoutError) (r : Result B TargetDataLayoutError) → TellsFault a e → ((f : Fault) → a ≡ Err f → b ≡ Err f) → r ≡ Err e → IfErr r (TellsFault b)
+pub err_passes : {A B : Type 0} (a : Result A Fault) (b : Result B Fault) (e : TargetDataLayoutError) (r : Result B TargetDataLayoutError) → NamesFault a e → ((f : Fault) → a ≡ Err f → b ≡ Err f) → r ≡ Err e → IfErr r (NamesFault b)
 err_passes a b e r h k is = rw is (told a b e h k)

@@ -65,7 +65,7 @@ pub sixth_part : data_layout_in (record { 0 = 0 }) (codes "p:32:32:32:16:8") ≡
 unfolding data_layout_in settings_of setting_of row_of_spec lettered_row setting_in pointer_setting pointers_in pointer_space alignment_in bits_in size_written number_answer chars count_trailing_zeros
 sixth_part = refl
 
--- the faults of a pointer spec, each told before those that follow it here: the space, the size, the alignment, the index
+-- the faults of a pointer spec, each reported before those that follow it here: the space, the size, the alignment, the index
 pub space_before_size : pointers_in false (codes "4294967296") (codes "x") (codes "y" ∷ []) ≡ Err (bad_space (codes "4294967296") (codes "p-") PosOverflow)
 unfolding pointers_in pointer_space space_in number_answer
 space_before_size = refl

@@ -1,4 +1,4 @@
--- What is wrong with a data layout string, and the error that tells it. Texts are lists of bytes.
+-- What is wrong with a data layout string, and the error that names it. Texts are lists of bytes.
 use Rattle.std.specs.Prelude.{◌≡◌, ℕ, ⊤, List, Result, Ok, Err}
 use Rattle.abi_base.specs.declared.align.AlignFromBytesError.{AlignFromBytesError}
 use Rattle.abi_base.specs.declared.parse_number.NumberError.{NumberError}
@@ -18,19 +18,19 @@ pub data Fault : Type 0 where
   -- letters that no pointer spec has
   unknown_pointer : (rest : List ℕ) → Fault
 
--- the error tells the fault that is the answer, or memory was wanting
-abbrev pub TellsFault : {A : Type 0} → Result A Fault → TargetDataLayoutError → Type 0
-TellsFault answer (InvalidAddressSpace text cause err) = answer ≡ Err (bad_space text.now cause.now err)
-TellsFault answer (InvalidBits kind text cause err) = answer ≡ Err (bad_bits kind.now text.now cause.now err)
-TellsFault answer (MissingAlignment cause) = answer ≡ Err (missing_alignment cause.now)
-TellsFault answer (InvalidAlignment cause err) = answer ≡ Err (bad_alignment cause.now err)
-TellsFault answer (UnknownPointerSpecification rest) = answer ≡ Err (unknown_pointer rest.now)
-TellsFault answer (InconsistentTargetArchitecture dl target) = ⊥
-TellsFault answer (InconsistentTargetPointerWidth pointer_size target) = ⊥
-TellsFault answer (InvalidBitsSize err) = ⊥
-TellsFault answer OutOfMemory = ⊤
+-- the error names the fault that is the answer, or memory ran out
+abbrev pub NamesFault : {A : Type 0} → Result A Fault → TargetDataLayoutError → Type 0
+NamesFault answer (InvalidAddressSpace text cause err) = answer ≡ Err (bad_space text.now cause.now err)
+NamesFault answer (InvalidBits kind text cause err) = answer ≡ Err (bad_bits kind.now text.now cause.now err)
+NamesFault answer (MissingAlignment cause) = answer ≡ Err (missing_alignment cause.now)
+NamesFault answer (InvalidAlignment cause err) = answer ≡ Err (bad_alignment cause.now err)
+NamesFault answer (UnknownPointerSpecification rest) = answer ≡ Err (unknown_pointer rest.now)
+NamesFault answer (InconsistentTargetArchitecture dl target) = ⊥
+NamesFault answer (InconsistentTargetPointerWidth pointer_size target) = ⊥
+NamesFault answer (InvalidBitsSize err) = ⊥
+NamesFault answer OutOfMemory = ⊤
 
--- the result is the answer, want of memory aside
+-- the result is the answer, Memory aside
 abbrev pub IsReading : {A : Type 0} → Result A Fault → Result A TargetDataLayoutError → Type 0
 IsReading answer (Ok x) = answer ≡ Ok x
-IsReading answer (Err error) = TellsFault answer error
+IsReading answer (Err error) = NamesFault answer error

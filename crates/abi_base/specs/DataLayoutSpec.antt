@@ -43,7 +43,7 @@ abbrev pub ◌>>=◌ : {A B : Type 0} → Result A Fault → (A → Result B Fau
 (Ok x) >>= f = f x
 (Err fault) >>= f = Err fault
 
--- the answer, its error told as a fault
+-- the answer, its error as a fault
 abbrev pub or_fault : {A E : Type 0} → (E → Fault) → Result A E → Result A Fault
 or_fault tell (Ok x) = Ok x
 or_fault tell (Err e) = Err (tell e)
@@ -78,7 +78,7 @@ pub data Row : Type 0 where
   -- the space of functions
   instructions : (space : List ℕ) → Row
   -- the alignment of lists of fields, or of a float
-  aligned : AlignedWord → (word : List ℕ) → (parts : List (List ℕ)) → Row
+  aligned_spec : AlignedWord → (word : List ℕ) → (parts : List (List ℕ)) → Row
   -- pointers: what follows the `p`, and the parts after
   pointer : (rest : List ℕ) → (parts : List (List ℕ)) → Row
   -- an integer's alignment
@@ -111,7 +111,7 @@ lettered_row word parts =
 
 -- the row of a spec that begins with a word, behind which an alignment stands
 abbrev pub aligned_row : Option AlignedWord → (word : List ℕ) → (parts : List (List ℕ)) → Row
-aligned_row (Some named) word parts = aligned named word parts
+aligned_row (Some named) word parts = aligned_spec named word parts
 aligned_row None word parts = lettered_row word parts
 
 -- the row of a spec, by its first part and the others: the first that fits
@@ -135,7 +135,7 @@ abbrev pub index_text : (size : List ℕ) → (parts : List (List ℕ)) → List
 index_text size (align ∷ preferred ∷ index ∷ []) = index
 index_text size parts = size
 
--- pointers of a space, in the order in which faults are told
+-- pointers of a space, in the order in which faults are reported
 unfoldable pub pointers_in : (fat : Bool) → (space size : List ℕ) → (parts : List (List ℕ)) → Result Setting Fault
 pointers_in fat space size parts = do
   number ← pointer_space space
@@ -157,7 +157,7 @@ setting_in (order endian) = Ok (Order endian)
 setting_in (instructions space) = do
   number ← space_in space (codes "P")
   Ok (Instructions number)
-setting_in (aligned named word parts) = do
+setting_in (aligned_spec named word parts) = do
   align ← alignment_in parts word
   Ok (Aligned named align)
 setting_in (pointer rest parts) = pointer_setting rest parts

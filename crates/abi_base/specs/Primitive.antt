@@ -30,7 +30,7 @@ abbrev pub IsLawfulPrimitive : TargetDataLayout → Primitive → Type 0
 IsLawfulPrimitive dl (Pointer space) = HasLawfulPointer dl space
 IsLawfulPrimitive dl _ = ⊤
 
--- its name; a pointer's tells the space where that is not 0
+-- its name; a pointer's says the space where that is not 0
 abbrev pub primitive_text : Primitive → List ℕ
 primitive_text (Int integer signed) = integer_text integer signed
 primitive_text (Float float) = float_text float

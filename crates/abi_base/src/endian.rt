@@ -71,7 +71,7 @@ impl Display for UnknownEndian {
 
 impl Error for UnknownEndian {}
 
-/// The same with the text, which the error tells when it is printed.
+/// The same with the text, which the error names when it is printed.
 #[derive(Clone, Copy, PartialEq, Eq, Debug)]
 pub struct UnknownEndianText<'a> {
     /// The text that was read.

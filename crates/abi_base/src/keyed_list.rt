@@ -102,7 +102,7 @@ impl<K: PartialEq + Copy, V: Copy> KeyedList<K, V> {
     }
 
     /// The value of the key replaced, or added last.
-    pub(crate) fn put(&mut self, key: K, value: V) -> Result<(), AllocError>
+    pub(crate) fn insert(&mut self, key: K, value: V) -> Result<(), AllocError>
         ensures ok { OnOk result (self.new ≡ put_entry K.eq key value self.old) }
         ensures err { OnErr result (self.new ≡ self.old) }
     {

@@ -5,7 +5,7 @@ ghost use Rattle.std.specs.Result.{OnErr, OnOk};
 ghost use Rattle.abi_base.specs.declared.setting.Setting.{Setting};
 ghost use Rattle.abi_base.specs.declared.data_layout.TargetDataLayout.{TargetDataLayout};
 ghost use Rattle.abi_base.specs.DataLayout.{Knows};
-ghost use Rattle.abi_base.specs.DataLayoutFault.{TellsFault};
+ghost use Rattle.abi_base.specs.DataLayoutFault.{NamesFault};
 ghost use Rattle.abi_base.specs.declared.setting.Setting.TheVariants.{Aligned, Integer, Pointer};
 ghost use Rattle.abi_base.specs.DataLayoutText.{data_layout_in, default_with, with_instructions, with_settings};
 ghost use Rattle.abi_base.specs.Setting.{IsWidthOfLong, with_integer};
@@ -15,7 +15,7 @@ use crate::align::Align;
 use crate::data_layout::TargetDataLayout;
 use crate::parse_error::TargetDataLayoutError;
 use crate::parse_spec::read_spec;
-use crate::parse_text::cut;
+use crate::parse_text::split_at_mark;
 use crate::pointer_spec::PointerSpec;
 use crate::setting::{AlignedWord, Setting};
 use std::alloc::{AllocError, Global};
@@ -88,7 +88,7 @@ impl Reading {
             self.dl.default_address_space_pointer_spec = spec;
             Ok(())
         } else {
-            self.dl.address_space_info.put(space, spec)
+            self.dl.address_space_info.insert(space, spec)
         }
     }
 
@@ -106,7 +106,7 @@ impl Reading {
             Setting::Aligned(named, align) => self.set_aligned(named, align),
             Setting::Pointer(space, spec) => return self.set_pointers(space, spec),
             Setting::Integer(bits, align) => self.set_integer(bits, align),
-            Setting::Vector(size, align) => return self.dl.vector_align.put(size, align),
+            Setting::Vector(size, align) => return self.dl.vector_align.insert(size, align),
             Setting::Nothing => {}
         }
         Ok(())
@@ -154,14 +154,14 @@ impl TargetDataLayout {
         default_address_space: AddressSpace,
     ) -> Result<TargetDataLayout, TargetDataLayoutError<'a>>
         ensures ok { IfOk result (λ dl. data_layout_in default_address_space input.now ≡ Ok dl) }
-        ensures err { IfErr result (TellsFault (data_layout_in default_address_space input.now)) }
+        ensures err { IfErr result (NamesFault (data_layout_in default_address_space input.now)) }
         ensures instructions { IfOk result (λ dl. Knows dl dl.instruction_address_space) }
     {
         let dl = TargetDataLayout::default_with(alloc, default_address_space)?;
         let mut reading = Reading { dl, widest: 64 };
         let mut rest = Some(input);
         while let Some(text) = rest {
-            let (spec, more) = cut(text, '-');
+            let (spec, more) = split_at_mark(text, '-');
             let setting = read_spec(spec)?;
             reading.set(setting)?;
             rest = more;

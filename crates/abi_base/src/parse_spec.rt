@@ -4,14 +4,14 @@ ghost use Rattle.std.specs.Prelude.{◌≡◌, ◌<◌, slice_index, true};
 ghost use Rattle.std.specs.Option.{option_copied};
 ghost use Rattle.abi_base.specs.declared.endian.Endian.{Endian};
 ghost use Rattle.abi_base.specs.DataLayoutFault.{IsReading};
-ghost use Rattle.abi_base.specs.DataLayoutSpec.{aligned, aligned_word, alignment_in, begins, bits_in, index_text, instructions, integer, lettered_row, spec_parts_left, pointers_in, pointer_setting, pointer_space, space_text, setting_in, setting_of, size_written, space_in, vector};
+ghost use Rattle.abi_base.specs.DataLayoutSpec.{aligned_spec, aligned_word, alignment_in, begins, bits_in, index_text, instructions, integer, lettered_row, spec_parts_left, pointers_in, pointer_setting, pointer_space, space_text, setting_in, setting_of, size_written, space_in, vector};
 
 use crate::address_space::AddressSpace;
 use crate::align::Align;
 use crate::endian::Endian;
 use crate::parse_error::TargetDataLayoutError;
 use crate::parse_number::{number_u32, number_u64};
-use crate::parse_text::{begins, begins_alphabetic, cut, has_parts, tail};
+use crate::parse_text::{begins, begins_alphabetic, has_parts, split_at_mark, tail};
 use crate::pointer_spec::PointerSpec;
 use crate::setting::{AlignedWord, Setting};
 use crate::size::Size;
@@ -47,7 +47,7 @@ fn alignment<'a>(parts: Option<&'a str>, cause: &'a str) -> Result<Align, Target
     let Some(parts) = parts else {
         return Err(TargetDataLayoutError::MissingAlignment { cause });
     };
-    let (text, _) = cut(parts, ':');
+    let (text, _) = split_at_mark(parts, ':');
     let bits = bits("alignment", text, cause)?;
     match Align::from_bits(bits) {
         Ok(align) => Ok(align),
@@ -89,13 +89,13 @@ fn index_text<'a>(size: &'a str, parts: Option<&'a str>) -> &'a str
     let Some(parts) = parts else {
         return size;
     };
-    let (_, Some(parts)) = cut(parts, ':') else {
+    let (_, Some(parts)) = split_at_mark(parts, ':') else {
         return size;
     };
-    let (_, Some(parts)) = cut(parts, ':') else {
+    let (_, Some(parts)) = split_at_mark(parts, ':') else {
         return size;
     };
-    match cut(parts, ':') {
+    match split_at_mark(parts, ':') {
         (index, None) => index,
         (_, Some(_)) => size,
     }
@@ -149,7 +149,7 @@ fn pointer_spec<'a>(
     if begins_alphabetic(space) {
         return Err(TargetDataLayoutError::UnknownPointerSpecification { err: space });
     }
-    let (bytes, parts) = cut(parts, ':');
+    let (bytes, parts) = split_at_mark(parts, ':');
     pointers(begins(rest, 'f'), space, bytes, parts)
 }
 
@@ -171,7 +171,7 @@ fn float_word(word: &str) -> Option<AlignedWord>
     }
 }
 
-/// What a word names an alignment of. Most words are told by their first letter alone.
+/// What a word names an alignment of. Most words are given by their first letter alone.
 fn aligned_word(word: &str) -> Option<AlignedWord>
     ensures { result ≡ aligned_word word.now }
 {
@@ -193,13 +193,13 @@ fn instructions<'a>(text: &'a str) -> Result<Setting, TargetDataLayoutError<'a>>
 }
 
 /// The alignment of lists of fields, or of a float.
-fn aligned<'a>(
+fn aligned_spec<'a>(
     named: AlignedWord,
     word: &'a str,
     parts: Option<&'a str>,
 ) -> Result<Setting, TargetDataLayoutError<'a>>
     ensures { IsReading (setting_in
-        (aligned named word.now (spec_parts_left 58 (option_copied parts.entry)))) result }
+        (aligned_spec named word.now (spec_parts_left 58 (option_copied parts.entry)))) result }
 {
     let align = alignment(parts, word)?;
     Ok(Setting::Aligned(named, align))
@@ -230,7 +230,10 @@ fn vector<'a>(word: &'a str, parts: Option<&'a str>) -> Result<Setting, TargetDa
 }
 
 /// A spec whose first part is no word of its own.
-fn lettered<'a>(word: &'a str, parts: Option<&'a str>) -> Result<Setting, TargetDataLayoutError<'a>>
+fn lettered_spec<'a>(
+    word: &'a str,
+    parts: Option<&'a str>,
+) -> Result<Setting, TargetDataLayoutError<'a>>
     ensures { IsReading (setting_in
         (lettered_row word.now (spec_parts_left 58 (option_copied parts.entry)))) result }
 {
@@ -250,7 +253,7 @@ fn lettered<'a>(word: &'a str, parts: Option<&'a str>) -> Result<Setting, Target
 pub(crate) fn read_spec<'a>(spec: &'a str) -> Result<Setting, TargetDataLayoutError<'a>>
     ensures { IsReading (setting_of spec.now) result }
 {
-    let (word, parts) = cut(spec, ':');
+    let (word, parts) = split_at_mark(spec, ':');
     let alone = !has_parts(parts);
     if alone & (word == "e") {
         Ok(Setting::Order(Endian::Little))
@@ -259,8 +262,8 @@ pub(crate) fn read_spec<'a>(spec: &'a str) -> Result<Setting, TargetDataLayoutEr
     } else if alone & begins(word, 'P') {
         instructions(tail(word))
     } else if let Some(named) = aligned_word(word) {
-        aligned(named, word, parts)
+        aligned_spec(named, word, parts)
     } else {
-        lettered(word, parts)
+        lettered_spec(word, parts)
     }
 }

@@ -7,7 +7,7 @@ ghost use Rattle.abi_base.specs.DataLayoutSpec.{begins, begins_alphabetic, has_p
 use unicode::properties::is_alphabetic;
 
 /// A text's first part, up to the mark, and those that follow it, if there are any.
-pub(crate) fn cut(text: &str, mark: char) -> (&str, Option<&str>)
+pub(crate) fn split_at_mark(text: &str, mark: char) -> (&str, Option<&str>)
     requires { mark < 128 }
     ensures parts { spec_parts mark text.now
         ≡ result.0.now ∷ spec_parts_left mark (option_copied result.1) }

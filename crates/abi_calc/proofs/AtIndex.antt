@@ -8,7 +8,7 @@ use Rattle.std.proofs.Math.Seq.{take-append_seam}
 use Rattle.std.proofs.lemmas.List.Folds.{list_all_at}
 use Rattle.std.proofs.lemmas.Bool.Decides.{nat_tests}
 
--- the test of an index tells that it is within the list, or behind it
+-- the test of an index says that it is within the list, or behind it
 pub tested_within : (i n : ℕ) → true ≡ nat_lt i n → i < n
 tested_within i n is = grind (arith, nat_tests)
 

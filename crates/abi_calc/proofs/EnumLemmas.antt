@@ -24,12 +24,12 @@ pub mod NicheLawful
 pub mod Room
 -- where the view of a tagged enum says that a number lies beside the tag, each variant has one there
 pub mod Filled
--- a tag of its own tells the variants apart
+-- a tag of its own distinguishes the variants
 pub mod Told
 -- what is promised of an enum, by its layouts with a niche and with a tag
 pub mod Several
 -- the same by the integer that is asked for
-pub mod Asked
+pub mod DiscrRange
 -- what is promised of an enum of several variants, from the answer that the rules give it
 pub mod Deep
 -- sums of sizes behind a tag, and of parts that share no byte
@@ -41,7 +41,7 @@ pub mod TagWins
 -- what is known where one of both is made first
 pub mod WhichFirst
 -- what is promised of each way that a type is laid out
-pub mod Whole
+pub mod EnumExtent
 -- the tag and the variants' fields share no byte
 pub mod Places
 -- the view of a tagged enum is true and lawful
@@ -49,7 +49,7 @@ pub mod Views
 -- worked facts on enums
 pub mod Facts
 -- the variants that are present, met one after another
-pub mod Path
+pub mod EnumStrategy
 -- the least and the greatest of what discriminants stand for
 pub mod Discriminants
 -- the list of one variant's fields, without niches where they may not be used

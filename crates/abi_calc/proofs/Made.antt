@@ -8,7 +8,7 @@ use Rattle.abi_scalar.specs.declared.layout_data.LayoutData.{LayoutData}
 use Rattle.abi_scalar.specs.declared.repr.ReprOptions.{ReprOptions}
 use Rattle.abi_scalar.specs.Lawful.{IsLawfulLayout}
 use Rattle.abi_univariant.specs.Least.{align_by}
-use Rattle.abi_univariant.specs.List.{IsListAnswer}
+use Rattle.abi_univariant.specs.List.{IsUnivariantAnswer}
 use Rattle.abi_univariant.specs.Placement.{IsNonEmptyIfUnsized, IsSized}
 use Rattle.abi_univariant.proofs.Promised.LeastLemmas.{biased, has_greatest_niche, has_least, has_own_niche, lies_in_order}
 use Rattle.abi_calc.specs.Enums.Lists.{AreListLayouts}
@@ -18,7 +18,7 @@ use Rattle.abi_calc.proofs.Seen.{list_marks, list_viewed}
 
 module _ {F V H : Type 0} (layout_of : H → LayoutData F V) (at : ℕ → F) (first : V) (dl : TargetDataLayout) (repr : ReprOptions) (kind : StructKind) where
   -- one list
-  pub field_list : (hs : List H) (list : LayoutData F V) → All (λ h. IsLawfulLayout dl (layout_of h)) hs → IsNonEmptyIfUnsized kind (length hs) → IsListAnswer layout_of at first dl repr kind hs (Ok list)
+  pub field_list : (hs : List H) (list : LayoutData F V) → All (λ h. IsLawfulLayout dl (layout_of h)) hs → IsNonEmptyIfUnsized kind (length hs) → IsUnivariantAnswer layout_of at first dl repr kind hs (Ok list)
       → IsFieldList at dl repr kind (map layout_of hs) list
   field_list hs list law tail (order, offsets, r) = record {
     placed = lies_in_order layout_of at first dl repr kind hs order offsets list tail r;
@@ -41,7 +41,7 @@ module _ {F V H : Type 0} (layout_of : H → LayoutData F V) (at : ℕ → F) (f
   )
 
   -- their alignments
-  pub list_align : (hs : List H) (list : LayoutData F V) → IsListAnswer layout_of at first dl repr kind hs (Ok list) → list.align.abi ≡ align_by dl repr kind (map layout_of hs)
+  pub list_align : (hs : List H) (list : LayoutData F V) → IsUnivariantAnswer layout_of at first dl repr kind hs (Ok list) → list.align.abi ≡ align_by dl repr kind (map layout_of hs)
   list_align hs list (order, offsets, r) = (biased layout_of at first dl repr kind hs order offsets list r).placed.alignment
 
   pub lists_aligns : (variants : List (List H)) (lists : List (LayoutData F V)) → AreListLayouts layout_of at first dl repr kind variants lists

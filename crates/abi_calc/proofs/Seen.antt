@@ -14,7 +14,7 @@ use Rattle.abi_scalar.specs.declared.variants.Variants.TheVariants.{Single}
 use Rattle.abi_scalar.specs.Lawful.{IsLawfulLayout}
 use Rattle.abi_scalar.specs.Repr.{is_abi_fixed}
 use Rattle.abi_scalar.specs.Shape.{listed_offsets}
-use Rattle.abi_univariant.specs.List.{IsListLayout}
+use Rattle.abi_univariant.specs.List.{IsUnivariantLayout}
 use Rattle.abi_univariant.specs.ListView.{list_view}
 use Rattle.abi_univariant.specs.Part.{parts_of}
 use Rattle.abi_univariant.specs.Placement.{IsNonEmptyIfUnsized}
@@ -22,11 +22,11 @@ use Rattle.abi_univariant.specs.Union.{IsUnionAnswer, IsUnionView, union_align}
 use Rattle.abi_univariant.proofs.Promised.LeastLemmas.{has_greatest_niche, has_own_niche}
 use Rattle.abi_calc.specs.Enums.Single.{IsSingleAnswer, single_layout, widened_view}
 use Rattle.abi_calc.specs.Marks.{HasListMarks, HasUnionMarks}
-use Rattle.abi_calc.specs.Seen.{IsSeenAsList, view_of_fields}
+use Rattle.abi_calc.specs.Seen.{HasViewOfFields, view_of_fields}
 
 module _ {F V H : Type 0} (layout_of : H → LayoutData F V) (at : ℕ → F) (first : V) (dl : TargetDataLayout) (repr : ReprOptions) (kind : StructKind) (hs : List H) where
   -- a list is marked as its fields are
-  pub list_marks : (order offsets : List ℕ) (l : LayoutData F V) → IsListLayout at first dl repr kind (map layout_of hs) order offsets l → HasListMarks dl repr kind (map layout_of hs) l
+  pub list_marks : (order offsets : List ℕ) (l : LayoutData F V) → IsUnivariantLayout at first dl repr kind (map layout_of hs) order offsets l → HasListMarks dl repr kind (map layout_of hs) l
   list_marks order offsets l r = record {
     uninhabited = r.uninhabited;
     max_repr_align = r.max_repr_align;
@@ -36,13 +36,13 @@ module _ {F V H : Type 0} (layout_of : H → LayoutData F V) (at : ℕ → F) (f
   }
 
   -- and has their view
-  pub list_viewed : (order offsets : List ℕ) (l : LayoutData F V) → IsListLayout at first dl repr kind (map layout_of hs) order offsets l → l.backend_repr ≡ view_of_fields dl repr (map layout_of hs) l
+  pub list_viewed : (order offsets : List ℕ) (l : LayoutData F V) → IsUnivariantLayout at first dl repr kind (map layout_of hs) order offsets l → l.backend_repr ≡ view_of_fields dl repr (map layout_of hs) l
   list_viewed order offsets l r =
       r.view ∙ ap (λ os. list_view dl (is_abi_fixed repr) l.size l.align.abi (parts_of dl (map layout_of hs)) os) (sym (ap listed_offsets r.shape))
 
   -- as a type it is seen so
-  as_type : (optimizations : NicheOptimizations) (index : V) (order offsets : List ℕ) (l : LayoutData F V) → All (λ h. IsLawfulLayout dl (layout_of h)) hs → IsNonEmptyIfUnsized kind (length hs) → IsListLayout at first dl repr kind (map layout_of hs) order offsets l
-      → IsSeenAsList index dl repr kind optimizations (map layout_of hs) (single_layout index dl optimizations l)
+  as_type : (optimizations : NicheOptimizations) (index : V) (order offsets : List ℕ) (l : LayoutData F V) → All (λ h. IsLawfulLayout dl (layout_of h)) hs → IsNonEmptyIfUnsized kind (length hs) → IsUnivariantLayout at first dl repr kind (map layout_of hs) order offsets l
+      → HasViewOfFields index dl repr kind optimizations (map layout_of hs) (single_layout index dl optimizations l)
   as_type Enabled index order offsets l law tail r = record {
     variants = refl;
     view = list_viewed order offsets l r;
@@ -59,9 +59,9 @@ module _ {F V H : Type 0} (layout_of : H → LayoutData F V) (at : ℕ → F) (f
   }
 
   pub single_seen : (optimizations : NicheOptimizations) (index : V) (result : Result (LayoutData F V) (LayoutCalculatorError H)) → All (λ h. IsLawfulLayout dl (layout_of h)) hs → IsNonEmptyIfUnsized kind (length hs)
-      → IsSingleAnswer layout_of at first index dl repr kind optimizations hs result → IfOk result (IsSeenAsList index dl repr kind optimizations (map layout_of hs))
+      → IsSingleAnswer layout_of at first index dl repr kind optimizations hs result → IfOk result (HasViewOfFields index dl repr kind optimizations (map layout_of hs))
   single_seen optimizations index (Ok l) law tail (list, (order, offsets, r), is) =
-      subst (IsSeenAsList index dl repr kind optimizations (map layout_of hs)) (sym is) (as_type optimizations index order offsets list law tail r)
+      subst (HasViewOfFields index dl repr kind optimizations (map layout_of hs)) (sym is) (as_type optimizations index order offsets list law tail r)
   single_seen optimizations index (Err e) law tail h = tt
 
 -- a union has one variant, is aligned as its fields ask, and is seen as they tell

@@ -4,7 +4,7 @@ pub mod Lists
 pub mod States
 pub mod Layout
 pub mod Answer
-pub mod Asked
+pub mod Requirements
 pub mod Clash
 pub mod Sizes
 pub mod Made

@@ -1,5 +1,5 @@
 -- Types with variants.
-pub mod Path
+pub mod EnumStrategy
 pub mod Single
 pub mod Discriminants
 pub mod Lists

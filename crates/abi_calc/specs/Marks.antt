@@ -1,4 +1,4 @@
--- What is told of a type beside its places, be it a list, a union, an enum or a coroutine.
+-- What is promised of a type beside its places, be it a list, a union, an enum or a coroutine.
 use Rattle.std.specs.Prelude.{◌≡◌, ℕ, ◌||◌, Bool, false, List, None, Option}
 use Rattle.std.specs.List.{list_all}
 use Rattle.abi_base.specs.declared.data_layout.TargetDataLayout.{TargetDataLayout}
@@ -15,7 +15,7 @@ use Rattle.abi_univariant.specs.Union.{unraised_align}
 use Rattle.abi_calc.specs.Coroutine.Lists.{picked}
 use Rattle.abi_calc.specs.Coroutine.Promotion.{promoted_of}
 use Rattle.abi_calc.specs.Coroutine.Sizes.{own_lists}
-use Rattle.abi_calc.specs.Enums.Path.{has_no_value}
+use Rattle.abi_calc.specs.Enums.EnumStrategy.{has_no_value}
 
 -- Whether it is marked as having no values, the greatest alignment that a `repr(align)` in it asks for, its alignment before
 -- one raised it, whether it lies as `repr(C)` has it, and the seed of a shuffle of its fields.
@@ -48,7 +48,7 @@ abbrev pub is_without_values : {F V : Type 0} → (prefix locals : List (LayoutD
 is_without_values prefix locals states promoted =
     (has_no_value prefix || has_no_value (picked locals (members_of promoted))) || list_all has_no_value (own_lists locals promoted states)
 
--- those of a coroutine whose promoted locals the states and the conflicts tell
+-- those of a coroutine whose promoted locals the states and the conflicts demand
 abbrev pub HasCoroutineMarks : {F V : Type 0} → (prefix locals : List (LayoutData F V)) → (states : List (List ℕ)) → Relation → LayoutData F V → Type 0
 HasCoroutineMarks prefix locals states conflicts layout =
     HasMarks (is_without_values prefix locals states (promoted_of states conflicts)) None layout.align.abi false 0 layout

@@ -10,7 +10,7 @@ use Rattle.abi_scalar.specs.Variant.{IsOrderedVariant, variants_of}
 abbrev pub IsOrderedWhole : {F V : Type 0} → (number : F → ℕ) → LayoutData F V → Type 0
 IsOrderedWhole number layout = HasOrder number layout.fields × All (IsOrderedVariant number) (variants_of layout.variants)
 
--- the tag that tells the variants apart is the field at this place
+-- the tag that distinguishes the variants is the field at this place
 abbrev pub IsTagField : {F V : Type 0} → (number : F → ℕ) → (place : ℕ) → Variants F V → Type 0
 IsTagField number place (Multiple tag encoding field layouts) = number field ≡ place
 IsTagField number place _ = ⊥

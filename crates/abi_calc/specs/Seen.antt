@@ -30,7 +30,7 @@ HasAllowedNiche dl Disabled niche fields = niche ≡ None
 -- A type of these fields alone is seen as their list is: it has one variant, of this index, the list's view and marks, and the
 -- niche of a field, at the field's offset plus its own, than which no field's has more free numbers. Where niches may not be
 -- used it has none, and its view holds every number.
-pub record IsSeenAsList {F V : Type 0} (index : V) (dl : TargetDataLayout) (repr : ReprOptions) (kind : StructKind) (optimizations : NicheOptimizations) (fields : List (LayoutData F V)) (layout : LayoutData F V) : Type 0 where
+pub record HasViewOfFields {F V : Type 0} (index : V) (dl : TargetDataLayout) (repr : ReprOptions) (kind : StructKind) (optimizations : NicheOptimizations) (fields : List (LayoutData F V)) (layout : LayoutData F V) : Type 0 where
   pub variants : layout.variants ≡ Single index
   pub view : layout.backend_repr ≡ allowed_view dl optimizations (view_of_fields dl repr fields layout)
   pub niche : IfSome layout.largest_niche (IsNicheOfPart (listed_offsets layout.fields) fields)

@@ -1,4 +1,4 @@
--- What is told of the layout of a list of fields, and of its refusal.
+-- What is promised of the layout of a list of fields, and of its refusal.
 use Rattle.std.specs.Prelude.{◌≡◌, ◌≤◌, ◌⊎◌, ℕ, All, Err, IfErr, IfOk, IfSome, IsTrue, List, Result, length, map}
 use Rattle.abi_base.specs.declared.data_layout.TargetDataLayout.{TargetDataLayout}
 use Rattle.abi_base.specs.declared.struct_kind.StructKind.{StructKind}
@@ -15,14 +15,14 @@ use Rattle.abi_univariant.specs.Answer.{IsAnswer}
 use Rattle.abi_univariant.specs.Apart.{AreAligned, AreApart}
 use Rattle.abi_univariant.specs.InOrder.{IsOrderedAnswer}
 use Rattle.abi_univariant.specs.Least.{IsEachOrderTooLarge, IsLeastSize, IsOrderOf, LiesInOrder, LiesInSomeOrder, size_by}
-use Rattle.abi_univariant.specs.List.{AreSized, IsFirstFaultless, IsListAnswer}
+use Rattle.abi_univariant.specs.List.{AreSized, IsFirstFaultless, IsUnivariantAnswer}
 use Rattle.abi_univariant.specs.ListNiche.{HasLargestNiche, IsNicheOfPart}
 use Rattle.abi_univariant.specs.Part.{parts_of}
-use Rattle.abi_univariant.specs.Placement.{IsSized, cut, list_repr, start_of, sum_rounded}
+use Rattle.abi_univariant.specs.Placement.{IsSized, cut, fields_repr, start_of, sum_rounded}
 use Rattle.abi_calc.specs.Marks.{HasListMarks}
 use Rattle.abi_calc.specs.Seen.{view_of_fields}
 
--- What holds of the layout of these fields as one list, in whatever order they lie. `layout_of` tells a field's layout, `number`
+-- What holds of the layout of these fields as one list, in whatever order they lie. `layout_of` gives a field's layout, `number`
 -- the number of a field's index, and `first` is the index of the variant.
 pub record IsGoodUnivariant {F V H : Type 0} (layout_of : H → LayoutData F V) (number : F → ℕ) (first : V)
     (dl : TargetDataLayout) (repr : ReprOptions) (kind : StructKind) (fields : List H) (layout : LayoutData F V) : Type 0 where
@@ -45,7 +45,7 @@ pub record IsGoodUnivariant {F V H : Type 0} (layout_of : H → LayoutData F V) 
 pub record IsUnivariant {F V H : Type 0} (layout_of : H → LayoutData F V) (at : ℕ → F) (number : F → ℕ) (first : V)
     (dl : TargetDataLayout) (repr : ReprOptions) (kind : StructKind) (fields : List H)
     (result : Result (LayoutData F V) (LayoutCalculatorError H)) : Type 0 where
-  pub exact : IsListAnswer layout_of at first dl repr kind fields result
+  pub exact : IsUnivariantAnswer layout_of at first dl repr kind fields result
   pub lawful : IfOk result (IsLawfulLayout dl)
   pub good : IfOk result (IsGoodUnivariant layout_of number first dl repr kind fields)
   -- The fields lie one after another in an order that the repr and the kind allow, which is the memory order, and the alignment
@@ -54,8 +54,8 @@ pub record IsUnivariant {F V H : Type 0} (layout_of : H → LayoutData F V) (at 
   -- Some order that is allowed has the size, and none a smaller one.
   pub least : IfOk result (λ l. IsLeastSize dl repr kind (map layout_of fields) l.size)
   -- Where the order is free, sized fields leave no padding but at the end.
-  pub sum : IsTrue (list_repr dl repr kind).reorderable → IsSized kind →
-      IfOk result (λ l. l.size ≡ sum_rounded (list_repr dl repr kind) (parts_of dl (map layout_of fields)))
+  pub sum : IsTrue (fields_repr dl repr kind).reorderable → IsSized kind →
+      IfOk result (λ l. l.size ≡ sum_rounded (fields_repr dl repr kind) (parts_of dl (map layout_of fields)))
   -- It is refused for its size only where every allowed order is too large, and a list of sized fields always then; sized fields
   -- are refused by no other name.
   pub too_large : result ≡ Err SizeOverflow → IsEachOrderTooLarge dl repr kind (map layout_of fields)
@@ -76,7 +76,7 @@ pub record IsUnivariantInOrder {F V H : Type 0} (layout_of : H → LayoutData F 
   pub placed : IfOk result (LiesInOrder number dl repr kind (map layout_of fields) order)
   -- It is refused as a bad order where the order isn't allowed, memory aside, and nowhere else.
   pub bad_order : result ≡ Err BadOrder → IsOrderOf dl repr kind (length fields) (map number order) → ⊥
-  pub told : (IsOrderOf dl repr kind (length fields) (map number order) → ⊥) → IsAnswer (Err BadOrder) result
+  pub bad_order_reported : (IsOrderOf dl repr kind (length fields) (map number order) → ⊥) → IsAnswer (Err BadOrder) result
   -- It is refused for its size only where it is too large in this order, and a list of sized fields always then; sized fields in
   -- an allowed order are refused by no other name.
   pub too_large : result ≡ Err SizeOverflow → size_bound dl ≤ size_by dl repr kind (map layout_of fields) (map number order)

@@ -15,15 +15,15 @@ ghost use Rattle.abi_scalar.specs.declared.scalar.Scalar.{Scalar};
 ghost use Rattle.abi_scalar.specs.Lawful.{IsLawfulLayout};
 ghost use Rattle.abi_scalar.specs.Simple.{scalar_layout};
 ghost use Rattle.abi_calc.specs.Coroutine.Answer.{IsPromotedAnswer, IsStatesAnswer};
-ghost use Rattle.abi_calc.specs.Coroutine.Asked.{AreStates, GivesTagLayout};
-ghost use Rattle.abi_calc.specs.Coroutine.Clash.{IsToldByState};
+ghost use Rattle.abi_calc.specs.Coroutine.Requirements.{AreStates, GivesTagLayout};
+ghost use Rattle.abi_calc.specs.Coroutine.Clash.{IsDistinguishedByState};
 ghost use Rattle.abi_calc.specs.Coroutine.Layout.{IsStateTag};
 ghost use Rattle.abi_calc.specs.Coroutine.Promised.{ArePromotedBy, HasLocalsApart, IsGoodCoroutine, IsSizedCoroutine, IsSizedPromoted};
 
 use crate::calculator::LayoutCalculator;
 pub use crate::coroutine::layout::state_tag;
-use crate::coroutine::layout::{Saved, layout_of_lists};
-use crate::coroutine::lists::{behind, default_repr, first_fields};
+use crate::coroutine::layout::{CoroutineStates, layout_of_lists};
+use crate::coroutine::lists::{default_repr, first_fields, state_list_kind};
 use crate::coroutine::promotion::promoted_locals;
 use abi_base::{HasDataLayout, StructKind};
 use abi_index::{BitMatrix, DenseBitSet, Idx, IndexSlice, IndexVec};
@@ -68,8 +68,8 @@ impl<Cx: HasDataLayout> LayoutCalculator<Cx> {
             (Cx.target self.now.cx) prefix tag field locals.now
             (map (map LocalIdx.number) states.now) promoted.now result }
         ensures lawful { IfOk result (IsLawfulLayout (Cx.target self.now.cx)) }
-        ensures told { IfOk result
-            (IsToldByState (Cx.target self.now.cx) FieldIdx.at (map F.layout_of prefix)
+        ensures tag_distinguishes { IfOk result
+            (IsDistinguishedByState (Cx.target self.now.cx) FieldIdx.at (map F.layout_of prefix)
             (map F.layout_of locals.now) (map (map LocalIdx.number) states.now)) }
         ensures apart { (conflicts : Relation) →
             ArePromotedBy (length locals.now) (map (map LocalIdx.number) states.now) promoted.now conflicts →
@@ -89,13 +89,13 @@ impl<Cx: HasDataLayout> LayoutCalculator<Cx> {
             Ok(first) => first,
             Err(error) => return Err(error),
         };
-        let kind = behind(&first);
+        let kind = state_list_kind(&first);
         let lists = match self.lists_of_own(alloc, locals, promoted, states, &kind) {
             Ok(lists) => lists,
             Err(error) => return Err(error),
         };
         let dl = self.cx.data_layout();
-        let saved = Saved {
+        let saved = CoroutineStates {
             promoted,
             count: locals.len(),
             states,

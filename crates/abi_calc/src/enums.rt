@@ -1,4 +1,4 @@
-//! Types with variants: which way they are laid out, and how a tag tells the variants apart.
+//! Types with variants: which way they are laid out, and how a tag distinguishes the variants.
 
 mod bounds;
 mod choice;
@@ -7,10 +7,10 @@ mod growth;
 mod in_niche;
 pub(crate) mod lists;
 mod niche;
-mod path;
 mod payload;
 mod several;
 mod single;
+mod strategy;
 pub(crate) mod tagged;
 
 ghost use Rattle.std.specs.Prelude.{◌≡◌, All, IfOk, IsTrue, false, length, map};
@@ -21,13 +21,13 @@ ghost use Rattle.abi_base.specs.DataLayout.{IsLawfulDataLayout};
 ghost use Rattle.abi_scalar.specs.Lawful.{IsLawfulLayout};
 ghost use Rattle.abi_univariant.specs.List.{HasLawfulAligns};
 ghost use Rattle.abi_calc.specs.Enums.Answer.{HasOneEach, IsTypeAnswer};
-ghost use Rattle.abi_calc.specs.Enums.Path.{path_of};
+ghost use Rattle.abi_calc.specs.Enums.EnumStrategy.{strategy_of};
 ghost use Rattle.abi_calc.specs.Enums.Promised.{IsStructOrEnum};
-ghost use Rattle.abi_calc.specs.Enums.Several.{AreLawfulTags};
+ghost use Rattle.abi_calc.specs.Enums.Several.{AreWellFormedTags};
 
 use crate::calculator::LayoutCalculator;
-use crate::enums::path::{Path, path_of};
 use crate::enums::single::single_kind;
+use crate::enums::strategy::{EnumStrategy, strategy_of};
 use abi_base::{HasDataLayout, Integer, NicheOptimizations};
 use abi_index::{Idx, IndexSlice, IndexVec};
 use abi_scalar::{
@@ -46,7 +46,7 @@ impl<Cx: HasDataLayout> LayoutCalculator<Cx> {
     ///
     /// Every other enum has a tag before the fields of its variants, or one that lies in a niche of the variant that is
     /// greatest, the last of equals. The layout with a niche is taken where it is smaller, or as large with more free
-    /// numbers left. `discr_range_of_repr` tells the tag's integer, and whether it is signed, from the least and the
+    /// numbers left. `discr_range_of_repr` gives the tag's integer, and whether it is signed, from the least and the
     /// greatest number that it has to hold, and `discriminants` gives each variant's discriminant, as the number of 128
     /// bits that it is in two's complement (Rust Reference, "Type layout" and "Enumerations").
     ///
@@ -88,21 +88,21 @@ impl<Cx: HasDataLayout> LayoutCalculator<Cx> {
         requires ends { IsFinite (I.remaining discriminants) }
         requires each { EachRunFrom I.next_gives discriminants (λ run. IsTrue run.whole →
             HasOneEach VariantIdx.number (length (items_of variants)) run.items ×
-            AreLawfulTags VariantIdx.number (Cx.target self.now.cx) repr.now
+            AreWellFormedTags VariantIdx.number (Cx.target self.now.cx) repr.now
             (D.post discr_range_of_repr) (map (map F.layout_of) (items_of variants)) run.items) }
         ensures exact { IsTypeAnswer F.layout_of FieldIdx.at FieldIdx.number VariantIdx.at VariantIdx.number
             (Cx.target self.now.cx) repr.now (items_of variants.entry) is_enum always_sized niche_optimizations
             (D.post discr_range_of_repr) (λ items. WholeRun I.next_gives discriminants (λ run. items ≡ run.items))
-            (path_of is_enum repr.now (map (map F.layout_of) (items_of variants.entry))) result }
+            (strategy_of is_enum repr.now (map (map F.layout_of) (items_of variants.entry))) result }
         ensures lawful { IfOk result (IsLawfulLayout (Cx.target self.now.cx)) }
-        ensures told { IsStructOrEnum F.layout_of FieldIdx.at FieldIdx.number VariantIdx.at VariantIdx.number
+        ensures promised { IsStructOrEnum F.layout_of FieldIdx.at FieldIdx.number VariantIdx.at VariantIdx.number
             (Cx.target self.now.cx) repr.now is_enum always_sized niche_optimizations
             (D.post discr_range_of_repr) I.next_gives discriminants (items_of variants.entry) result }
     {
         let all = variants.as_raw();
-        match path_of(is_enum, repr, all) {
-            Path::NoValue => Ok(LayoutData::never_type(&self.cx)),
-            Path::OneList(index) => {
+        match strategy_of(is_enum, repr, all) {
+            EnumStrategy::NoValue => Ok(LayoutData::never_type(&self.cx)),
+            EnumStrategy::OneList(index) => {
                 let fields = &all[index];
                 let kind = single_kind(is_enum, always_sized, fields.len());
                 self.layout_of_single(
@@ -114,7 +114,7 @@ impl<Cx: HasDataLayout> LayoutCalculator<Cx> {
                     niche_optimizations,
                 )
             }
-            Path::Several => {
+            EnumStrategy::Several => {
                 self.layout_of_several(alloc, repr, all, discr_range_of_repr, discriminants)
             }
         }

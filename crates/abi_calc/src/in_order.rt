@@ -6,7 +6,7 @@ ghost use Rattle.abi_base.specs.DataLayout.{IsLawfulDataLayout, size_bound};
 ghost use Rattle.abi_scalar.specs.Lawful.{IsLawfulLayout};
 ghost use Rattle.abi_scalar.specs.Repr.{may_randomize};
 ghost use Rattle.abi_univariant.specs.List.{HasLawfulAligns};
-ghost use Rattle.abi_univariant.specs.Placement.{IsLawfulPrefix, IsNonEmptyIfUnsized};
+ghost use Rattle.abi_univariant.specs.Placement.{IsWellFormedPrefix, IsNonEmptyIfUnsized};
 ghost use Rattle.abi_calc.specs.Univariant.{IsUnivariantInOrder};
 
 use crate::calculator::LayoutCalculator;
@@ -23,10 +23,10 @@ impl<Cx: HasDataLayout> LayoutCalculator<Cx> {
     /// Refused first of all as `BadOrder` where the order doesn't name the index of each field once, or moves the last
     /// field of a maybe-unsized list. Then as `UnexpectedUnsized` with a field whose size isn't known beforehand,
     /// unless it is the last of a maybe-unsized list, and as `SizeOverflow` where a field's end or the size isn't below
-    /// the data layout's bound: the first fault in memory order is told. `OutOfMemory` may come at any time.
+    /// the data layout's bound: the first fault in memory order is reported. `OutOfMemory` may come at any time.
     ///
     /// What `layout_of_univariant` asks is asked here, and that the `repr` leaves the order free and lets it be
-    /// shuffled, as `ReprOptions::can_randomize_type_layout` tells. This call is this crate's own.
+    /// shuffled, as `ReprOptions::can_randomize_type_layout` says. This call is this crate's own.
     pub fn layout_of_univariant_in_order<
         FieldIdx: Idx,
         VariantIdx: Idx,
@@ -43,7 +43,7 @@ impl<Cx: HasDataLayout> LayoutCalculator<Cx> {
         requires fields { All (λ f. IsLawfulLayout (Cx.target self.now.cx)
             (F.layout_of f)) (items_of fields) }
         requires repr { HasLawfulAligns repr.now }
-        requires prefix { IsLawfulPrefix kind (size_bound (Cx.target self.now.cx)) }
+        requires prefix { IsWellFormedPrefix kind (size_bound (Cx.target self.now.cx)) }
         requires tail { IsNonEmptyIfUnsized kind (length (items_of fields)) }
         requires random { IsTrue (may_randomize repr.now) }
         ensures { IsUnivariantInOrder F.layout_of FieldIdx.at FieldIdx.number (VariantIdx.at 0)

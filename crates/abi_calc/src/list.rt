@@ -5,7 +5,7 @@ ghost use Rattle.abi_index.specs.Slice.{items_of};
 ghost use Rattle.abi_base.specs.DataLayout.{IsLawfulDataLayout, size_bound};
 ghost use Rattle.abi_scalar.specs.Lawful.{IsLawfulLayout};
 ghost use Rattle.abi_univariant.specs.List.{HasLawfulAligns};
-ghost use Rattle.abi_univariant.specs.Placement.{IsLawfulPrefix, IsNonEmptyIfUnsized};
+ghost use Rattle.abi_univariant.specs.Placement.{IsWellFormedPrefix, IsNonEmptyIfUnsized};
 ghost use Rattle.abi_calc.specs.Univariant.{IsUnivariant};
 
 use crate::calculator::LayoutCalculator;
@@ -26,7 +26,7 @@ impl<Cx: HasDataLayout> LayoutCalculator<Cx> {
     ///
     /// Refused as `UnexpectedUnsized` with a field whose size isn't known beforehand, unless it is the last of a
     /// maybe-unsized list, and as `SizeOverflow` where a field's end or the size isn't below the data layout's
-    /// bound: the first fault in memory order is told. `OutOfMemory` may come at any time.
+    /// bound: the first fault in memory order is reported. `OutOfMemory` may come at any time.
     ///
     /// The data layout, the fields' layouts and the alignments of `repr` and `kind` have to be lawful, a prefix
     /// smaller than the bound, and a maybe-unsized list not empty.
@@ -45,7 +45,7 @@ impl<Cx: HasDataLayout> LayoutCalculator<Cx> {
         requires fields { All (λ f. IsLawfulLayout (Cx.target self.now.cx)
             (F.layout_of f)) (items_of fields) }
         requires repr { HasLawfulAligns repr.now }
-        requires prefix { IsLawfulPrefix kind (size_bound (Cx.target self.now.cx)) }
+        requires prefix { IsWellFormedPrefix kind (size_bound (Cx.target self.now.cx)) }
         requires tail { IsNonEmptyIfUnsized kind (length (items_of fields)) }
         ensures { IsUnivariant F.layout_of FieldIdx.at FieldIdx.number (VariantIdx.at 0)
             (Cx.target self.now.cx) repr.now kind (items_of fields.entry) result }

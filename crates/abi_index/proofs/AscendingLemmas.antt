@@ -4,7 +4,7 @@ use Rattle.std.proofs.lemmas.Bool.{cases_lt, eq-eqb, ne_eqb}
 use Rattle.std.proofs.lemmas.List.Sorted.{searched}
 use Rattle.std.specs.List.Sorted.{IsBinarySearchResult}
 use Rattle.std.specs.Ordering.{nat_cmp}
-use Rattle.abi_index.specs.Ascending.{IsAscendingFrom, has_number}
+use Rattle.abi_index.specs.AscendingList.{IsAscendingFrom, has_number}
 
 -- no number is below the list's least
 at_least : (low : ℕ) (xs : List ℕ) → IsAscendingFrom low xs → (k : ℕ) → k < length xs → low ≤ get_or xs k 0

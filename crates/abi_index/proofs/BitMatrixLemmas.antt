@@ -4,7 +4,7 @@ use Rattle.std.proofs.lemmas.Bool.{cases_lt, eq-eqb, ne_eqb}
 use Rattle.std.proofs.lemmas.List.{get_or_read}
 use Rattle.std.specs.List.{range_with_len}
 use Rattle.abi_index.proofs.AscendingLemmas.{has_at}
-use Rattle.abi_index.specs.Ascending.{IsAscendingFrom, has_number}
+use Rattle.abi_index.specs.AscendingList.{IsAscendingFrom, has_number}
 use Rattle.abi_index.specs.Relation.{Relation, columns_of, HasColumnsInRange}
 
 -- no number below the least is in the list
@@ -58,10 +58,10 @@ columns_of_row m row shown within asc is =
 
 pub columns_within : (m : Relation) (row top : ℕ) (shown : List ℕ) → HasColumnsInRange m → m.columns ≤ top + 1 → shown ≡ get_or m.rows row []
     → All (λ c. c ≤ top) shown
-columns_within m row top shown within few is k d h =
+columns_within m row top shown within inline_vec is k d h =
     let has : has_number (get_or m.rows row []) (get_or shown k d) ≡ true =
     subst (λ xs. has_number xs (get_or shown k d) ≡ true) is (has_at shown (get_or shown k d) k d h refl) in
-    omega (arith, few, within row (get_or shown k d) has)
+    omega (arith, inline_vec, within row (get_or shown k d) has)
 
 -- what bounds a list bounds all but its first
 pub bounded_rest : (top x : ℕ) (xs ys : List ℕ) → ys ≡ x ∷ xs → All (λ c. c ≤ top) ys → All (λ c. c ≤ top) xs

@@ -151,5 +151,5 @@ none_left made start end i runs h = rw (drop_of_length-le runs h) refl
 pub rest_left : (made : List (ℕ × ℕ)) (start end i : ℕ) (runs : List (ℕ × ℕ)) (d : ℕ × ℕ) → i < length runs → end < (get_or runs i d).0
     → (made ++ (start, end - start) ∷ []) ++ take (length runs - i) (drop i runs) ≡ made ++ added start end (drop i runs)
 rest_left made start end i runs d h before =
-    let few : length (drop i runs) ≤ length runs - i = omega (arith, length-drop i runs) in
-    rw (take_all (length runs - i) (drop i runs) few) (sym (step_before made start end i runs d h before))
+    let inline_vec : length (drop i runs) ≤ length runs - i = omega (arith, length-drop i runs) in
+    rw (take_all (length runs - i) (drop i runs) inline_vec) (sym (step_before made start end i runs d h before))

@@ -1,4 +1,4 @@
--- Sets of places below a size. A set is kept as the list that tells of each place below the size whether it is a member.
+-- Sets of places below a size. A set is kept as the list that says of each place below the size whether it is a member.
 use Rattle.std.specs.Prelude.{ℕ, ◌-◌, Bool, false, List, length, map, filter, slice_index_or}
 use Rattle.std.specs.List.{range_with_len}
 use Rattle.abi_index.specs.declared.bit_set_iter.BitSetIter.{BitSetIter}

@@ -1,7 +1,7 @@
 -- Relations between rows and columns.
 use Rattle.std.specs.Prelude.{◌≡◌, ℕ, ◌<◌, Bool, true, List, [], filter, length, slice_index_or}
 use Rattle.std.specs.List.{range_with_len}
-use Rattle.abi_index.specs.Ascending.{has_number}
+use Rattle.abi_index.specs.AscendingList.{has_number}
 
 -- a relation: for each row the columns that are related to it, and how many columns there are
 pub record Relation : Type 0 where

@@ -3,7 +3,7 @@
 ghost use Rattle.std.specs.Prelude.{◌≡◌, ℕ, ◌<◌, ◌≤◌, ◌+◌, ◌-◌, ◌||◌, length, slice_get, IfSome, IsSomeAnd, IfOk, OnOk, OnErr};
 ghost use Rattle.abi_index.specs.RangeSet.{is_in_run, is_in_ranges, AreMaximalRuns};
 
-use crate::few::Few;
+use crate::inline_vec::InlineVec;
 use std::alloc::{AllocError, Global};
 
 /// Adds the bytes from one on up to another, and without that one, to these runs, each its first byte and how many
@@ -11,7 +11,7 @@ use std::alloc::{AllocError, Global};
 /// the list is made anew. `AllocError` where memory is refused: then the runs are as they were.
 pub(crate) fn add_run(
     alloc: Global,
-    runs: &mut Few<(u64, u64)>,
+    runs: &mut InlineVec<(u64, u64)>,
     from: u64,
     to: u64,
 ) -> Result<(), AllocError>
@@ -30,7 +30,7 @@ pub(crate) fn add_run(
             Ok(())
         }
         Some(_) => {
-            *runs = Few::from_vec(with_run(alloc, runs.as_slice(), from, to)?);
+            *runs = InlineVec::from_vec(with_run(alloc, runs.as_slice(), from, to)?);
             Ok(())
         }
     }
@@ -38,7 +38,7 @@ pub(crate) fn add_run(
 
 /// Puts the run from a byte on up to another and without it behind these, of which none meets it. `AllocError` where
 /// memory is refused: then the runs are as they were.
-fn push_run(runs: &mut Few<(u64, u64)>, from: u64, to: u64) -> Result<(), AllocError>
+fn push_run(runs: &mut InlineVec<(u64, u64)>, from: u64, to: u64) -> Result<(), AllocError>
     requires some { from < to }
     requires maximal { AreMaximalRuns 0 runs.old.items }
     requires behind { IfSome (slice_get runs.old.items (length runs.old.items - 1)) (λ last.
@@ -53,7 +53,7 @@ fn push_run(runs: &mut Few<(u64, u64)>, from: u64, to: u64) -> Result<(), AllocE
 }
 
 /// Makes the last run reach from a byte that it has, or that is directly behind it, up to another and without that one.
-fn lengthen_last(runs: &mut Few<(u64, u64)>, from: u64, to: u64)
+fn lengthen_last(runs: &mut InlineVec<(u64, u64)>, from: u64, to: u64)
     requires some { from < to }
     requires maximal { AreMaximalRuns 0 runs.old.items }
     requires meets { IsSomeAnd (slice_get runs.old.items (length runs.old.items - 1)) (λ last.

@@ -6,7 +6,7 @@ ghost use Rattle.abi_index.specs.Relation.{row_count, column_count, is_entry, co
 ghost use Rattle.abi_index.specs.BitRow.{columns_left};
 ghost use Rattle.abi_index.specs.Indices.{indices_left};
 
-use crate::ascending::Ascending;
+use crate::ascending_list::AscendingList;
 use crate::bit_row_iter::BitRowIter;
 use crate::idx::Idx;
 use crate::indices::Indices;
@@ -18,7 +18,7 @@ use std::marker::{Model, PhantomData};
 /// A relation between rows and columns, for relations in which a row is related to few columns.
 #[derive(Drop)]
 pub struct BitMatrix<R: Idx, C: Idx> {
-    rows: Vec<Ascending>,
+    rows: Vec<AscendingList>,
     columns: usize,
     of: PhantomData<(R, C)>,
 }
@@ -80,7 +80,7 @@ impl<R: Idx, C: Idx> BitMatrix<R, C> {
         })
     }
 
-    /// Relates a row and a column, and tells whether that is new. A refused growth leaves the relation as it was; what is
+    /// Relates a row and a column, and answers whether that is new. A refused growth leaves the relation as it was; what is
     /// related already asks for none.
     pub fn insert(&mut self, row: R, column: C) -> Result<bool, AllocError>
         requires row { R.number row < row_count self.old }
@@ -121,7 +121,7 @@ impl<R: Idx, C: Idx> BitMatrix<R, C> {
     pub fn rows(&self) -> Indices<R>
         ensures { indices_left R.at result ≡ map R.at (range_with_len 0 (row_count self.now)) }
     {
-        Indices::below(self.rows.len())
+        Indices::with_count(self.rows.len())
     }
 
     /// The columns that are related to a row, ascending.
@@ -144,12 +144,12 @@ impl<R: Idx, C: Idx> BitMatrix<R, C> {
 }
 
 /// `count` rows without columns.
-fn empty_rows(alloc: Global, count: usize) -> Result<Vec<Ascending>, AllocError>
+fn empty_rows(alloc: Global, count: usize) -> Result<Vec<AscendingList>, AllocError>
     ensures { IfOk result (λ rows. rows.items ≡ replicate count []) }
 {
     let mut rows = Vec::with_capacity(alloc, count)?;
     for _row in 0..count {
-        rows.push(Ascending::new(alloc))?;
+        rows.push(AscendingList::new(alloc))?;
     }
     Ok(rows)
 }

@@ -68,7 +68,7 @@ impl<I: Idx> DenseBitSet<I> {
         })
     }
 
-    /// Puts an index in, and tells whether it is new. It takes no memory.
+    /// Puts an index in, and answers whether it is new. It takes no memory.
     pub fn insert(&mut self, item: I) -> bool
         requires { I.number item < domain_size self.old }
         ensures is_new { result ≡ not (is_member self.old (I.number item)) }

@@ -19,7 +19,7 @@ pub struct BitSetIter<'a, I: Idx> {
 impl<'a, I: Idx> BitSetIter<'a, I> {
     ghost use Rattle.abi_index.specs.BitSet.{members_of, members_left};
 
-    /// The members of a set of which the list tells them.
+    /// The members of a set of which the list says them.
     pub(crate) fn new(bits: &'a [bool]) -> Self
         requires { length bits.now ≤ I.MAX_INDEX + 1 }
         ensures { members_left I.at result ≡ map I.at (members_of bits.now) }

@@ -2,7 +2,7 @@
 
 ghost use Rattle.std.specs.Prelude.{◌≡◌, ℕ, ◌+◌, ◌≤◌};
 ghost use Rattle.abi_index.specs.Idx.{greatest_place};
-ghost use Rattle.abi_index.specs.Few.{TwoFit};
+ghost use Rattle.abi_index.specs.InlineVec.{TwoFit};
 
 use std::fmt::Debug;
 use std::hash::Hash;

@@ -112,7 +112,7 @@ impl<I: Idx, T> IndexList<I, T> {
     pub fn indices(&self) -> Indices<I>
         ensures { indices_left I.at result ≡ map I.at (range_with_len 0 (length self.now)) }
     {
-        Indices::below(self.raw.len())
+        Indices::with_count(self.raw.len())
     }
 
     /// Goes over the items, in order.

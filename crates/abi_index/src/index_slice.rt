@@ -115,7 +115,7 @@ impl<'a, I: Idx, T> IndexSlice<'a, I, T> {
         ensures { indices_left I.at result
             ≡ map I.at (range_with_len 0 (length (items_of self.entry))) }
     {
-        Indices::below(self.raw.len())
+        Indices::with_count(self.raw.len())
     }
 
     /// Goes over the items, in order.

@@ -1,7 +1,7 @@
 //! Lists whose places are named by an index type.
 
 ghost use Rattle.std.specs.Prelude.{◌≡◌, ◌≤◌, ◌<◌, ◌+◌, List, [], ◌∷◌, ◌++◌, length, OnOk, OnErr, IfOk, slice_get, map, IsOk};
-ghost use Rattle.abi_index.specs.Few.{TwoFit};
+ghost use Rattle.abi_index.specs.InlineVec.{TwoFit};
 ghost use Rattle.std.specs.List.{range_with_len};
 ghost use Rattle.std.specs.Slice.Iter.{iter_rest};
 ghost use Rattle.std.specs.Iterator.Adapters.{IterYieldsInOrder};
@@ -9,10 +9,10 @@ ghost use Rattle.abi_index.specs.Indices.{indices_left};
 ghost use Rattle.std.specs.Option.{option_copied};
 ghost use Rattle.abi_index.specs.Slice.{items_of};
 
-use crate::few::Few;
 use crate::idx::Idx;
 use crate::index_slice::IndexSlice;
 use crate::indices::Indices;
+use crate::inline_vec::InlineVec;
 use std::alloc::{AllocError, Global};
 use std::fmt;
 use std::fmt::Debug;
@@ -23,7 +23,7 @@ use std::slice::Iter;
 /// A list whose places are named by an index type: it has at most as many items as the type has indices.
 #[derive(Drop)]
 pub struct IndexVec<I: Idx, T> {
-    raw: Few<T>,
+    raw: InlineVec<T>,
     of: PhantomData<I>,
 }
 
@@ -80,7 +80,7 @@ impl<I: Idx, T> IndexVec<I, T> {
         ensures { result ≡ [] }
     {
         IndexVec {
-            raw: Few::new(alloc),
+            raw: InlineVec::new(alloc),
             of: PhantomData,
         }
     }
@@ -93,7 +93,7 @@ impl<I: Idx, T> IndexVec<I, T> {
         ensures inline { capacity ≤ 2 → IsOk result }
     {
         Ok(IndexVec {
-            raw: Few::with_capacity(alloc, capacity)?,
+            raw: InlineVec::with_capacity(alloc, capacity)?,
             of: PhantomData,
         })
     }
@@ -104,7 +104,7 @@ impl<I: Idx, T> IndexVec<I, T> {
         ensures { result ≡ raw.items }
     {
         IndexVec {
-            raw: Few::from_vec(raw),
+            raw: InlineVec::from_vec(raw),
             of: PhantomData,
         }
     }
@@ -159,7 +159,7 @@ impl<I: Idx, T> IndexVec<I, T> {
     pub fn indices(&self) -> Indices<I>
         ensures { indices_left I.at result ≡ map I.at (range_with_len 0 (length self.now)) }
     {
-        Indices::below(self.raw.len())
+        Indices::with_count(self.raw.len())
     }
 
     /// Goes over the items, in order.
@@ -178,7 +178,7 @@ impl<I: Idx, T: Copy> IndexVec<I, T> {
         // A copy of at most two items asks for no memory.
         ensures inline { TwoFit T.row → length self.now ≤ 2 → IsOk result }
     {
-        let mut raw = Few::with_capacity(alloc, self.raw.len())?;
+        let mut raw = InlineVec::with_capacity(alloc, self.raw.len())?;
         for item in self.raw.as_slice() {
             raw.push(*item)?;
         }

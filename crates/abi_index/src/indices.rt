@@ -20,7 +20,7 @@ impl<I: Idx> Indices<I> {
     ghost use Rattle.abi_index.specs.Indices.{indices_left};
 
     /// The indices of `count` places.
-    pub(crate) fn below(count: usize) -> Self
+    pub(crate) fn with_count(count: usize) -> Self
         requires { count ≤ I.MAX_INDEX + 1 }
         ensures { indices_left I.at result ≡ map I.at (range_with_len 0 count) }
     {

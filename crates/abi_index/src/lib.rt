@@ -6,15 +6,15 @@ mod idx;
 mod indices;
 
 // Lists named by an index type, views of them, copies.
-mod few;
 mod index_list;
 mod index_slice;
 mod index_vec;
+mod inline_vec;
 mod pair;
 mod try_clone;
 
 // Relations between indices, and sets of them.
-mod ascending;
+mod ascending_list;
 mod bit_matrix;
 mod bit_row_iter;
 mod bit_set;

@@ -11,7 +11,7 @@ pub struct Pair<T> {
 }
 
 /// The pair as an array.
-pub(crate) fn both<T>(pair: &Pair<T>) -> &[T; 2]
+pub(crate) fn as_array<T>(pair: &Pair<T>) -> &[T; 2]
     ensures { result.now ≡ pair.now.first ∷ pair.now.second ∷ [] }
 {
     // The second lies right behind the first: `repr(C)` keeps the order of fields, and a size is a multiple of the

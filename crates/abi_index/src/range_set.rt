@@ -4,7 +4,7 @@ ghost use Rattle.std.specs.Prelude.{◌≡◌, ℕ, ◌<◌, ◌+◌, ◌^◌, �
 ghost use Rattle.abi_index.specs.RangeSet.{is_in_run, is_in_ranges, AreMaximalRuns};
 
 use crate::add_run::add_run;
-use crate::few::Few;
+use crate::inline_vec::InlineVec;
 use crate::try_clone::TryClone;
 use crate::uncut::add_uncut;
 use std::alloc::{AllocError, Global};
@@ -16,7 +16,7 @@ use std::marker::Model;
 #[derive(Drop)]
 pub struct RangeSet {
     alloc: Global,
-    runs: Few<(u64, u64)>,
+    runs: InlineVec<(u64, u64)>,
 }
 
 impl Model for RangeSet {
@@ -58,7 +58,7 @@ impl Debug for RangeSet {
 
 impl TryClone for RangeSet {
     fn try_clone(&self, alloc: Global) -> Result<Self, AllocError> {
-        let runs = Few::from_vec(Vec::from_slice(alloc, self.runs.as_slice())?);
+        let runs = InlineVec::from_vec(Vec::from_slice(alloc, self.runs.as_slice())?);
         Ok(RangeSet { alloc, runs })
     }
 }
@@ -70,7 +70,7 @@ impl RangeSet {
     {
         RangeSet {
             alloc,
-            runs: Few::new(alloc),
+            runs: InlineVec::new(alloc),
         }
     }
 
@@ -108,7 +108,7 @@ impl RangeSet {
 
     /// The bytes of this set before byte `end`. `AllocError` where memory is refused.
     #[tactic(auto, using(crate::proofs::UncutLemmas::first_bytes))]
-    pub fn before(&self, alloc: Global, end: u64) -> Result<RangeSet, AllocError>
+    pub fn prefix(&self, alloc: Global, end: u64) -> Result<RangeSet, AllocError>
         ensures bytes { IfOk result (λ set. (k : ℕ) →
             is_in_ranges set k ≡ (nat_lt k end && is_in_ranges self.now k)) }
     {

@@ -4,7 +4,7 @@ ghost use Rattle.std.specs.Prelude.{◌≡◌, ℕ, ◌+◌, ◌*◌, ◌-◌, �
 ghost use Rattle.abi_index.specs.RangeSet.{is_in_ranges};
 ghost use Rattle.abi_index.specs.Runs.{Adds, Extends, HaveEnds, moved_to, repeated};
 
-use crate::few::{Few, Front};
+use crate::inline_vec::{Front, InlineVec};
 use crate::range_set::RangeSet;
 use std::alloc::{AllocError, Global};
 use std::marker::Model;
@@ -13,7 +13,7 @@ use std::marker::Model;
 /// but once.
 #[derive(Drop)]
 pub struct RangeSetBuilder {
-    runs: Few<(u64, u64)>,
+    runs: InlineVec<(u64, u64)>,
 }
 
 impl Model for RangeSetBuilder {
@@ -68,7 +68,7 @@ impl RangeSetBuilder {
         ensures { result ≡ [] }
     {
         RangeSetBuilder {
-            runs: Few::new(alloc),
+            runs: InlineVec::new(alloc),
         }
     }
 

@@ -8,9 +8,9 @@ use Rattle.std.proofs.Math.Bool.{or-false}
 use Rattle.abi_index.proofs.RunsLemmas.{moved-zero}
 use Rattle.abi_tree.specs.declared.parts.PartName.{PartName}
 use Rattle.abi_tree.specs.declared.parts.PartName.TheVariants.{Elements, Lanes, Number, Tag}
-use Rattle.abi_tree.specs.Parts.{Part, all_parts, common_parts, field_parts, parts_of_arms, placed_part, variant_parts}
-use Rattle.abi_tree.specs.Placed.{Placed, scalar, pair, never, elements, vector, fields, union, single, tagged, states, Parts, no_parts, part, Arms, no_arms, arm, size_of}
-use Rattle.abi_tree.specs.Places.{is_data_place, is_place_of_arm, is_place_of_part}
+use Rattle.abi_tree.specs.Parts.{Part, all_parts, common_parts, field_parts, parts_of_tagged_variants, placed_part, variant_parts}
+use Rattle.abi_tree.specs.Placed.{Placed, scalar, pair, never, elements, vector, fields, union, single, tagged, states, Parts, no_parts, part, TaggedVariants, no_tagged_variants, tagged_variant, size_of}
+use Rattle.abi_tree.specs.Places.{is_data_place, is_place_of_tagged_variant, is_place_of_part}
 use Rattle.abi_tree.specs.Runs.{is_padding_of}
 use Rattle.abi_map.specs.Map.{names_at}
 use Rattle.abi_map.specs.Runs.{PaddingHasNoName}
@@ -44,11 +44,11 @@ fields_have : (v : Option ℕ) (i k : ℕ) (parts : Parts) → any_has (field_pa
 fields_have v i k no_parts = refl
 fields_have v i k (part offset placed parts) = ap (λ b. (nat_le offset k && is_data_place placed (k - offset)) || b) (fields_have v (suc i) k parts)
 
-arms_have : (v k : ℕ) (arms : Arms) → any_has (parts_of_arms v arms) k ≡ is_place_of_arm arms k
-arms_have v k no_arms = refl
-arms_have v k (arm number layout mark parts arms) =
-    list_any-append (λ (one : Part). one.has k) (field_parts (Some v) 0 parts) (parts_of_arms (suc v) arms)
-    ∙ ap (λ b. b || any_has (parts_of_arms (suc v) arms) k) (fields_have (Some v) 0 k parts) ∙ ap (λ b. is_place_of_part parts k || b) (arms_have (suc v) k arms)
+tagged_variants_have : (v k : ℕ) (tagged_variants : TaggedVariants) → any_has (parts_of_tagged_variants v tagged_variants) k ≡ is_place_of_tagged_variant tagged_variants k
+tagged_variants_have v k no_tagged_variants = refl
+tagged_variants_have v k (tagged_variant number layout mark parts tagged_variants) =
+    list_any-append (λ (one : Part). one.has k) (field_parts (Some v) 0 parts) (parts_of_tagged_variants (suc v) tagged_variants)
+    ∙ ap (λ b. b || any_has (parts_of_tagged_variants (suc v) tagged_variants) k) (fields_have (Some v) 0 k parts) ∙ ap (λ b. is_place_of_part parts k || b) (tagged_variants_have (suc v) k tagged_variants)
 
 whole_has : (name : PartName) (placed : Placed) (k : ℕ) → any_has ((placed_part name 0 placed ∷ []) ++ []) k ≡ is_data_place placed k
 whole_has name placed k = or-false (nat_le 0 k && is_data_place placed (k - 0)) ∙ moved-zero (is_data_place placed) k
@@ -67,14 +67,14 @@ parts_have (vector layout lanes) k = whole_has Lanes (vector layout lanes) k
 parts_have (fields layout mark parts) k = alone_has parts k
 parts_have (union layout mark parts) k = alone_has parts k
 parts_have (single layout mark index parts) k = alone_has parts k
-parts_have (tagged layout mark offset tag encoding arms) k = ap (λ b. (nat_le offset k && is_data_place tag (k - offset)) || b) (arms_have 0 k arms)
-parts_have (states layout prefix offset tag arms) k =
+parts_have (tagged layout mark offset tag encoding tagged_variants) k = ap (λ b. (nat_le offset k && is_data_place tag (k - offset)) || b) (tagged_variants_have 0 k tagged_variants)
+parts_have (states layout prefix offset tag tagged_variants) k =
     let front : List Part = field_parts None 0 prefix in
     let of_tag = nat_le offset k && is_data_place tag (k - offset) in
-    list_any-append (λ (one : Part). one.has k) (front ++ placed_part Tag offset tag ∷ []) (parts_of_arms 0 arms)
-    ∙ ap (λ b. b || any_has (parts_of_arms 0 arms) k)
+    list_any-append (λ (one : Part). one.has k) (front ++ placed_part Tag offset tag ∷ []) (parts_of_tagged_variants 0 tagged_variants)
+    ∙ ap (λ b. b || any_has (parts_of_tagged_variants 0 tagged_variants) k)
     (list_any-append (λ (one : Part). one.has k) front (placed_part Tag offset tag ∷ []) ∙ ap (λ b. b || (of_tag || false)) (fields_have None 0 k prefix) ∙ ap (λ b. is_place_of_part prefix k || b) (or-false of_tag))
-    ∙ ap (λ b. (is_place_of_part prefix k || of_tag) || b) (arms_have 0 k arms) ∙ or_assoc (is_place_of_part prefix k) of_tag (is_place_of_arm arms k)
+    ∙ ap (λ b. (is_place_of_part prefix k || of_tag) || b) (tagged_variants_have 0 k tagged_variants) ∙ or_assoc (is_place_of_part prefix k) of_tag (is_place_of_tagged_variant tagged_variants k)
 
 all_have : (placed : Placed) (k : ℕ) → k < size_of placed → any_has (all_parts placed) k ≡ is_data_place placed k
 all_have placed k lt =

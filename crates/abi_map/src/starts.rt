@@ -21,7 +21,7 @@ fn put_changes(
     requires { size ≤ 65536 }
     ensures { OnOk result (AddsBelow size runs.old runs.new (changes (kept_part part.now))) }
 {
-    let bytes = part.bytes.before(alloc, size)?;
+    let bytes = part.bytes.prefix(alloc, size)?;
     let mut moved = RangeSetBuilder::new(alloc);
     moved.add_set(&bytes, 1)?;
     let before = moved.build(alloc)?;
@@ -40,7 +40,7 @@ fn start_set(alloc: Global, parts: &[PartBytes], size: u64) -> Result<RangeSet, 
     for part in parts {
         put_changes(alloc, &mut runs, part, size)?;
     }
-    runs.build(alloc)?.before(alloc, size)
+    runs.build(alloc)?.prefix(alloc, size)
 }
 
 /// The bytes of a set, one by one.

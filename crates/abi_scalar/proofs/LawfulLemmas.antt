@@ -15,7 +15,7 @@ use Rattle.abi_scalar.specs.declared.layout_data.LayoutData.{LayoutData}
 use Rattle.abi_scalar.specs.declared.scalar.Scalar.{Scalar}
 use Rattle.abi_scalar.specs.declared.scalar.Scalar.TheVariants.{Initialized, Union}
 use Rattle.abi_scalar.specs.Range.{free_count}
-use Rattle.abi_scalar.specs.Scalar.{primitive_of, scalar_size, scalar_align, IsLawfulScalar, IsReadable}
+use Rattle.abi_scalar.specs.Scalar.{primitive_of, scalar_size, scalar_align, IsLawfulScalar, IsWellFormed}
 use Rattle.abi_scalar.specs.Niche.{niche_at}
 use Rattle.abi_scalar.specs.Lawful.{IsLawfulLayout, IsLawfulNiche, IsNicheOfView, HasLawfulTag}
 use Rattle.abi_scalar.proofs.RangeLemmas.{free_after}
@@ -70,7 +70,7 @@ few = lit< tt
 
 -- the layout of a scalar, by the parts that matter
 pub scalar_lawful : {F V : Type 0} (dl : TargetDataLayout) (s : Scalar) (l : LayoutData F V)
-    → IsReadable dl s → IsLawfulDataLayout dl → IsLawfulScalar dl s
+    → IsWellFormed dl s → IsLawfulDataLayout dl → IsLawfulScalar dl s
     → l.size ≡ scalar_size dl s → l.align.abi ≡ scalar_align dl s → l.largest_niche ≡ niche_at dl 0 s
     → l.backend_repr ≡ OneScalar s → HasLawfulTag dl l.variants → IsLawfulLayout dl l
 scalar_lawful dl s l r law h size align niche view tag =

@@ -14,7 +14,7 @@ use Rattle.abi_scalar.specs.declared.niche.Niche.{Niche}
 use Rattle.abi_scalar.specs.declared.scalar.Scalar.{Scalar}
 use Rattle.abi_scalar.specs.declared.scalar.Scalar.TheVariants.{Initialized, Union}
 use Rattle.abi_scalar.specs.Range.{free_count}
-use Rattle.abi_scalar.specs.Scalar.{primitive_of, scalar_size, scalar_align, IsLawfulScalar, IsReadable}
+use Rattle.abi_scalar.specs.Scalar.{primitive_of, scalar_size, scalar_align, IsLawfulScalar, IsWellFormed}
 use Rattle.abi_scalar.specs.Niche.{niche_at, available_in}
 use Rattle.abi_scalar.specs.Lawful.{IsLawfulLayout, IsLawfulNiche, IsNicheOfView, HasLawfulTag}
 use Rattle.abi_scalar.specs.Pair.{pair_align, pair_size, second_offset, larger_niche, pair_layout}
@@ -80,7 +80,7 @@ second_viewed dl a (Initialized value range) offset =
 second_viewed dl a (Union value) offset = tt
 
 -- a lawful scalar is aligned to 16 bytes at most
-small_align : (dl : TargetDataLayout) (s : Scalar) → IsLawfulDataLayout dl → IsReadable dl s → IsLawfulScalar dl s → scalar_align dl s ≤ 29
+small_align : (dl : TargetDataLayout) (s : Scalar) → IsLawfulDataLayout dl → IsWellFormed dl s → IsLawfulScalar dl s → scalar_align dl s ≤ 29
 small_align dl s law r h =
     omega (arith, below_power (scalar_align dl s), le_of_dvd (omega (arith, r.some)) (primitive_multiple dl (primitive_of s) law h.pointer), r.most)
 
@@ -88,7 +88,7 @@ aggregate_limit : (dl : TargetDataLayout) → IsLawfulDataLayout dl → dl.aggre
 aggregate_limit dl law = law.limit 10 0 (omega arith)
 
 pub pair_lawful : {F V : Type 0} (dl : TargetDataLayout) (a b : Scalar) (l : LayoutData F V)
-    → IsReadable dl a → IsReadable dl b → IsLawfulDataLayout dl → IsLawfulScalar dl a → IsLawfulScalar dl b
+    → IsWellFormed dl a → IsWellFormed dl b → IsLawfulDataLayout dl → IsLawfulScalar dl a → IsLawfulScalar dl b
     → pair_size dl a b < size_bound dl → l.size ≡ pair_size dl a b → l.align.abi ≡ pair_align dl a b
     → l.largest_niche ≡ larger_niche dl (niche_at dl 0 a) (niche_at dl (second_offset dl a b) b)
     → l.backend_repr ≡ ScalarPair a b (second_offset dl a b) → HasLawfulTag dl l.variants → IsLawfulLayout dl l
@@ -110,7 +110,7 @@ pair_lawful dl a b l ra rb law ha hb bound size align niche view tag =
 
 -- the same of what is known to be the layout of a pair
 pub pair_lawful_at : {F V : Type 0} (variant : V) (first second : F) (dl : TargetDataLayout) (a b : Scalar) (l : LayoutData F V)
-    → IsReadable dl a → IsReadable dl b → IsLawfulDataLayout dl → IsLawfulScalar dl a → IsLawfulScalar dl b
+    → IsWellFormed dl a → IsWellFormed dl b → IsLawfulDataLayout dl → IsLawfulScalar dl a → IsLawfulScalar dl b
     → pair_size dl a b < size_bound dl → l ≡ pair_layout variant first second dl a b → IsLawfulLayout dl l
 pair_lawful_at {F = F} {V = V} variant first second dl a b l ra rb law ha hb bound e =
     let P : LayoutData F V → Type 0 = λ x. IsLawfulLayout dl x in

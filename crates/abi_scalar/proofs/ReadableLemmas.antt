@@ -19,7 +19,7 @@ use Rattle.abi_base.specs.Primitive.{primitive_size, primitive_align, KnowsPrimi
 use Rattle.abi_base.specs.Integer.{integer_size}
 use Rattle.abi_base.specs.Float.{float_size}
 use Rattle.abi_scalar.specs.declared.scalar.Scalar.{Scalar}
-use Rattle.abi_scalar.specs.Scalar.{primitive_of, scalar_size, scalar_align, IsLawfulScalar, IsReadable}
+use Rattle.abi_scalar.specs.Scalar.{primitive_of, scalar_size, scalar_align, IsLawfulScalar, IsWellFormed}
 use Rattle.abi_scalar.specs.Pair.{pair_align, pair_size, second_offset}
 
 -- The offset and the size of two scalars can be written in 64 bits.
@@ -77,7 +77,7 @@ module _ (dl : TargetDataLayout) where
   width_most (Pointer space) h = h.1.most
 
   -- a lawful scalar can be asked for its numbers
-  pub lawful_readable : (s : Scalar) → IsLawfulScalar dl s → IsReadable dl s
+  pub lawful_readable : (s : Scalar) → IsLawfulScalar dl s → IsWellFormed dl s
   lawful_readable s h = record {
     known = known (primitive_of s) h.pointer;
     some = width_some (primitive_of s) h.pointer;
@@ -132,7 +132,7 @@ module _ (dl : TargetDataLayout) (law : IsLawfulDataLayout dl) where
       (all_after (scalar_alignments_of dl ++ map (λ e. e.1) dl.vector_align) (map (λ e. e.1.pointer_align) dl.address_space_info) law.limit))
 
   -- two scalars that can be asked for their numbers have room under a lawful data layout
-  pub readable_room : (a b : Scalar) → IsReadable dl a → IsReadable dl b → HasRoomForPair dl a b
+  pub readable_room : (a b : Scalar) → IsWellFormed dl a → IsWellFormed dl b → HasRoomForPair dl a b
   readable_room a b ra rb =
       let own : dl.aggregate_align ≤ 29 = law.limit 10 0 (omega arith) in
       let first = primitive_small (primitive_of a) in

@@ -1,4 +1,4 @@
--- What a layout tells.
+-- What a layout says.
 use Rattle.std.specs.Prelude.{◌≡◌, ◌≢◌, ◌↔◌, ℕ, ⊤, ◌⊎◌, Bool, true, Option, Some, None, slice_get, MatchOption, IsTrue}
 use Rattle.abi_scalar.specs.declared.backend_repr.BackendRepr.{BackendRepr}
 use Rattle.abi_scalar.specs.declared.backend_repr.BackendRepr.TheVariants.{SimdScalableVector, Memory}

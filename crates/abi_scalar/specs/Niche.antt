@@ -12,7 +12,7 @@ abbrev pub niche_size : TargetDataLayout → Niche → ℕ
 niche_size dl niche = primitive_size dl niche.value
 
 -- A niche that can be asked for its numbers: its space is known, it has 1 to 16 bytes, and its range's ends fit them.
-pub record IsReadableNiche (dl : TargetDataLayout) (niche : Niche) : Type 0 where
+pub record IsWellFormedNiche (dl : TargetDataLayout) (niche : Niche) : Type 0 where
   pub known : KnowsPrimitive dl niche.value
   pub some : 1 ≤ niche_size dl niche
   pub most : niche_size dl niche ≤ 16

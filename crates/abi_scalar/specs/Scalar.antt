@@ -72,7 +72,7 @@ abbrev pub IsAlwaysValid : TargetDataLayout → Scalar → Type 0
 IsAlwaysValid dl scalar = (n : ℕ) → n < numbers_of (scalar_size dl scalar) → IsNumberOf (scalar_size dl scalar) scalar n
 
 -- A scalar that can be asked for its numbers: its space is known, it has 1 to 16 bytes, and its range's ends fit them.
-pub record IsReadable (dl : TargetDataLayout) (scalar : Scalar) : Type 0 where
+pub record IsWellFormed (dl : TargetDataLayout) (scalar : Scalar) : Type 0 where
   pub known : KnowsPrimitive dl (primitive_of scalar)
   pub some : 1 ≤ scalar_size dl scalar
   pub most : scalar_size dl scalar ≤ 16

@@ -13,7 +13,7 @@ use Rattle.abi_scalar.specs.declared.layout_data.LayoutData.{LayoutData}
 use Rattle.abi_scalar.specs.Scalar.{primitive_of, scalar_size, scalar_align, range_of}
 use Rattle.abi_scalar.specs.Niche.{niche_at}
 
--- what tells apart the seeds of equally large primitives
+-- what distinguishes the seeds of equally large primitives
 abbrev pub seed_kind : Primitive → ℕ
 seed_kind (Int integer true) = 1
 seed_kind (Int integer false) = 2

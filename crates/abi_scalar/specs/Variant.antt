@@ -23,7 +23,7 @@ variant_of layout = record {
 abbrev pub IsOrderedVariant : {F : Type 0} → (number : F → ℕ) → VariantLayout F → Type 0
 IsOrderedVariant number variant = HasOrder number (Arbitrary variant.field_offsets variant.fields_in_memory_order)
 
--- the variants that a tag tells apart
+-- the variants that a tag distinguishes
 abbrev pub variants_of : {F V : Type 0} → Variants F V → List (VariantLayout F)
 variants_of (Multiple tag encoding field variants) = variants
 variants_of _ = []

@@ -14,7 +14,7 @@ impl<FieldIdx: Idx, VariantIdx: Idx> LayoutData<FieldIdx, VariantIdx> {
     /// The layout of one variant of a type, as a type of its own: offsets, memory order, view, niche, mark and size
     /// are the variant's, the alignments and the mark of `repr(C)` the type's.
     ///
-    /// Asked of an index among several variants that a tag tells apart. `AllocError` where memory for the copy is
+    /// Asked of an index among several variants that a tag distinguishes. `AllocError` where memory for the copy is
     /// refused.
     pub fn for_variant(alloc: Global, parent: &Self, index: VariantIdx) -> Result<Self, AllocError>
         requires { VariantIdx.number index < length (variants_of parent.now.variants) }

@@ -1,4 +1,4 @@
-//! The test that tells whether a layout is lawful.
+//! The test of whether a layout is lawful.
 
 ghost use Rattle.std.specs.Prelude.{◌≡◌, ◌↔◌, ◌≤◌, IsTrue, IfSome};
 ghost use Rattle.abi_base.specs.DataLayout.{IsLawfulDataLayout};

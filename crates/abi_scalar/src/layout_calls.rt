@@ -1,4 +1,4 @@
-//! What a layout tells.
+//! What a layout says.
 
 ghost use Rattle.std.specs.Prelude.{◌≡◌, ◌↔◌, IsTrue};
 ghost use Rattle.abi_scalar.specs.View.{IsUnsizedView, IsSizedView, IsAggregateView, IsScalableView};

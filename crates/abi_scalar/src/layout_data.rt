@@ -15,7 +15,7 @@ use std::fmt::Debug;
 pub struct LayoutData<FieldIdx: Idx, VariantIdx: Idx> {
     /// Where the fields lie, without those that one variant alone has.
     pub fields: FieldsShape<FieldIdx>,
-    /// The variants that the type has, and what tells them apart.
+    /// The variants that the type has, and what distinguishes them.
     pub variants: Variants<FieldIdx, VariantIdx>,
     /// How a code generator sees the values.
     pub backend_repr: BackendRepr,

@@ -50,7 +50,7 @@ fn least_of_ascending(values: &[u128], size: Size) -> WrappingRange
 }
 
 /// These numbers of 64 bits, as values.
-fn widened(alloc: Global, short: &[u64]) -> Result<Vec<u128>, AllocError>
+fn wide_values(alloc: Global, short: &[u64]) -> Result<Vec<u128>, AllocError>
     ensures { IfOk result (λ values. values.items ≡ short.now) }
 {
     let mut values = Vec::with_capacity(alloc, short.len())?;
@@ -92,7 +92,7 @@ fn least_of_short(
         return Ok(Some(ends));
     }
     list.sort_unstable();
-    let sorted = widened(alloc, &list)?;
+    let sorted = wide_values(alloc, &list)?;
     Ok(Some(least_of_ascending(sorted.as_slice(), size)))
 }
 
@@ -112,7 +112,7 @@ fn least_of_wide(mut values: Vec<u128>, size: Size) -> Option<WrappingRange>
 
 /// The lower 64 bits of a value.
 #[inline(always)]
-fn low(value: u128) -> u64
+fn low_half(value: u128) -> u64
     ensures rest { result ≡ value % 2 ^ 64 }
     ensures narrow { result < 2 ^ 64 }
 {
@@ -135,7 +135,7 @@ where
     let mut least = u64::MAX;
     let mut greatest = 0;
     for value in values {
-        let value = low(value);
+        let value = low_half(value);
         least = least.min(value);
         greatest = greatest.max(value);
         list.push(value)?;

@@ -3,8 +3,8 @@
 ghost use Rattle.std.specs.Prelude.{◌≡◌, ◌↔◌, IsSome};
 ghost use Rattle.abi_scalar.specs.Count.{AreSoMany};
 ghost use Rattle.abi_scalar.specs.Range.{IsFree};
-ghost use Rattle.abi_scalar.specs.Scalar.{IsReadable};
-ghost use Rattle.abi_scalar.specs.Niche.{niche_size, available_in, niche_at, HasFreeNumber, IsReadableNiche};
+ghost use Rattle.abi_scalar.specs.Scalar.{IsWellFormed};
+ghost use Rattle.abi_scalar.specs.Niche.{niche_size, available_in, niche_at, HasFreeNumber, IsWellFormedNiche};
 
 use crate::scalar::Scalar;
 use crate::wrapping_range::WrappingRange;
@@ -15,7 +15,7 @@ use abi_base::{HasDataLayout, Primitive, Size};
 pub struct Niche {
     /// Where it begins, in bytes from the type's start.
     pub offset: Size,
-    /// What it consists of, which tells its width.
+    /// What it consists of, which gives its width.
     pub value: Primitive,
     /// The numbers that the scalar there may hold; all others are free.
     pub valid_range: WrappingRange,
@@ -24,7 +24,7 @@ pub struct Niche {
 impl Niche {
     /// The niche of a scalar at an offset. None for a union's scalar, and where no number is free.
     pub fn from_scalar<C: HasDataLayout>(cx: &C, offset: Size, scalar: Scalar) -> Option<Niche>
-        requires { IsReadable (C.target cx.now) scalar }
+        requires { IsWellFormed (C.target cx.now) scalar }
         ensures exact { result ≡ niche_at (C.target cx.now) offset scalar }
         ensures free { IsSome result ↔ HasFreeNumber (C.target cx.now) scalar }
     {
@@ -48,11 +48,11 @@ impl Niche {
     /// How many numbers of its width are outside its range, free for variants.
     #[tactic(auto, using(crate::proofs::CountLemmas::free_counted))]
     pub fn available<C: HasDataLayout>(&self, cx: &C) -> u128
-        requires { IsReadableNiche (C.target cx.now) self.now }
+        requires { IsWellFormedNiche (C.target cx.now) self.now }
         ensures exact { result ≡ available_in (C.target cx.now) self.now }
         ensures count { AreSoMany
             (IsFree (niche_size (C.target cx.now) self.now) self.now.valid_range) result }
     {
-        self.valid_range.free(self.value.size(cx))
+        self.valid_range.free_count(self.value.size(cx))
     }
 }

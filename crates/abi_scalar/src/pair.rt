@@ -1,9 +1,9 @@
 //! The layout of two scalars.
 
 ghost use Rattle.std.specs.Prelude.{◌≡◌, ◌<◌, [], ◌∷◌};
-ghost use Rattle.abi_index.specs.Few.{TwoFit};
+ghost use Rattle.abi_index.specs.InlineVec.{TwoFit};
 ghost use Rattle.abi_base.specs.DataLayout.{IsLawfulDataLayout, size_bound};
-ghost use Rattle.abi_scalar.specs.Scalar.{IsReadable, IsLawfulScalar};
+ghost use Rattle.abi_scalar.specs.Scalar.{IsWellFormed, IsLawfulScalar};
 ghost use Rattle.abi_scalar.specs.Lawful.{IsLawfulLayout};
 ghost use Rattle.abi_scalar.specs.Niche.{niche_at};
 ghost use Rattle.abi_scalar.specs.declared.fields_shape.FieldsShape.TheVariants.{Arbitrary};
@@ -23,8 +23,8 @@ use std::alloc::{AllocError, Global};
 /// The niche of two scalars: the one with more free numbers, the first's where both have as many.
 #[tactic(auto, using(crate::proofs::NicheLemmas::niche_readable))]
 fn pair_niche<C: HasDataLayout>(cx: &C, a: Scalar, b: Scalar, b_offset: Size) -> Option<Niche>
-    requires first { IsReadable (C.target cx.now) a }
-    requires second { IsReadable (C.target cx.now) b }
+    requires first { IsWellFormed (C.target cx.now) a }
+    requires second { IsWellFormed (C.target cx.now) b }
     ensures { result ≡ larger_niche (C.target cx.now) (niche_at (C.target cx.now) 0 a)
         (niche_at (C.target cx.now) b_offset b) }
 {
@@ -47,8 +47,8 @@ fn pair_niche<C: HasDataLayout>(cx: &C, a: Scalar, b: Scalar, b_offset: Size) ->
 
 /// The alignment of two scalars: the greatest of both and of a list of fields.
 fn pair_align<C: HasDataLayout>(cx: &C, a: Scalar, b: Scalar) -> Align
-    requires first { IsReadable (C.target cx.now) a }
-    requires second { IsReadable (C.target cx.now) b }
+    requires first { IsWellFormed (C.target cx.now) a }
+    requires second { IsWellFormed (C.target cx.now) b }
     ensures { result ≡ pair_align (C.target cx.now) a b }
 {
     let own = cx.data_layout().aggregate_align;
@@ -56,7 +56,7 @@ fn pair_align<C: HasDataLayout>(cx: &C, a: Scalar, b: Scalar) -> Align
 }
 
 /// Two items as a list.
-fn two<I: Idx, T: Copy>(alloc: Global, first: T, second: T) -> IndexVec<I, T>
+fn two_items<I: Idx, T: Copy>(alloc: Global, first: T, second: T) -> IndexVec<I, T>
     requires { TwoFit T.row }
     ensures { result ≡ first ∷ second ∷ [] }
 {
@@ -73,8 +73,8 @@ fn two_fields<FieldIdx: Idx>(alloc: Global, b_offset: Size) -> FieldsShape<Field
     ensures order { HasOrder FieldIdx.number result }
 {
     FieldsShape::Arbitrary {
-        offsets: two(alloc, Size::ZERO, b_offset),
-        in_memory_order: two(alloc, FieldIdx::new(0), FieldIdx::new(1)),
+        offsets: two_items(alloc, Size::ZERO, b_offset),
+        in_memory_order: two_items(alloc, FieldIdx::new(0), FieldIdx::new(1)),
     }
 }
 
@@ -83,8 +83,8 @@ impl<FieldIdx: Idx, VariantIdx: Idx> LayoutData<FieldIdx, VariantIdx> {
     /// aligned as both and as a list of fields. It asks for no memory.
     pub fn scalar_pair<C: HasDataLayout>(alloc: Global, cx: &C, a: Scalar, b: Scalar) -> Self
         requires data_layout { IsLawfulDataLayout (C.target cx.now) }
-        requires first { IsReadable (C.target cx.now) a }
-        requires second { IsReadable (C.target cx.now) b }
+        requires first { IsWellFormed (C.target cx.now) a }
+        requires second { IsWellFormed (C.target cx.now) b }
         ensures exact { result
             ≡ pair_layout (VariantIdx.at 0) (FieldIdx.at 0) (FieldIdx.at 1) (C.target cx.now) a b }
         // Where the size is below the data layout's bound.

@@ -3,7 +3,7 @@
 ghost use Rattle.std.specs.Prelude.{◌≡◌, ◌↔◌, ◌≤◌, ◌<◌, IsSome, IfSome};
 ghost use Rattle.abi_scalar.specs.Range.{numbers_of, AreWithin};
 ghost use Rattle.abi_scalar.specs.Scalar.{primitive_of, range_of};
-ghost use Rattle.abi_scalar.specs.Niche.{niche_size, available_in, IsReadableNiche};
+ghost use Rattle.abi_scalar.specs.Niche.{niche_size, available_in, IsWellFormedNiche};
 ghost use Rattle.abi_scalar.specs.Reserve.{stepped_on, stepped_back, magnitude, start_is_nearer, start_gives_room, moves_start, reserved, HandsOut};
 
 use crate::niche::Niche;
@@ -107,7 +107,7 @@ impl Niche {
     /// are free.
     #[tactic(auto, using(crate::proofs::ReserveLemmas::reserved_hands_out, crate::proofs::ReserveLemmas::one_below))]
     pub fn reserve<C: HasDataLayout>(&self, cx: &C, count: u128) -> Option<(u128, Scalar)>
-        requires readable { IsReadableNiche (C.target cx.now) self.now }
+        requires readable { IsWellFormedNiche (C.target cx.now) self.now }
         requires some { 1 ≤ count }
         ensures room { IsSome result ↔ (count ≤ available_in (C.target cx.now) self.now) }
         ensures side { IfSome result (λ handed.
@@ -118,7 +118,7 @@ impl Niche {
     {
         let size = self.value.size(cx);
         let range = self.valid_range;
-        if count > range.free(size) {
+        if count > range.free_count(size) {
             return None;
         }
         let (first, valid_range) = if moves_start(range, count, size) {

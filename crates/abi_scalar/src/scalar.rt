@@ -4,7 +4,7 @@ ghost use Rattle.std.specs.Prelude.{◌≡◌, ◌↔◌, IsTrue};
 ghost use Rattle.std.specs.Borrow.{sem};
 ghost use Rattle.abi_base.specs.Primitive.{KnowsPrimitive};
 ghost use Rattle.abi_scalar.specs.declared.scalar.Scalar.TheVariants.{Union};
-ghost use Rattle.abi_scalar.specs.Scalar.{primitive_of, scalar_size, scalar_align, range_of, IsUnion, HasRange, IsInitialized, IsBool, is_signed_integer, IsSignedInteger, IsAlwaysValid, IsReadable};
+ghost use Rattle.abi_scalar.specs.Scalar.{primitive_of, scalar_size, scalar_align, range_of, IsUnion, HasRange, IsInitialized, IsBool, is_signed_integer, IsSignedInteger, IsAlwaysValid, IsWellFormed};
 ghost use Rattle.abi_scalar.specs.Lending.{LendsRange};
 
 use crate::wrapping_range::WrappingRange;
@@ -99,7 +99,7 @@ impl Scalar {
 
     /// The numbers that it may hold: for a union's scalar all of its width.
     pub fn valid_range<C: HasDataLayout>(&self, cx: &C) -> WrappingRange
-        requires { IsReadable (C.target cx.now) self.now }
+        requires { IsWellFormed (C.target cx.now) self.now }
         ensures { result ≡ range_of (C.target cx.now) self.now }
     {
         match *self {
@@ -128,7 +128,7 @@ impl Scalar {
 
     /// Whether it may hold every number of its bytes.
     pub fn is_always_valid<C: HasDataLayout>(&self, cx: &C) -> bool
-        requires { IsReadable (C.target cx.now) self.now }
+        requires { IsWellFormed (C.target cx.now) self.now }
         ensures { IsTrue result ↔ IsAlwaysValid (C.target cx.now) self.now }
     {
         match *self {

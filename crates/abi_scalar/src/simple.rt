@@ -2,7 +2,7 @@
 
 ghost use Rattle.std.specs.Prelude.{◌≡◌, ◌%◌};
 ghost use Rattle.abi_base.specs.DataLayout.{IsLawfulDataLayout};
-ghost use Rattle.abi_scalar.specs.Scalar.{IsReadable, IsLawfulScalar};
+ghost use Rattle.abi_scalar.specs.Scalar.{IsWellFormed, IsLawfulScalar};
 ghost use Rattle.abi_scalar.specs.Simple.{seed_kind, mixed, scalar_seed, scalar_layout, unit_layout, never_layout, uninhabited_layout};
 ghost use Rattle.abi_scalar.specs.Lawful.{IsLawfulLayout};
 ghost use Rattle.abi_scalar.specs.Order.{HasOrder};
@@ -17,7 +17,7 @@ use abi_base::{AbiAlign, HasDataLayout, Primitive, Size};
 use abi_index::{Hash64, Idx, IndexVec};
 use std::alloc::Global;
 
-/// What tells apart the seeds of equally large primitives.
+/// What distinguishes the seeds of equally large primitives.
 fn kind(value: Primitive) -> u64
     ensures { result ≡ seed_kind value }
 {
@@ -37,7 +37,7 @@ fn mix(n: u128) -> Hash64
 
 /// The seed of a scalar.
 fn seed<C: HasDataLayout>(cx: &C, scalar: Scalar) -> Hash64
-    requires { IsReadable (C.target cx.now) scalar }
+    requires { IsWellFormed (C.target cx.now) scalar }
     ensures { result ≡ scalar_seed (C.target cx.now) scalar }
 {
     let range = scalar.valid_range(cx);
@@ -49,7 +49,7 @@ fn seed<C: HasDataLayout>(cx: &C, scalar: Scalar) -> Hash64
 }
 
 impl<FieldIdx: Idx, VariantIdx: Idx> LayoutData<FieldIdx, VariantIdx> {
-    /// The layout of a type without fields: no bytes, aligned as an `i8`. `sized` tells whether its size is known
+    /// The layout of a type without fields: no bytes, aligned as an `i8`. `sized` gives whether its size is known
     /// beforehand. It takes no memory.
     pub fn unit<C: HasDataLayout>(alloc: Global, cx: &C, sized: bool) -> Self
         ensures exact { result ≡ unit_layout (VariantIdx.at 0) (C.target cx.now) sized }
@@ -139,7 +139,7 @@ impl<FieldIdx: Idx, VariantIdx: Idx> LayoutData<FieldIdx, VariantIdx> {
 
     /// The layout of one scalar: its size, its own alignment, and its free numbers as niche.
     pub fn scalar<C: HasDataLayout>(cx: &C, scalar: Scalar) -> Self
-        requires { IsReadable (C.target cx.now) scalar }
+        requires { IsWellFormed (C.target cx.now) scalar }
         ensures exact { result ≡ scalar_layout (VariantIdx.at 0) (C.target cx.now) scalar }
         ensures lawful { IsLawfulDataLayout (C.target cx.now) →
             IsLawfulScalar (C.target cx.now) scalar → IsLawfulLayout (C.target cx.now) result }

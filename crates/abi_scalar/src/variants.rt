@@ -81,7 +81,7 @@ pub enum Variants<FieldIdx: Idx, VariantIdx: Idx> {
         /// Which it is.
         index: VariantIdx,
     },
-    /// Several, told apart by a tag.
+    /// Several, distinguished by a tag.
     Multiple {
         /// The scalar that the tag is, with the numbers that it may hold.
         tag: Scalar,

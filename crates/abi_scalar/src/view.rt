@@ -1,4 +1,4 @@
-//! What a view of a type tells.
+//! What a view of a type says.
 
 ghost use Rattle.std.specs.Prelude.{◌≡◌, ◌↔◌, IsTrue};
 ghost use Rattle.abi_scalar.specs.View.{IsUnsizedView, IsSizedView, IsScalarView, IsScalarOrSimdView, IsBoolView, IsSignedView, IsSameUpToValidity, IsScalarOf, IsPairOf, IsVectorOf, KnowsView, HasFittingSize, platform_align, platform_size, union_view};

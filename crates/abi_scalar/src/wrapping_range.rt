@@ -133,7 +133,7 @@ impl WrappingRange {
         requires within { AreWithin size self.now }
         ensures { IsTrue result ↔ IsFull size self.now }
     {
-        self.free(size) == 0
+        self.free_count(size) == 0
     }
 
     /// Whether it has no gap when its numbers are read as unsigned; `RangeFull` where it has every number.
@@ -168,7 +168,7 @@ impl WrappingRange {
     }
 
     /// How many numbers of `size` bytes it doesn't have.
-    pub(crate) fn free(&self, size: Size) -> u128
+    pub(crate) fn free_count(&self, size: Size) -> u128
         requires some { 1 ≤ size }
         requires most { size ≤ 16 }
         requires within { AreWithin size self.now }
@@ -189,7 +189,7 @@ impl WrappingRange {
         requires within { AreWithin size self.now }
         ensures { IsTrue result ↔ ((n : ℕ) × IsFree size self.now n) }
     {
-        self.free(size) != 0
+        self.free_count(size) != 0
     }
 }
 

@@ -3,7 +3,7 @@
 
 ghost use Rattle.std.specs.Prelude.{IsTrue};
 ghost use Rattle.abi_types.specs.Ty.Runs.{IsVariantIndex};
-ghost use Rattle.listed_types.specs.Nodes.{IsLawfulHandle};
+ghost use Rattle.listed_types.specs.Nodes.{IsWellFormedHandle};
 
 use crate::shapes::{Data, F32, Row, Shape, U8, U32, types};
 use abi_base::Size;
@@ -92,7 +92,7 @@ static WALKED: [(usize, Walked); 24] = [
 
 /// The index of the one field that is more than a place, if there is one.
 pub(crate) fn only_field(it: TyAndLayout<'_, Part<'_>>) -> Option<usize>
-    requires { IsLawfulHandle it }
+    requires { IsWellFormedHandle it }
 {
     match it.non_1zst_field(&()) {
         Some((index, _field)) => Some(index.as_usize()),
@@ -102,7 +102,7 @@ pub(crate) fn only_field(it: TyAndLayout<'_, Part<'_>>) -> Option<usize>
 
 /// The index of the one field that takes bytes, if there is one.
 fn only_of_bytes(it: TyAndLayout<'_, Part<'_>>) -> Option<usize>
-    requires { IsLawfulHandle it }
+    requires { IsWellFormedHandle it }
 {
     match it.non_zst_field_ignore_alignment(&()) {
         Some((index, _field)) => Some(index.as_usize()),
@@ -188,7 +188,7 @@ fn is_padded(
     it: TyAndLayout<'_, Part<'_>>,
     wanted: &[(u64, u64)],
 ) -> Result<bool, AllocError>
-    requires { IsLawfulHandle it }
+    requires { IsWellFormedHandle it }
 {
     if it.layout.data().is_unsized() {
         return Ok(false);
@@ -243,7 +243,7 @@ fn leaves_unused(
     index: VariantIdx,
     wanted: &[(u64, u64)],
 ) -> Result<bool, AllocError>
-    requires { IsLawfulHandle it }
+    requires { IsWellFormedHandle it }
 {
     if !is_variant(it.layout.data(), index.as_usize()) {
         return Ok(false);

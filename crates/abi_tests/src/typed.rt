@@ -1,7 +1,7 @@
 //! Walks over types by what they say of themselves: complex numbers, transparent types, types that are passed by a
 //! pointer.
 
-ghost use Rattle.listed_types.specs.Nodes.{IsLawfulHandle};
+ghost use Rattle.listed_types.specs.Nodes.{IsWellFormedHandle};
 
 use crate::kinds::only_field;
 use crate::shapes::{F32, Row, Shape, types};
@@ -72,7 +72,7 @@ fn is_float(number: Option<Numeric>, float: Option<Float>) -> bool {
 
 /// Whether the walks agree that the type is a complex number of this float, or none.
 fn agree(it: TyAndLayout<'_, Part<'_>>, float: Option<Float>) -> bool
-    requires { IsLawfulHandle it }
+    requires { IsWellFormedHandle it }
 {
     it.is_complex_number(&()) == float.is_some() && is_float(it.complex_number(&()), float)
 }

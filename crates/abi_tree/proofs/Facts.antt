@@ -87,12 +87,12 @@ coroutine_is prefix locals states conflicts none items held pairs =
 pair_is : value_of (PairKept 1 258) ≡ two 1 258
 pair_is = value_of-Pair 1 258
 
--- ---- what a handle of each kind of node tells
+-- ---- what a handle of each kind of node says
 
 -- whether it is a struct, a union or an enum, an enum, the type without a value, a tuple, the tuple of no types, transparent, and passed
 -- by a pointer
-abbrev told : Shape → List Bool
-told shape =
+abbrev tag_layout : Shape → List Bool
+tag_layout shape =
     let marks : Marks = marks_in shape in
     marks.is_adt ∷ marks.is_enum ∷ marks.is_never ∷ marks.is_tuple ∷ marks.is_unit ∷ marks.is_transparent ∷ marks.is_passed_indirectly ∷ []
 
@@ -106,53 +106,53 @@ a_struct = mark_of false (with_flags 0)
 abbrev an_enum : Mark
 an_enum = mark_of true (with_flags 0)
 
-number_tells : (s : Scalar) → told (kind.Scalar s) ≡ nothing_told
+number_tells : (s : Scalar) → tag_layout (kind.Scalar s) ≡ nothing_told
 number_tells s = refl
 
-pair_tells : (first second : ℕ) → told (kind.Pair first second) ≡ nothing_told
+pair_tells : (first second : ℕ) → tag_layout (kind.Pair first second) ≡ nothing_told
 pair_tells first second = refl
 
-never_tells : told (kind.Never NoValue) ≡ (false ∷ false ∷ true ∷ false ∷ false ∷ false ∷ false ∷ [])
+never_tells : tag_layout (kind.Never NoValue) ≡ (false ∷ false ∷ true ∷ false ∷ false ∷ false ∷ false ∷ [])
 never_tells = refl
 
-enum_of_none_tells : told (kind.Never an_enum) ≡ (true ∷ true ∷ false ∷ false ∷ false ∷ false ∷ false ∷ [])
+enum_of_none_tells : tag_layout (kind.Never an_enum) ≡ (true ∷ true ∷ false ∷ false ∷ false ∷ false ∷ false ∷ [])
 enum_of_none_tells = refl
 
-array_tells : (count element : ℕ) → told (kind.Elements count element) ≡ nothing_told
+array_tells : (count element : ℕ) → tag_layout (kind.Elements count element) ≡ nothing_told
 array_tells count element = refl
 
-vector_tells : (lanes : ℕ) → told (kind.Vector lanes) ≡ nothing_told
+vector_tells : (lanes : ℕ) → tag_layout (kind.Vector lanes) ≡ nothing_told
 vector_tells lanes = refl
 
 module _ (children : Vec ℕ Global) where
-  unit_tells : told (kind.Fields Empty children) ≡ (false ∷ false ∷ false ∷ true ∷ true ∷ false ∷ false ∷ [])
+  unit_tells : tag_layout (kind.Fields Empty children) ≡ (false ∷ false ∷ false ∷ true ∷ true ∷ false ∷ false ∷ [])
   unit_tells = refl
 
-  struct_tells : told (kind.Fields a_struct children) ≡ (true ∷ false ∷ false ∷ false ∷ false ∷ false ∷ false ∷ [])
+  struct_tells : tag_layout (kind.Fields a_struct children) ≡ (true ∷ false ∷ false ∷ false ∷ false ∷ false ∷ false ∷ [])
   struct_tells = refl
 
-  transparent_tells : told (kind.Fields (mark_of false (with_flags 4)) children) ≡ (true ∷ false ∷ false ∷ false ∷ false ∷ true ∷ false ∷ [])
+  transparent_tells : tag_layout (kind.Fields (mark_of false (with_flags 4)) children) ≡ (true ∷ false ∷ false ∷ false ∷ false ∷ true ∷ false ∷ [])
   transparent_tells = refl
 
-  indirect_tells : told (kind.Fields (mark_of false (with_flags 32)) children) ≡ (true ∷ false ∷ false ∷ false ∷ false ∷ false ∷ true ∷ [])
+  indirect_tells : tag_layout (kind.Fields (mark_of false (with_flags 32)) children) ≡ (true ∷ false ∷ false ∷ false ∷ false ∷ false ∷ true ∷ [])
   indirect_tells = refl
 
-  variant_tells : told (kind.Fields an_enum children) ≡ (true ∷ true ∷ false ∷ false ∷ false ∷ false ∷ false ∷ [])
+  variant_tells : tag_layout (kind.Fields an_enum children) ≡ (true ∷ true ∷ false ∷ false ∷ false ∷ false ∷ false ∷ [])
   variant_tells = refl
 
-  state_tells : told (kind.Fields Plain children) ≡ nothing_told
+  state_tells : tag_layout (kind.Fields Plain children) ≡ nothing_told
   state_tells = refl
 
-  union_tells : told (kind.Union a_struct children) ≡ (true ∷ false ∷ false ∷ false ∷ false ∷ false ∷ false ∷ [])
+  union_tells : tag_layout (kind.Union a_struct children) ≡ (true ∷ false ∷ false ∷ false ∷ false ∷ false ∷ false ∷ [])
   union_tells = refl
 
-  enum_of_one_tells : told (kind.Single an_enum children) ≡ (true ∷ true ∷ false ∷ false ∷ false ∷ false ∷ false ∷ [])
+  enum_of_one_tells : tag_layout (kind.Single an_enum children) ≡ (true ∷ true ∷ false ∷ false ∷ false ∷ false ∷ false ∷ [])
   enum_of_one_tells = refl
 
-  enum_tells : (tag : ℕ) (variants : Vec (ℕ × ℕ) Global) → told (kind.Tagged an_enum tag variants) ≡ (true ∷ true ∷ false ∷ false ∷ false ∷ false ∷ false ∷ [])
+  enum_tells : (tag : ℕ) (variants : Vec (ℕ × ℕ) Global) → tag_layout (kind.Tagged an_enum tag variants) ≡ (true ∷ true ∷ false ∷ false ∷ false ∷ false ∷ false ∷ [])
   enum_tells tag variants = refl
 
-  coroutine_tells : (tag : ℕ) (states : Vec (ℕ × ℕ) Global) → told (kind.States children tag states) ≡ nothing_told
+  coroutine_tells : (tag : ℕ) (states : Vec (ℕ × ℕ) Global) → tag_layout (kind.States children tag states) ≡ nothing_told
   coroutine_tells tag states = refl
 
 -- ---- the nodes that data places rest on

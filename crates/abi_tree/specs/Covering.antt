@@ -3,13 +3,13 @@ use Rattle.std.specs.Prelude.{ℕ, zero, suc, ◌+◌, ◌-◌, ◌==◌, ◌&&�
 use Rattle.abi_scalar.specs.declared.variants.TagEncoding.{TagEncoding}
 use Rattle.abi_scalar.specs.declared.variants.TagEncoding.TheVariants.{Direct, Niche}
 use Rattle.abi_tree.specs.Value.{Value, number, two, list, variant, state, bytes, Values, no_values, more_values}
-use Rattle.abi_tree.specs.Placed.{Placed, scalar, pair, elements, vector, fields, union, single, tagged, states, Parts, part, Arms, no_arms, arm, size_of}
+use Rattle.abi_tree.specs.Placed.{Placed, scalar, pair, elements, vector, fields, union, single, tagged, states, Parts, part, TaggedVariants, no_tagged_variants, tagged_variant, size_of}
 use Rattle.abi_tree.specs.Places.{is_data_place}
 
 -- the variant has a number of its own in the tag: the untagged one has none
-abbrev pub is_told : TagEncoding ℕ → (index : ℕ) → Bool
-is_told Direct i = true
-is_told (Niche untagged span start) i = not (i == untagged)
+abbrev pub is_tagged : TagEncoding ℕ → (index : ℕ) → Bool
+is_tagged Direct i = true
+is_tagged (Niche untagged span start) i = not (i == untagged)
 
 -- byte k is one of the n bytes from the offset on
 abbrev pub is_byte_at : (offset n k : ℕ) → Bool
@@ -30,10 +30,10 @@ abbrev mutual
   is_covered (fields layout mark parts) (list vs) k = are_covered parts vs k
   is_covered (union layout mark parts) (bytes content) k = is_data_place (union layout mark parts) k
   is_covered (single layout mark index parts) (variant i vs) k = are_covered parts vs k
-  is_covered (tagged layout mark offset tag encoding arms) (variant i vs) k =
-      (is_told encoding i && is_byte_at offset (size_of tag) k) || is_arm_covered arms i vs k
-  is_covered (states layout prefix offset tag arms) (state i ps vs) k =
-      are_covered prefix ps k || (is_byte_at offset (size_of tag) k || is_arm_covered arms i vs k)
+  is_covered (tagged layout mark offset tag encoding tagged_variants) (variant i vs) k =
+      (is_tagged encoding i && is_byte_at offset (size_of tag) k) || is_tagged_variant_covered tagged_variants i vs k
+  is_covered (states layout prefix offset tag tagged_variants) (state i ps vs) k =
+      are_covered prefix ps k || (is_byte_at offset (size_of tag) k || is_tagged_variant_covered tagged_variants i vs k)
   is_covered _ v k = false
 
   -- byte k is covered by the value of some part
@@ -41,8 +41,8 @@ abbrev mutual
   are_covered (part offset placed parts) (more_values v vs) k = (is_byte_at offset (size_of placed) k && is_covered placed v (k - offset)) || are_covered parts vs k
   are_covered _ vs k = false
 
-  -- byte k is covered by the value of some part of the arm with this index
-  pub is_arm_covered : Arms → (index : ℕ) → Values → (k : ℕ) → Bool
-  is_arm_covered no_arms i vs k = false
-  is_arm_covered (arm code layout mark parts arms) zero vs k = are_covered parts vs k
-  is_arm_covered (arm code layout mark parts arms) (suc i) vs k = is_arm_covered arms i vs k
+  -- byte k is covered by the value of some part of the tagged variant with this index
+  pub is_tagged_variant_covered : TaggedVariants → (index : ℕ) → Values → (k : ℕ) → Bool
+  is_tagged_variant_covered no_tagged_variants i vs k = false
+  is_tagged_variant_covered (tagged_variant code layout mark parts tagged_variants) zero vs k = are_covered parts vs k
+  is_tagged_variant_covered (tagged_variant code layout mark parts tagged_variants) (suc i) vs k = is_tagged_variant_covered tagged_variants i vs k

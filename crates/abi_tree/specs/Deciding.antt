@@ -14,7 +14,7 @@ use Rattle.abi_tree.specs.Tree.{Tree}
 use Rattle.abi_tree.specs.Value.{Value, number, two, list, variant, state, bytes, Values, no_values, more_values}
 use Rattle.abi_tree.specs.Values.{IsValueOf}
 use Rattle.abi_tree.specs.Bytes.{AreBytes, count_picked}
-use Rattle.abi_tree.specs.Placed.{Placed, scalar, pair, never, elements, vector, fields, union, single, tagged, states, Parts, no_parts, part, Arms, no_arms, arm, size_of}
+use Rattle.abi_tree.specs.Placed.{Placed, scalar, pair, never, elements, vector, fields, union, single, tagged, states, Parts, no_parts, part, TaggedVariants, no_tagged_variants, tagged_variant, size_of}
 use Rattle.abi_tree.specs.Places.{is_data_place, is_place_of_part}
 use Rattle.abi_tree.specs.Holding.{Holds}
 use Rattle.abi_tree.specs.Covering.{is_byte_at, is_covered}
@@ -66,20 +66,20 @@ abbrev pub each_value : (Option ℕ → Value) → (n offset count : ℕ) → Op
 each_value value n offset zero place = no_values
 each_value value n offset (suc count) place = more_values (value (place_in place offset n)) (each_value value n (offset + n) count place)
 
--- the index of the first arm a part of which has the data place, counted from the one given on; else another index
-abbrev pub first_with : Arms → (k from otherwise : ℕ) → ℕ
-first_with no_arms k from otherwise = otherwise
-first_with (arm code layout mark parts arms) k from otherwise = if is_place_of_part parts k then from else first_with arms k (from + 1) otherwise
+-- the index of the first tagged variant a part of which has the data place, counted from the one given on; else another index
+abbrev pub first_with : TaggedVariants → (k from otherwise : ℕ) → ℕ
+first_with no_tagged_variants k from otherwise = otherwise
+first_with (tagged_variant code layout mark parts tagged_variants) k from otherwise = if is_place_of_part parts k then from else first_with tagged_variants k (from + 1) otherwise
 
 -- the first variant that has a number of its own in the tag
-abbrev pub first_told : TagEncoding ℕ → ℕ
-first_told Direct = 0
-first_told (Niche untagged span start) = if untagged == 0 then 1 else 0
+abbrev pub first_tagged : TagEncoding ℕ → ℕ
+first_tagged Direct = 0
+first_tagged (Niche untagged span start) = if untagged == 0 then 1 else 0
 
 -- the first variant a part of which has the place, and for a place of the tag, or for none, the first that has a number of its own
-abbrev pub arm_for : TagEncoding ℕ → Arms → Option ℕ → ℕ
-arm_for encoding arms None = first_told encoding
-arm_for encoding arms (Some k) = first_with arms k 0 (first_told encoding)
+abbrev pub tagged_variant_for : TagEncoding ℕ → TaggedVariants → Option ℕ → ℕ
+tagged_variant_for encoding tagged_variants None = first_tagged encoding
+tagged_variant_for encoding tagged_variants (Some k) = first_with tagged_variants k 0 (first_tagged encoding)
 
 abbrev mutual
   -- a value that covers the place, where it is a data place of the type; with no place, any value
@@ -92,10 +92,10 @@ abbrev mutual
   covering_value (fields layout mark parts) place = list (covering_values parts place)
   covering_value (union layout mark parts) place = bytes (replicate (count_picked (is_data_place (union layout mark parts)) 0 layout.size) 0)
   covering_value (single layout mark index parts) place = variant index (covering_values parts place)
-  covering_value (tagged layout mark offset tag encoding arms) place =
-      variant (arm_for encoding arms place) (arm_values arms (arm_for encoding arms place) place)
-  covering_value (states layout prefix offset tag arms) place =
-      state (arm_for Direct arms place) (covering_values prefix place) (arm_values arms (arm_for Direct arms place) place)
+  covering_value (tagged layout mark offset tag encoding tagged_variants) place =
+      variant (tagged_variant_for encoding tagged_variants place) (tagged_variant_values tagged_variants (tagged_variant_for encoding tagged_variants place) place)
+  covering_value (states layout prefix offset tag tagged_variants) place =
+      state (tagged_variant_for Direct tagged_variants place) (covering_values prefix place) (tagged_variant_values tagged_variants (tagged_variant_for Direct tagged_variants place) place)
 
   -- one value for each part
   pub covering_values : Parts → Option ℕ → Values
@@ -103,11 +103,11 @@ abbrev mutual
   covering_values (part offset placed parts) place =
       more_values (covering_value placed (place_in place offset (size_of placed))) (covering_values parts place)
 
-  -- one value for each part of the arm with this index
-  pub arm_values : Arms → (index : ℕ) → Option ℕ → Values
-  arm_values no_arms i place = no_values
-  arm_values (arm code layout mark parts arms) zero place = covering_values parts place
-  arm_values (arm code layout mark parts arms) (suc i) place = arm_values arms i place
+  -- one value for each part of the tagged variant with this index
+  pub tagged_variant_values : TaggedVariants → (index : ℕ) → Option ℕ → Values
+  tagged_variant_values no_tagged_variants i place = no_values
+  tagged_variant_values (tagged_variant code layout mark parts tagged_variants) zero place = covering_values parts place
+  tagged_variant_values (tagged_variant code layout mark parts tagged_variants) (suc i) place = tagged_variant_values tagged_variants i place
 
 -- ---- types that have values everywhere
 

@@ -13,7 +13,7 @@ use Rattle.abi_tree.specs.Untagged.{UntaggedNamed}
 
 -- The laid-out type keeps the tree's values, its layout is lawful, each part ends inside, its data places lie inside it,
 -- byte lists that hold one value of a union in it hold the same values of the union's fields, and the fields of the untagged
--- variant of each enum in it that a niche tells apart hold a number that names this variant.
+-- variant of each enum in it that a niche distinguishes hold a number that names this variant.
 pub record Fits (dl : TargetDataLayout) (tree : Tree) (placed : Placed) : Type 0 where
   pub faithful : LocalsHaveValues dl tree → IsFaithful dl tree placed
   pub lawful : IsLawfulLayout dl (layout_of placed)

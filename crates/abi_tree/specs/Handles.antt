@@ -2,7 +2,7 @@
 use Rattle.std.specs.Prelude.{◌≡◌, ℕ, ◌<◌, ⊤, get_or, length}
 use Rattle.abi_types.specs.declared.ty.interface.TyAndLayout.{TyAndLayout}
 use Rattle.abi_types.specs.Ty.Typed.{Typed, layout_in}
-use Rattle.abi_types.specs.Ty.Lawful.{IsLawfulType}
+use Rattle.abi_types.specs.Ty.Lawful.{IsWellFormedType}
 use Rattle.abi_tree.specs.declared.node.Shape.{Shape}
 use Rattle.abi_tree.specs.declared.node.Shape.TheVariants.{Elements}
 use Rattle.abi_tree.specs.declared.handle.TreeTy.{TreeTy}
@@ -22,7 +22,7 @@ field_place shape i = get_or (field_nodes shape) i 0
 abbrev pub variant_place : Shape → (index : ℕ) → ℕ
 variant_place shape v = get_or (variant_nodes shape) v 0
 
--- the type that a handle tells of
+-- the type that a handle shows
 abbrev pub tree_type : TyAndLayout TreeTy → Typed
 tree_type this = typed_at this.ty.laid.now.nodes this.ty.node
 
@@ -34,4 +34,4 @@ tree_depth this = this.ty.node
 pub record IsHandle (this : TyAndLayout TreeTy) : Type 0 where
   pub there : this.ty.node < length this.ty.laid.now.nodes
   pub layout : layout_in (tree_type this) ≡ this.layout.0.now
-  pub lawful : IsLawfulType (tree_type this)
+  pub lawful : IsWellFormedType (tree_type this)

@@ -5,7 +5,7 @@ use Rattle.abi_scalar.specs.declared.variants.TagEncoding.TheVariants.{Direct}
 use Rattle.abi_scalar.specs.Scalar.{IsNumberOf}
 use Rattle.abi_tree.specs.Value.{Value, number, two, list, variant, state, bytes, Values, no_values, more_values, value_count}
 use Rattle.abi_tree.specs.Bytes.{bytes_at, number_of, picked_bytes}
-use Rattle.abi_tree.specs.Placed.{Placed, scalar, pair, elements, vector, fields, union, single, tagged, states, Parts, no_parts, part, Arms, no_arms, arm, size_of}
+use Rattle.abi_tree.specs.Placed.{Placed, scalar, pair, elements, vector, fields, union, single, tagged, states, Parts, no_parts, part, TaggedVariants, no_tagged_variants, tagged_variant, size_of}
 use Rattle.abi_tree.specs.Places.{is_data_place}
 use Rattle.abi_tree.specs.Tag.{Names}
 
@@ -38,12 +38,12 @@ module _ (order : Endian) where
     Holds (union layout mark parts) b (bytes content) =
         (length b ≡ layout.size) × (content ≡ picked_bytes (is_data_place (union layout mark parts)) 0 b)
     Holds (single layout mark index parts) b (variant i vs) = (length b ≡ layout.size) × (i ≡ index) × HoldParts parts b vs
-    Holds (tagged layout mark offset tag encoding arms) b (variant i vs) =
+    Holds (tagged layout mark offset tag encoding tagged_variants) b (variant i vs) =
         (length b ≡ layout.size) × (offset + size_of tag ≤ length b)
-        × Names encoding (size_of tag) arms (tag_at order b offset (size_of tag)) i × HoldArm arms i b vs
-    Holds (states layout prefix offset tag arms) b (state i ps vs) =
+        × Names encoding (size_of tag) tagged_variants (tag_at order b offset (size_of tag)) i × HoldTaggedVariant tagged_variants i b vs
+    Holds (states layout prefix offset tag tagged_variants) b (state i ps vs) =
         (length b ≡ layout.size) × HoldParts prefix b ps × (offset + size_of tag ≤ length b)
-        × Names Direct (size_of tag) arms (tag_at order b offset (size_of tag)) i × HoldArm arms i b vs
+        × Names Direct (size_of tag) tagged_variants (tag_at order b offset (size_of tag)) i × HoldTaggedVariant tagged_variants i b vs
     Holds _ b _ = ⊥
 
     -- each part holds its value at its place
@@ -53,8 +53,8 @@ module _ (order : Endian) where
         IsAt offset (size_of placed) (λ slice. Holds placed slice v) b × HoldParts parts b vs
     HoldParts _ b _ = ⊥
 
-    -- the parts of the arm with this index hold these values
-    pub HoldArm : Arms → (index : ℕ) → List ℕ → Values → Type 0
-    HoldArm no_arms i b vs = ⊥
-    HoldArm (arm code layout mark parts arms) zero b vs = HoldParts parts b vs
-    HoldArm (arm code layout mark parts arms) (suc i) b vs = HoldArm arms i b vs
+    -- the parts of the tagged variant with this index hold these values
+    pub HoldTaggedVariant : TaggedVariants → (index : ℕ) → List ℕ → Values → Type 0
+    HoldTaggedVariant no_tagged_variants i b vs = ⊥
+    HoldTaggedVariant (tagged_variant code layout mark parts tagged_variants) zero b vs = HoldParts parts b vs
+    HoldTaggedVariant (tagged_variant code layout mark parts tagged_variants) (suc i) b vs = HoldTaggedVariant tagged_variants i b vs

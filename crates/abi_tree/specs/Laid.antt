@@ -11,7 +11,7 @@ use Rattle.abi_tree.specs.Typed.{typed_at}
 abbrev pub placed_of : Laid → Placed
 placed_of laid = root_of laid.nodes
 
--- the type, as handles tell of it
+-- the type, as handles show it
 abbrev pub typed_of : Laid → Typed
 typed_of laid = typed_at laid.nodes (length laid.nodes - 1)
 

@@ -1,4 +1,4 @@
--- What a type tells of itself beside its layout.
+-- What a type says of itself beside its layout.
 use Rattle.std.specs.Prelude.{Bool, true}
 use Rattle.abi_scalar.specs.declared.repr.ReprOptions.{ReprOptions}
 use Rattle.abi_scalar.specs.Repr.{has_flags, is_transparent}
@@ -10,7 +10,7 @@ use Rattle.abi_tree.specs.declared.mark.Mark.TheVariants.{Plain, Never, Unit, Ad
 abbrev pub mark_of : (is_enum : Bool) → ReprOptions → Mark
 mark_of is_enum repr = Adt is_enum (is_transparent repr) (has_flags repr 32)
 
--- what a handle of a type tells that is this
+-- what a handle of a type says that is this
 abbrev pub marks_by : Mark → Marks
 marks_by Plain = no_marks
 marks_by Never = record no_marks { is_never = true }

@@ -129,7 +129,7 @@ abbrev pub ArePartsMade : List Placed → (done : List (List (ℕ × ℕ))) → 
 ArePartsMade types done size offsets children =
     (i : ℕ) → i < length offsets → i < length children → IsPartMade types done size (get_or offsets i 0) (get_or children i 0)
 
--- the numbers and the nodes of the variants or states that a tag tells apart
+-- the numbers and the nodes of the variants or states that a tag distinguishes
 abbrev pub numbered_nodes : Shape → List (ℕ × ℕ)
 numbered_nodes (Tagged mark tag variants) = variants.items
 numbered_nodes (States prefix tag all) = all.items

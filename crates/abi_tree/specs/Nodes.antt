@@ -5,7 +5,7 @@ use Rattle.abi_scalar.specs.declared.variants.TagEncoding.{TagEncoding}
 use Rattle.abi_scalar.specs.declared.variants.TagEncoding.TheVariants.{Direct}
 use Rattle.abi_scalar.specs.declared.variants.Variants.{Variants}
 use Rattle.abi_scalar.specs.declared.variants.Variants.TheVariants.{Single as OneVariant, Multiple}
-use Rattle.abi_tree.specs.Placed.{Placed, scalar, pair, never, elements, vector, fields, union, single, tagged, states, Parts, no_parts, part, Arms, no_arms, arm, layout_of, nothing}
+use Rattle.abi_tree.specs.Placed.{Placed, scalar, pair, never, elements, vector, fields, union, single, tagged, states, Parts, no_parts, part, TaggedVariants, no_tagged_variants, tagged_variant, layout_of, nothing}
 use Rattle.abi_scalar.specs.Layout.{Layout}
 use Rattle.abi_tree.specs.declared.mark.Mark.{Mark}
 use Rattle.abi_tree.specs.declared.mark.Mark.TheVariants.{Plain}
@@ -44,7 +44,7 @@ tag_offset layout = get_or (listed_offsets layout.fields) 0 0
 abbrev pub state_tag_offset : Layout → (prefix : ℕ) → ℕ
 state_tag_offset layout prefix = get_or (listed_offsets layout.fields) prefix 0
 
--- how a tag tells variants apart
+-- how a tag distinguishes variants
 abbrev pub encoding_of : Variants ℕ ℕ → TagEncoding ℕ
 encoding_of (Multiple tag encoding field layouts) = encoding
 encoding_of _ = Direct
@@ -54,25 +54,25 @@ abbrev pub own_fields : Placed → Parts
 own_fields (fields layout mark parts) = parts
 own_fields _ = no_parts
 
--- what it tells of itself
+-- what it says of itself
 abbrev pub own_mark : Placed → Mark
 own_mark (fields layout mark parts) = mark
 own_mark _ = Plain
 
 -- a variant or state with this number, which has a node of its own, before others
-abbrev pub own_arm : (number : ℕ) → Placed → Arms → Arms
-own_arm number placed arms = arm number (layout_of placed) (own_mark placed) (own_fields placed) arms
+abbrev pub own_tagged_variant : (number : ℕ) → Placed → TaggedVariants → TaggedVariants
+own_tagged_variant number placed tagged_variants = tagged_variant number (layout_of placed) (own_mark placed) (own_fields placed) tagged_variants
 
 -- variants or states beside a tag, each with its number
-abbrev pub arms_in : List Placed → List (ℕ × ℕ) → Arms
-arms_in done [] = no_arms
-arms_in done (v ∷ vs) = own_arm v.0 (placed_in done v.1) (arms_in done vs)
+abbrev pub tagged_variants_in : List Placed → List (ℕ × ℕ) → TaggedVariants
+tagged_variants_in done [] = no_tagged_variants
+tagged_variants_in done (v ∷ vs) = own_tagged_variant v.0 (placed_in done v.1) (tagged_variants_in done vs)
 
 -- prefix fields, a tag, and states beside it
 abbrev pub states_in : List Placed → Layout → (prefix : List ℕ) → (tag : ℕ) → (all : List (ℕ × ℕ)) → Placed
 states_in done layout prefix tag all =
     states layout (parts_at (listed_offsets layout.fields) (map (placed_in done) prefix)) (state_tag_offset layout (length prefix)) (placed_in done tag)
-    (arms_in done all)
+    (tagged_variants_in done all)
 
 -- what a node means, after those before it
 abbrev pub meaning : List Placed → Layout → Shape → Placed
@@ -87,7 +87,7 @@ meaning done layout (Vector lanes) = vector layout (placed_in done lanes)
 meaning done layout (Single mark children) =
     single layout mark (variant_left layout.variants) (parts_at (listed_offsets layout.fields) (map (placed_in done) children.items))
 meaning done layout (Tagged mark tag variants) =
-    tagged layout mark (tag_offset layout) (placed_in done tag) (encoding_of layout.variants) (arms_in done variants.items)
+    tagged layout mark (tag_offset layout) (placed_in done tag) (encoding_of layout.variants) (tagged_variants_in done variants.items)
 meaning done layout (States prefix tag all) = states_in done layout prefix.items tag all.items
 
 -- the meanings of all nodes, after those that are done

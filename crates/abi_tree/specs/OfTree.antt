@@ -7,7 +7,7 @@ use Rattle.abi_tree.specs.Faithful.{PaddingDecidesNothing}
 use Rattle.abi_tree.specs.Laid.{endian_of, placed_of}
 use Rattle.abi_tree.specs.Reading.{KeepsValues}
 use Rattle.abi_tree.specs.Tree.{Tree}
-use Rattle.abi_tree.specs.Unused.{KeepsToPlaces, TellsUnused}
+use Rattle.abi_tree.specs.Unused.{KeepsToPlaces, ListsUnused}
 use Rattle.abi_tree.specs.Values.{LocalsHaveValues}
 
 -- The laid-out type keeps the data layout's byte order; the tree's values, and padding decides nothing, where each local of each
@@ -19,7 +19,7 @@ pub record KeepsTree (dl : TargetDataLayout) (tree : Tree) (laid : Laid) : Type 
   pub padding : LocalsHaveValues dl tree → PaddingDecidesNothing dl (placed_of laid)
   pub places : all_inhabited_of laid ≡ true → KeepsPlaces dl tree laid
   pub own_places : KeepsToPlaces dl.endian (placed_of laid)
-  pub unused : TellsUnused laid
+  pub unused : ListsUnused laid
 
 -- The laid-out type is one of some tree, under some data layout: it keeps the tree, in which each local of each coroutine has a value.
 pub record IsOfTree (laid : Laid) : Type 0 where

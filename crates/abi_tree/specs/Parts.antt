@@ -5,7 +5,7 @@ use Rattle.abi_index.specs.Runs.{moved_to}
 use Rattle.abi_tree.specs.declared.parts.PartName.{PartName}
 use Rattle.abi_tree.specs.declared.parts.PartName.TheVariants.{Number, Elements, Lanes, Field, Tag, VariantField}
 use Rattle.abi_tree.specs.declared.parts.PartBytes.{PartBytes}
-use Rattle.abi_tree.specs.Placed.{Placed, scalar, pair, never, elements, vector, fields, union, single, tagged, states, Parts, no_parts, part, Arms, no_arms, arm, size_of}
+use Rattle.abi_tree.specs.Placed.{Placed, scalar, pair, never, elements, vector, fields, union, single, tagged, states, Parts, no_parts, part, TaggedVariants, no_tagged_variants, tagged_variant, size_of}
 use Rattle.abi_tree.specs.Places.{is_data_place}
 
 -- A part: its name, and which bytes of the type it has.
@@ -32,9 +32,9 @@ field_parts v i no_parts = []
 field_parts v i (part offset placed parts) = placed_part (field_name v i) offset placed ∷ field_parts v (suc i) parts
 
 -- the fields of all variants from an index on
-abbrev pub parts_of_arms : (index : ℕ) → Arms → List Part
-parts_of_arms v no_arms = []
-parts_of_arms v (arm number layout mark parts arms) = field_parts (Some v) 0 parts ++ parts_of_arms (suc v) arms
+abbrev pub parts_of_tagged_variants : (index : ℕ) → TaggedVariants → List Part
+parts_of_tagged_variants v no_tagged_variants = []
+parts_of_tagged_variants v (tagged_variant number layout mark parts tagged_variants) = field_parts (Some v) 0 parts ++ parts_of_tagged_variants (suc v) tagged_variants
 
 -- the parts that a type has whatever its variant
 abbrev pub common_parts : Placed → List Part
@@ -46,15 +46,15 @@ common_parts (vector layout lanes) = placed_part Lanes 0 (vector layout lanes) �
 common_parts (fields layout mark parts) = field_parts None 0 parts
 common_parts (union layout mark parts) = field_parts None 0 parts
 common_parts (single layout mark index parts) = field_parts None 0 parts
-common_parts (tagged layout mark offset tag encoding arms) = placed_part Tag offset tag ∷ []
-common_parts (states layout prefix offset tag arms) = field_parts None 0 prefix ++ placed_part Tag offset tag ∷ []
+common_parts (tagged layout mark offset tag encoding tagged_variants) = placed_part Tag offset tag ∷ []
+common_parts (states layout prefix offset tag tagged_variants) = field_parts None 0 prefix ++ placed_part Tag offset tag ∷ []
 
--- the fields of the variants that a tag tells apart
+-- the fields of the variants that a tag distinguishes
 abbrev pub variant_parts : Placed → List Part
-variant_parts (tagged layout mark offset tag encoding arms) = parts_of_arms 0 arms
-variant_parts (states layout prefix offset tag arms) = parts_of_arms 0 arms
+variant_parts (tagged layout mark offset tag encoding tagged_variants) = parts_of_tagged_variants 0 tagged_variants
+variant_parts (states layout prefix offset tag tagged_variants) = parts_of_tagged_variants 0 tagged_variants
 variant_parts _ = []
 
--- all parts, in the order in which they are told; a type without bytes has none that has one
+-- all parts, in the order in which they are listed; a type without bytes has none that has one
 abbrev pub all_parts : Placed → List Part
 all_parts placed = if nat_lt 0 (size_of placed) then common_parts placed ++ variant_parts placed else []

@@ -27,9 +27,9 @@ mutual
     -- an enum of which one variant is left, so that it has no tag
     single : Layout → Mark → (index : ℕ) → Parts → Placed
     -- an enum whose tag, at an offset, names the variant
-    tagged : Layout → Mark → (offset : ℕ) → (tag : Placed) → TagEncoding ℕ → Arms → Placed
+    tagged : Layout → Mark → (offset : ℕ) → (tag : Placed) → TagEncoding ℕ → TaggedVariants → Placed
     -- a coroutine: the prefix fields, and a tag, at an offset, that names the state
-    states : Layout → (prefix : Parts) → (offset : ℕ) → (tag : Placed) → Arms → Placed
+    states : Layout → (prefix : Parts) → (offset : ℕ) → (tag : Placed) → TaggedVariants → Placed
 
   -- types at their offsets
   pub data Parts : Type 0 where
@@ -37,10 +37,10 @@ mutual
     part : (offset : ℕ) → Placed → Parts → Parts
 
   -- variants or states: each one's number, which is its discriminant or index, the layout that it has as a type of its
-  -- own, what it tells of itself, and the parts that it has of its own
-  pub data Arms : Type 0 where
-    no_arms : Arms
-    arm : (number : ℕ) → Layout → Mark → Parts → Arms → Arms
+  -- own, what it says of itself, and the parts that it has of its own
+  pub data TaggedVariants : Type 0 where
+    no_tagged_variants : TaggedVariants
+    tagged_variant : (number : ℕ) → Layout → Mark → Parts → TaggedVariants → TaggedVariants
 
 -- the layout of the type itself
 abbrev pub layout_of : Placed → Layout
@@ -52,8 +52,8 @@ layout_of (vector layout lanes) = layout
 layout_of (fields layout mark parts) = layout
 layout_of (union layout mark parts) = layout
 layout_of (single layout mark index parts) = layout
-layout_of (tagged layout mark offset tag encoding arms) = layout
-layout_of (states layout prefix offset tag arms) = layout
+layout_of (tagged layout mark offset tag encoding tagged_variants) = layout
+layout_of (states layout prefix offset tag tagged_variants) = layout
 
 -- how many bytes it has
 abbrev pub size_of : Placed → ℕ
@@ -77,7 +77,7 @@ element_of _ = nothing
 abbrev pub parts_in : Placed → Parts
 parts_in (fields layout mark parts) = parts
 parts_in (union layout mark parts) = parts
-parts_in (states layout prefix offset tag arms) = prefix
+parts_in (states layout prefix offset tag tagged_variants) = prefix
 parts_in _ = no_parts
 
 -- the first part, or a type without values where there is none
@@ -90,17 +90,17 @@ abbrev pub more_parts : Parts → Parts
 more_parts no_parts = no_parts
 more_parts (part offset placed parts) = parts
 
--- the parts of the arm with an index
-abbrev pub parts_of_arm : Arms → (index : ℕ) → Parts
-parts_of_arm no_arms i = no_parts
-parts_of_arm (arm number layout mark parts arms) zero = parts
-parts_of_arm (arm number layout mark parts arms) (suc i) = parts_of_arm arms i
+-- the parts of the tagged variant with an index
+abbrev pub parts_of_tagged_variant : TaggedVariants → (index : ℕ) → Parts
+parts_of_tagged_variant no_tagged_variants i = no_parts
+parts_of_tagged_variant (tagged_variant number layout mark parts tagged_variants) zero = parts
+parts_of_tagged_variant (tagged_variant number layout mark parts tagged_variants) (suc i) = parts_of_tagged_variant tagged_variants i
 
 -- what the variant or state with this index has of its own
 abbrev pub own_parts : Placed → (index : ℕ) → Parts
 own_parts (single layout mark index parts) i = parts
-own_parts (tagged layout mark offset tag encoding arms) i = parts_of_arm arms i
-own_parts (states layout prefix offset tag arms) i = parts_of_arm arms i
+own_parts (tagged layout mark offset tag encoding tagged_variants) i = parts_of_tagged_variant tagged_variants i
+own_parts (states layout prefix offset tag tagged_variants) i = parts_of_tagged_variant tagged_variants i
 own_parts _ i = no_parts
 
 -- some part is flagged as one without values

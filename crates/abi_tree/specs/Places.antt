@@ -1,6 +1,6 @@
 -- Data places: the bytes of a type that decide which value they hold. All others are padding.
 use Rattle.std.specs.Prelude.{ℕ, ◌-◌, ◌/◌, ◌%◌, ◌&&◌, ◌||◌, Bool, false, nat_lt, nat_le}
-use Rattle.abi_tree.specs.Placed.{Placed, scalar, pair, never, elements, vector, fields, union, single, tagged, states, Parts, no_parts, part, Arms, no_arms, arm, size_of}
+use Rattle.abi_tree.specs.Placed.{Placed, scalar, pair, never, elements, vector, fields, union, single, tagged, states, Parts, no_parts, part, TaggedVariants, no_tagged_variants, tagged_variant, size_of}
 
 abbrev mutual
   -- byte k of the type is a data place
@@ -14,10 +14,10 @@ abbrev mutual
   is_data_place (fields layout mark parts) k = is_place_of_part parts k
   is_data_place (union layout mark parts) k = is_place_of_part parts k
   is_data_place (single layout mark index parts) k = is_place_of_part parts k
-  is_data_place (tagged layout mark offset tag encoding arms) k =
-      (nat_le offset k && is_data_place tag (k - offset)) || is_place_of_arm arms k
-  is_data_place (states layout prefix offset tag arms) k =
-      is_place_of_part prefix k || ((nat_le offset k && is_data_place tag (k - offset)) || is_place_of_arm arms k)
+  is_data_place (tagged layout mark offset tag encoding tagged_variants) k =
+      (nat_le offset k && is_data_place tag (k - offset)) || is_place_of_tagged_variant tagged_variants k
+  is_data_place (states layout prefix offset tag tagged_variants) k =
+      is_place_of_part prefix k || ((nat_le offset k && is_data_place tag (k - offset)) || is_place_of_tagged_variant tagged_variants k)
 
   -- byte k is a data place of some part
   pub is_place_of_part : Parts → (k : ℕ) → Bool
@@ -25,7 +25,7 @@ abbrev mutual
   is_place_of_part (part offset placed parts) k =
       (nat_le offset k && is_data_place placed (k - offset)) || is_place_of_part parts k
 
-  -- byte k is a data place of some arm
-  pub is_place_of_arm : Arms → (k : ℕ) → Bool
-  is_place_of_arm no_arms k = false
-  is_place_of_arm (arm number layout mark parts arms) k = is_place_of_part parts k || is_place_of_arm arms k
+  -- byte k is a data place of some tagged variant
+  pub is_place_of_tagged_variant : TaggedVariants → (k : ℕ) → Bool
+  is_place_of_tagged_variant no_tagged_variants k = false
+  is_place_of_tagged_variant (tagged_variant number layout mark parts tagged_variants) k = is_place_of_part parts k || is_place_of_tagged_variant tagged_variants k

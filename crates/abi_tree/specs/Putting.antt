@@ -5,14 +5,14 @@ use Rattle.abi_base.specs.declared.endian.Endian.{Endian}
 use Rattle.abi_scalar.specs.declared.variants.TagEncoding.{TagEncoding}
 use Rattle.abi_tree.specs.Value.{Value, Values}
 use Rattle.abi_tree.specs.Bytes.{AreBytes}
-use Rattle.abi_tree.specs.Placed.{Placed, Parts, Arms, size_of}
-use Rattle.abi_tree.specs.Nodes.{arms_in, placed_in}
+use Rattle.abi_tree.specs.Placed.{Placed, Parts, TaggedVariants, size_of}
+use Rattle.abi_tree.specs.Nodes.{tagged_variants_in, placed_in}
 use Rattle.abi_tree.specs.Tag.{Names}
 use Rattle.abi_tree.specs.Holding.{HoldEach, HoldParts, Holds, tag_at}
 use Rattle.abi_tree.specs.Reading.{IsNamedIn}
-use Rattle.abi_tree.specs.Covering.{are_covered, each_covered, is_arm_covered, is_byte_at, is_covered, is_told}
+use Rattle.abi_tree.specs.Covering.{are_covered, each_covered, is_tagged_variant_covered, is_byte_at, is_covered, is_tagged}
 use Rattle.abi_tree.specs.Writing.{IsPutOver}
-use Rattle.abi_tree.specs.Deciding.{arm_for, arm_values, covering_value, covering_values, each_value}
+use Rattle.abi_tree.specs.Deciding.{tagged_variant_for, tagged_variant_values, covering_value, covering_values, each_value}
 
 -- a value of the type is put
 abbrev pub PutsValue : Endian → (at : ℕ) → (old new : List ℕ) → Placed → Value → Type 0
@@ -32,17 +32,17 @@ PutsParts order at old new parts vs = (b : List ℕ) → AreBytes b → HoldPart
 abbrev pub PutsTag : Endian → (at : ℕ) → (old new : List ℕ) → TagEncoding ℕ → (offset width : ℕ) → List (ℕ × ℕ) → (index : ℕ) → Type 0
 PutsTag order at old new encoding offset width vs i =
     (b : List ℕ) (done : List Placed) → AreBytes b → offset + width ≤ length b →
-    Names encoding width (arms_in done vs) (tag_at order b offset width) i → IsPutOver (λ k. is_told encoding i && is_byte_at offset width k) at b old new
+    Names encoding width (tagged_variants_in done vs) (tag_at order b offset width) i → IsPutOver (λ k. is_tagged encoding i && is_byte_at offset width k) at b old new
 
 -- byte k is the tag's, of a variant that has a number of its own, or covered by the values of the variant's fields
-abbrev pub is_told_or_covered : TagEncoding ℕ → (offset : ℕ) → (tag : Placed) → Arms → (index : ℕ) → Values → (k : ℕ) → Bool
-is_told_or_covered encoding offset tag arms i vs k = (is_told encoding i && is_byte_at offset (size_of tag) k) || is_arm_covered arms i vs k
+abbrev pub is_tagged_or_covered : TagEncoding ℕ → (offset : ℕ) → (tag : Placed) → TaggedVariants → (index : ℕ) → Values → (k : ℕ) → Bool
+is_tagged_or_covered encoding offset tag tagged_variants i vs k = (is_tagged encoding i && is_byte_at offset (size_of tag) k) || is_tagged_variant_covered tagged_variants i vs k
 
 -- the tag of a variant is put, and the values of its fields
-abbrev pub PutsArm : Endian → (at : ℕ) → (old new : List ℕ) → TagEncoding ℕ → (offset : ℕ) → (tag : Placed) → Arms → (index : ℕ) → Values → Type 0
-PutsArm order at old new encoding offset tag arms i vs =
-    (b : List ℕ) → AreBytes b → IsNamedIn order b encoding offset tag arms i vs →
-    IsPutOver (λ k. is_told_or_covered encoding offset tag arms i vs k) at b old new
+abbrev pub PutsTaggedVariant : Endian → (at : ℕ) → (old new : List ℕ) → TagEncoding ℕ → (offset : ℕ) → (tag : Placed) → TaggedVariants → (index : ℕ) → Values → Type 0
+PutsTaggedVariant order at old new encoding offset tag tagged_variants i vs =
+    (b : List ℕ) → AreBytes b → IsNamedIn order b encoding offset tag tagged_variants i vs →
+    IsPutOver (λ k. is_tagged_or_covered encoding offset tag tagged_variants i vs k) at b old new
 
 -- ---- the value that is chosen for a place, which covers it
 
@@ -60,9 +60,9 @@ abbrev pub PutsCoveringParts : Endian → (at : ℕ) → (old new : List ℕ) �
 PutsCoveringParts order at old new place parts = PutsParts order at old new parts (covering_values parts place)
 
 -- those of the variant that has the place, and its tag, over bytes that have room for each variant
-abbrev pub PutsCoveringArm : Endian → (at : ℕ) → (old new : List ℕ) → (place : Option ℕ) → TagEncoding ℕ → (offset : ℕ) → (tag : Placed) → List Placed → List (ℕ × ℕ) → Type 0
-PutsCoveringArm order at old new place encoding offset tag done vs =
-    let arms : Arms = arms_in done vs in
-    let i : ℕ = arm_for encoding arms place in
-    (b : List ℕ) → AreBytes b → All (λ v. size_of (placed_in done v.1) ≤ length b) vs → IsNamedIn order b encoding offset tag arms i (arm_values arms i place) →
-    IsPutOver (λ k. is_told_or_covered encoding offset tag arms i (arm_values arms i place) k) at b old new
+abbrev pub PutsCoveringTaggedVariant : Endian → (at : ℕ) → (old new : List ℕ) → (place : Option ℕ) → TagEncoding ℕ → (offset : ℕ) → (tag : Placed) → List Placed → List (ℕ × ℕ) → Type 0
+PutsCoveringTaggedVariant order at old new place encoding offset tag done vs =
+    let tagged_variants : TaggedVariants = tagged_variants_in done vs in
+    let i : ℕ = tagged_variant_for encoding tagged_variants place in
+    (b : List ℕ) → AreBytes b → All (λ v. size_of (placed_in done v.1) ≤ length b) vs → IsNamedIn order b encoding offset tag tagged_variants i (tagged_variant_values tagged_variants i place) →
+    IsPutOver (λ k. is_tagged_or_covered encoding offset tag tagged_variants i (tagged_variant_values tagged_variants i place) k) at b old new

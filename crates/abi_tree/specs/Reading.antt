@@ -7,13 +7,13 @@ use Rattle.abi_scalar.specs.declared.variants.TagEncoding.{TagEncoding}
 use Rattle.abi_tree.specs.declared.laid.Laid.{Laid}
 use Rattle.abi_tree.specs.declared.value.Value.{Value as Kept}
 use Rattle.abi_tree.specs.Value.{Value, number, two, list, Values, no_values, more_values, value_of, values_of}
-use Rattle.abi_tree.specs.Placed.{Placed, Parts, Arms, size_of}
+use Rattle.abi_tree.specs.Placed.{Placed, Parts, TaggedVariants, size_of}
 use Rattle.abi_tree.specs.Tag.{Names}
 use Rattle.abi_tree.specs.Tree.{Tree}
 use Rattle.abi_tree.specs.Laid.{endian_of, placed_of}
 use Rattle.abi_tree.specs.Faithful.{EachValueIsHeld, OnlyValuesAreHeld, NoBytesHoldTwo}
 use Rattle.abi_tree.specs.Untagged.{UntaggedNamed}
-use Rattle.abi_tree.specs.Holding.{HoldArm, HoldParts, Holds, tag_at}
+use Rattle.abi_tree.specs.Holding.{HoldTaggedVariant, HoldParts, Holds, tag_at}
 
 -- the number of which P holds, or None where it holds of none
 abbrev pub FindsNumber : (ℕ → Type 0) → Option ℕ → Type 0
@@ -41,18 +41,18 @@ abbrev pub HoldOne : Endian → Placed → List ℕ → Type 0
 HoldOne order p b = (u w : Value) → Holds order p b u → Holds order p b w → u ≡ w
 
 -- whether the bytes hold the value, where they hold at most one
-abbrev pub TellsHeld : Endian → Placed → List ℕ → Value → Bool → Type 0
-TellsHeld order p b v told = MatchBool told (Holds order p b v) (HoldOne order p b → Holds order p b v → ⊥)
+abbrev pub AnswersHeld : Endian → Placed → List ℕ → Value → Bool → Type 0
+AnswersHeld order p b v tag_layout = MatchBool tag_layout (Holds order p b v) (HoldOne order p b → Holds order p b v → ⊥)
 
 -- it is a list
 abbrev pub IsList : Value → Type 0
 IsList (list vs) = ⊤
 IsList _ = ⊥
 
--- the number of the tag at the offset names this arm, and it holds these values
-abbrev pub IsNamedIn : Endian → (b : List ℕ) → TagEncoding ℕ → (offset : ℕ) → (tag : Placed) → Arms → (index : ℕ) → Values → Type 0
-IsNamedIn order b encoding offset tag arms i vs =
-    (offset + size_of tag ≤ length b) × Names encoding (size_of tag) arms (tag_at order b offset (size_of tag)) i × HoldArm order arms i b vs
+-- the number of the tag at the offset names this tagged variant, and it holds these values
+abbrev pub IsNamedIn : Endian → (b : List ℕ) → TagEncoding ℕ → (offset : ℕ) → (tag : Placed) → TaggedVariants → (index : ℕ) → Values → Type 0
+IsNamedIn order b encoding offset tag tagged_variants i vs =
+    (offset + size_of tag ≤ length b) × Names encoding (size_of tag) tagged_variants (tag_at order b offset (size_of tag)) i × HoldTaggedVariant order tagged_variants i b vs
 
 -- The laid-out type keeps the values of a tree under a data layout.
 pub record KeepsValues (dl : TargetDataLayout) (tree : Tree) (laid : Laid) : Type 0 where

@@ -1,6 +1,6 @@
 -- Each part ends inside the type that it is a part of.
 use Rattle.std.specs.Prelude.{ℕ, ◌+◌, ◌*◌, ◌==◌, ◌&&◌, Bool, true, nat_le}
-use Rattle.abi_tree.specs.Placed.{Placed, scalar, pair, never, elements, vector, fields, union, single, tagged, states, Parts, no_parts, part, Arms, no_arms, arm, size_of}
+use Rattle.abi_tree.specs.Placed.{Placed, scalar, pair, never, elements, vector, fields, union, single, tagged, states, Parts, no_parts, part, TaggedVariants, no_tagged_variants, tagged_variant, size_of}
 
 abbrev mutual
   -- each part of the type, and each part of a part, ends inside the type that it is a part of
@@ -13,17 +13,17 @@ abbrev mutual
   has_room (fields layout mark parts) = have_room layout.size parts
   has_room (union layout mark parts) = have_room layout.size parts
   has_room (single layout mark index parts) = have_room layout.size parts
-  has_room (tagged layout mark offset tag encoding arms) =
-      (nat_le (offset + size_of tag) layout.size && has_room tag) && arms_have_room layout.size arms
-  has_room (states layout prefix offset tag arms) =
-      have_room layout.size prefix && ((nat_le (offset + size_of tag) layout.size && has_room tag) && arms_have_room layout.size arms)
+  has_room (tagged layout mark offset tag encoding tagged_variants) =
+      (nat_le (offset + size_of tag) layout.size && has_room tag) && tagged_variants_have_room layout.size tagged_variants
+  has_room (states layout prefix offset tag tagged_variants) =
+      have_room layout.size prefix && ((nat_le (offset + size_of tag) layout.size && has_room tag) && tagged_variants_have_room layout.size tagged_variants)
 
   -- so do these parts in so many bytes
   pub have_room : (size : ℕ) → Parts → Bool
   have_room size no_parts = true
   have_room size (part offset placed parts) = (nat_le (offset + size_of placed) size && has_room placed) && have_room size parts
 
-  -- so do the parts of each of these arms
-  pub arms_have_room : (size : ℕ) → Arms → Bool
-  arms_have_room size no_arms = true
-  arms_have_room size (arm number layout mark parts arms) = have_room size parts && arms_have_room size arms
+  -- so do the parts of each of these tagged variants
+  pub tagged_variants_have_room : (size : ℕ) → TaggedVariants → Bool
+  tagged_variants_have_room size no_tagged_variants = true
+  tagged_variants_have_room size (tagged_variant number layout mark parts tagged_variants) = have_room size parts && tagged_variants_have_room size tagged_variants

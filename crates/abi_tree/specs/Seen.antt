@@ -1,13 +1,13 @@
--- What handles see of a laid-out type: its layout, what it tells of itself, and its parts, each at its offset.
+-- What handles see of a laid-out type: its layout, what it says of itself, and its parts, each at its offset.
 use Rattle.std.specs.Prelude.{◌≡◌, ℕ, suc, ◌+◌, ◌-◌, [], ⊤}
 use Rattle.abi_scalar.specs.Shape.{IsListed, field_count, field_offset}
 use Rattle.abi_scalar.specs.Variant.{variants_of}
 use Rattle.abi_types.specs.Ty.Typed.{Marks, Typed, field_in, layout_in, marks_of, no_marks, variant_in}
 use Rattle.abi_tree.specs.Mark.{marks_by}
-use Rattle.abi_tree.specs.Placed.{Placed, scalar, pair, never, elements, vector, fields, union, single, tagged, states, Parts, no_parts, part, Arms, no_arms, arm}
+use Rattle.abi_tree.specs.Placed.{Placed, scalar, pair, never, elements, vector, fields, union, single, tagged, states, Parts, no_parts, part, TaggedVariants, no_tagged_variants, tagged_variant}
 use Rattle.abi_scalar.specs.Layout.{Layout}
 
--- the type has this layout, and tells this of itself
+-- the type has this layout, and says this of itself
 abbrev pub SeesWhole : Typed → Layout → Marks → Type 0
 SeesWhole t layout marks = (layout_in t ≡ layout) × (marks_of t ≡ marks)
 
@@ -20,7 +20,7 @@ abbrev pub part_count : Parts → ℕ
 part_count no_parts = 0
 part_count (part offset p parts) = part_count parts + 1
 
--- the type lists its fields one by one, as many as the parts, and no tag tells variants of it apart
+-- the type lists its fields one by one, as many as the parts, and no tag distinguishes variants of it
 abbrev pub IsListOf : Parts → Typed → Type 0
 IsListOf parts t = IsListed (layout_in t).fields × (field_count (layout_in t).fields ≡ part_count parts) × (variants_of (layout_in t).variants ≡ [])
 
@@ -39,9 +39,9 @@ abbrev mutual
   Sees t (fields layout mark parts) = SeesWhole t layout (marks_by mark) × SeesParts t 0 parts
   Sees t (union layout mark parts) = SeesWhole t layout (marks_by mark) × SeesTypes t 0 parts
   Sees t (single layout mark index parts) = SeesWhole t layout (marks_by mark) × SeesParts t 0 parts
-  Sees t (tagged layout mark offset tag encoding arms) = SeesWhole t layout (marks_by mark) × HasOffset t 0 offset × Sees (field_in t 0) tag × SeesArms t 0 arms
-  Sees t (states layout prefix offset tag arms) =
-      SeesWhole t layout no_marks × SeesParts t 0 prefix × HasOffset t (last_field layout) offset × Sees (field_in t (last_field layout)) tag × SeesArms t 0 arms
+  Sees t (tagged layout mark offset tag encoding tagged_variants) = SeesWhole t layout (marks_by mark) × HasOffset t 0 offset × Sees (field_in t 0) tag × SeesTaggedVariants t 0 tagged_variants
+  Sees t (states layout prefix offset tag tagged_variants) =
+      SeesWhole t layout no_marks × SeesParts t 0 prefix × HasOffset t (last_field layout) offset × Sees (field_in t (last_field layout)) tag × SeesTaggedVariants t 0 tagged_variants
 
   -- the fields from this index on are the parts
   pub SeesParts : Typed → (index : ℕ) → Parts → Type 0
@@ -53,10 +53,10 @@ abbrev mutual
   SeesTypes t i no_parts = ⊤
   SeesTypes t i (part offset p parts) = Sees (field_in t i) p × SeesTypes t (suc i) parts
 
-  -- each variant from this index on has the arm's layout, tells of itself what the arm does, and has the parts that the
-  -- arm has of its own, and no others
-  pub SeesArms : Typed → (index : ℕ) → Arms → Type 0
-  SeesArms t i no_arms = ⊤
-  SeesArms t i (arm number layout mark parts arms) =
+  -- each variant from this index on has the tagged variant's layout, says of itself what the tagged variant does, and has the parts that the
+  -- tagged variant has of its own, and no others
+  pub SeesTaggedVariants : Typed → (index : ℕ) → TaggedVariants → Type 0
+  SeesTaggedVariants t i no_tagged_variants = ⊤
+  SeesTaggedVariants t i (tagged_variant number layout mark parts tagged_variants) =
       SeesWhole (variant_in t i) layout (marks_by mark) × IsListOf parts (variant_in t i)
-      × SeesParts (variant_in t i) 0 parts × SeesArms t (suc i) arms
+      × SeesParts (variant_in t i) 0 parts × SeesTaggedVariants t (suc i) tagged_variants

@@ -3,14 +3,14 @@ use Rattle.std.specs.Prelude.{◌≡◌, ◌≢◌, ℕ, zero, suc, ◌+◌, ◌
 use Rattle.abi_scalar.specs.declared.variants.TagEncoding.{TagEncoding}
 use Rattle.abi_scalar.specs.declared.variants.TagEncoding.TheVariants.{Direct, Niche}
 use Rattle.abi_scalar.specs.Range.{numbers_of}
-use Rattle.abi_tree.specs.Placed.{Arms, no_arms, arm, is_flagged}
+use Rattle.abi_tree.specs.Placed.{TaggedVariants, no_tagged_variants, tagged_variant, is_flagged}
 
--- directly: the arm with no part that is flagged, whose number, cut to the tag's width, is the tag's
-abbrev pub NamesDirectly : (width : ℕ) → Arms → (tag index : ℕ) → Type 0
-NamesDirectly width no_arms tag i = ⊥
-NamesDirectly width (arm number layout mark parts arms) tag zero =
+-- directly: the tagged variant with no part that is flagged, whose number, cut to the tag's width, is the tag's
+abbrev pub NamesDirectly : (width : ℕ) → TaggedVariants → (tag index : ℕ) → Type 0
+NamesDirectly width no_tagged_variants tag i = ⊥
+NamesDirectly width (tagged_variant number layout mark parts tagged_variants) tag zero =
     (is_flagged parts ≡ false) × (number % numbers_of width ≡ tag)
-NamesDirectly width (arm number layout mark parts arms) tag (suc i) = NamesDirectly width arms tag i
+NamesDirectly width (tagged_variant number layout mark parts tagged_variants) tag (suc i) = NamesDirectly width tagged_variants tag i
 
 -- a variant of the span from first to last, other than the untagged one
 abbrev pub IsSpanned : (untagged first last index : ℕ) → Type 0
@@ -26,7 +26,7 @@ NamesByNiche width untagged first last start tag i =
     (IsSpanned untagged first last i × (tag ≡ niche_number width first start i))
     ⊎ ((i ≡ untagged) × ((other : ℕ) → IsSpanned untagged first last other → tag ≢ niche_number width first start other))
 
--- the number of a tag of this width names the arm with this index
-abbrev pub Names : TagEncoding ℕ → (width : ℕ) → Arms → (tag index : ℕ) → Type 0
-Names Direct width arms tag i = NamesDirectly width arms tag i
-Names (Niche untagged span start) width arms tag i = NamesByNiche width untagged span.start span.last start tag i
+-- the number of a tag of this width names the tagged variant with this index
+abbrev pub Names : TagEncoding ℕ → (width : ℕ) → TaggedVariants → (tag index : ℕ) → Type 0
+Names Direct width tagged_variants tag i = NamesDirectly width tagged_variants tag i
+Names (Niche untagged span start) width tagged_variants tag i = NamesByNiche width untagged span.start span.last start tag i

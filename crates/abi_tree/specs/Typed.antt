@@ -1,4 +1,4 @@
--- How handles see nodes: each node's layout, what it tells of itself, its fields and its variants.
+-- How handles see nodes: each node's layout, what it says of itself, its fields and its variants.
 use Rattle.std.specs.Prelude.{ℕ, List, [], ◌∷◌, ◌++◌, get_or, map}
 use Rattle.abi_types.specs.Ty.Typed.{Marks, Typed, typed, no_type, no_marks}
 use Rattle.abi_tree.specs.declared.node.Shape.{Shape}
@@ -18,13 +18,13 @@ field_nodes (Tagged mark tag variants) = tag ∷ []
 field_nodes (States prefix tag all) = prefix.items ++ tag ∷ []
 field_nodes _ = []
 
--- the nodes of the variants or states that a tag tells apart, by index
+-- the nodes of the variants or states that a tag distinguishes, by index
 abbrev pub variant_nodes : Shape → List ℕ
 variant_nodes (Tagged mark tag variants) = map (λ v. v.1) variants.items
 variant_nodes (States prefix tag all) = map (λ v. v.1) all.items
 variant_nodes _ = []
 
--- what a node tells of itself
+-- what a node says of itself
 abbrev pub marks_in : Shape → Marks
 marks_in (Never mark) = marks_by mark
 marks_in (Fields mark children) = marks_by mark
@@ -51,10 +51,10 @@ abbrev pub typed_node : List Typed → Node → Typed
 typed_node done n = typed n.layout (marks_in n.shape) (field_by done n.shape) (type_by done (variant_nodes n.shape))
 
 -- what all nodes are, after those that are done
-abbrev pub all_told : List Typed → List Node → List Typed
-all_told done [] = done
-all_told done (n ∷ ns) = all_told (done ++ typed_node done n ∷ []) ns
+abbrev pub all_typed : List Typed → List Node → List Typed
+all_typed done [] = done
+all_typed done (n ∷ ns) = all_typed (done ++ typed_node done n ∷ []) ns
 
 -- what the node at this place is
 abbrev pub typed_at : List Node → (place : ℕ) → Typed
-typed_at ns i = type_in (all_told [] ns) i
+typed_at ns i = type_in (all_typed [] ns) i

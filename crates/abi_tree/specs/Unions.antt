@@ -3,7 +3,7 @@ use Rattle.std.specs.Prelude.{ℕ, ◌++◌, List, take, ⊤}
 use Rattle.abi_base.specs.declared.endian.Endian.{Endian}
 use Rattle.abi_tree.specs.Value.{Value}
 use Rattle.abi_tree.specs.Bytes.{AreBytes}
-use Rattle.abi_tree.specs.Placed.{Placed, scalar, pair, never, elements, vector, fields, union, single, tagged, states, Parts, no_parts, part, Arms, no_arms, arm, size_of}
+use Rattle.abi_tree.specs.Placed.{Placed, scalar, pair, never, elements, vector, fields, union, single, tagged, states, Parts, no_parts, part, TaggedVariants, no_tagged_variants, tagged_variant, size_of}
 use Rattle.abi_tree.specs.Holding.{Holds}
 
 -- bytes that hold a value of the field begin bytes that hold a value of the union
@@ -33,15 +33,15 @@ abbrev mutual
   InUnions P (fields layout mark parts) = InUnionsOf P parts
   InUnions P (union layout mark parts) = EachPart (λ field. P field (union layout mark parts)) parts × InUnionsOf P parts
   InUnions P (single layout mark index parts) = InUnionsOf P parts
-  InUnions P (tagged layout mark offset tag encoding arms) = InUnions P tag × InUnionsOfArms P arms
-  InUnions P (states layout prefix offset tag arms) = InUnionsOf P prefix × InUnions P tag × InUnionsOfArms P arms
+  InUnions P (tagged layout mark offset tag encoding tagged_variants) = InUnions P tag × InUnionsOfTaggedVariants P tagged_variants
+  InUnions P (states layout prefix offset tag tagged_variants) = InUnionsOf P prefix × InUnions P tag × InUnionsOfTaggedVariants P tagged_variants
 
   -- it does so in each of these parts
   pub InUnionsOf : (P : (field whole : Placed) → Type 0) → Parts → Type 0
   InUnionsOf P no_parts = ⊤
   InUnionsOf P (part offset placed parts) = InUnions P placed × InUnionsOf P parts
 
-  -- and in the parts of each of these arms
-  pub InUnionsOfArms : (P : (field whole : Placed) → Type 0) → Arms → Type 0
-  InUnionsOfArms P no_arms = ⊤
-  InUnionsOfArms P (arm number layout mark parts arms) = InUnionsOf P parts × InUnionsOfArms P arms
+  -- and in the parts of each of these tagged variants
+  pub InUnionsOfTaggedVariants : (P : (field whole : Placed) → Type 0) → TaggedVariants → Type 0
+  InUnionsOfTaggedVariants P no_tagged_variants = ⊤
+  InUnionsOfTaggedVariants P (tagged_variant number layout mark parts tagged_variants) = InUnionsOf P parts × InUnionsOfTaggedVariants P tagged_variants

@@ -23,7 +23,7 @@ abbrev pub is_left_unused : Placed → (index k : ℕ) → Bool
 is_left_unused placed i k = is_data_place placed k && not (is_place_of_variant placed i k)
 
 -- A value that bytes hold covers data places alone, and one of a variant or state the places of that one. What that leaves unused is
--- left by one of several that a tag tells apart.
+-- left by one of several that a tag distinguishes.
 pub record KeepsToPlaces (order : Endian) (placed : Placed) : Type 0 where
   pub places : (b : List ℕ) (v : Value) → Holds order placed b v → (k : ℕ) → is_covered placed v k ≡ true → is_data_place placed k ≡ true
   pub own : (b : List ℕ) (v : Value) → Holds order placed b v → (i : ℕ) → IsOfVariant v i → (k : ℕ) → is_covered placed v k ≡ true →
@@ -31,7 +31,7 @@ pub record KeepsToPlaces (order : Endian) (placed : Placed) : Type 0 where
   pub several : (b : List ℕ) (v : Value) → Holds order placed b v → (i : ℕ) → IsOfVariant v i → (k : ℕ) → is_left_unused placed i k ≡ true →
       IsVariantOfSeveral (layout_of placed).variants i
 
--- handles tell which bytes each variant or state leaves unused
-abbrev pub TellsUnused : Laid → Type 0
-TellsUnused laid =
+-- handles show which bytes each variant or state leaves unused
+abbrev pub ListsUnused : Laid → Type 0
+ListsUnused laid =
     (i k : ℕ) → IsVariantIndex (layout_of (placed_of laid)).variants i → is_unused (typed_of laid) i k ≡ is_left_unused (placed_of laid) i k

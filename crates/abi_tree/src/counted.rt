@@ -8,18 +8,18 @@ use crate::nodes::Nodes;
 
 /// Nodes, and how many of them were read. What is lent these, and not the nodes, reads no node that isn't counted.
 #[derive(Drop)]
-pub(crate) struct Counted<'a> {
+pub(crate) struct CountedNodes<'a> {
     nodes: &'a Nodes,
     visits: usize,
 }
 
-impl<'a> Counted<'a> {
+impl<'a> CountedNodes<'a> {
     /// These nodes, of which none was read.
-    pub(crate) fn new(nodes: &'a Nodes) -> Counted<'a>
+    pub(crate) fn new(nodes: &'a Nodes) -> CountedNodes<'a>
         ensures nodes { result.nodes.now ≡ nodes.now }
         ensures none { result.visits ≡ 0 }
     {
-        Counted { nodes, visits: 0 }
+        CountedNodes { nodes, visits: 0 }
     }
 
     /// How many nodes there are.
@@ -37,13 +37,13 @@ impl<'a> Counted<'a> {
     }
 
     /// The node at a place, which is counted.
-    pub(crate) fn read(&mut self, at: usize) -> NodeRef<'a>
+    pub(crate) fn visit(&mut self, at: usize) -> NodeRef<'a>
         requires there { at < length self.old.nodes.now }
         requires few { self.old.visits < 2 ^ 64 - 1 }
         ensures node { lent_node result ≡ get_or self.old.nodes.now at (lent_node result) }
         ensures same { self.new.nodes ≡ self.old.nodes }
         ensures visits { self.new.visits ≡ self.old.visits + 1 }
     {
-        self.nodes.read(at, &mut self.visits)
+        self.nodes.visit(at, &mut self.visits)
     }
 }

@@ -1,4 +1,4 @@
-//! Types that were laid out, as handles tell of them.
+//! Types that were laid out, as handles show them.
 
 ghost use Rattle.std.specs.Prelude.{◌≡◌, ◌<◌, length};
 ghost use Rattle.abi_types.specs.Ty.Typed.{marks_of};
@@ -16,7 +16,7 @@ use abi_types::{Layout, TyAbiInterface, TyAndLayout};
 use std::fmt;
 use std::fmt::{Debug, Display};
 
-/// A type that was laid out, or a part of one. Beside its layout it is a handle: it tells of each field and each
+/// A type that was laid out, or a part of one. Beside its layout it is a handle: it says of each field and each
 /// variant its handle, and what the type is. `Laid::root` gives the handle of the whole, and `TyAndLayout` has the
 /// questions. How it prints isn't promised.
 #[derive(Clone, Copy, PartialEq, Eq)]
@@ -41,7 +41,7 @@ impl Display for TreeTy<'_> {
 pub(crate) fn handle_at(laid: &Laid, node: usize) -> TyAndLayout<'_, TreeTy<'_>>
     requires { node < length laid.now.nodes }
     ensures valid { IsHandle result }
-    ensures told { tree_type result ≡ typed_at laid.now.nodes node }
+    ensures typed { tree_type result ≡ typed_at laid.now.nodes node }
     ensures depth { tree_depth result ≡ node }
 {
     TyAndLayout {
@@ -79,7 +79,7 @@ fn field_node(shape: &Shape, i: usize) -> usize
     }
 }
 
-/// The node of a variant or a state that a tag tells apart; other shapes have none.
+/// The node of a variant or a state that a tag distinguishes; other shapes have none.
 fn variant_node(shape: &Shape, v: usize) -> usize
     requires { v < length (variant_nodes shape.now) }
     ensures { result ≡ variant_place shape.now v }
@@ -99,7 +99,7 @@ fn variant_node(shape: &Shape, v: usize) -> usize
     }
 }
 
-/// What a node of this shape tells of itself.
+/// What a node of this shape says of itself.
 fn mark_in(shape: &Shape) -> Mark
     ensures { marks_by result ≡ marks_in shape.now }
 {
@@ -117,7 +117,7 @@ fn mark_in(shape: &Shape) -> Mark
     }
 }
 
-/// What the type of a handle tells of itself.
+/// What the type of a handle says of itself.
 fn mark_of(this: TyAndLayout<'_, TreeTy<'_>>) -> Mark
     requires { IsHandle this }
     ensures { marks_by result ≡ marks_of (tree_type this.entry) }

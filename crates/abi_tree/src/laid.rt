@@ -7,7 +7,7 @@ ghost use Rattle.abi_tree.specs.Laws.{keep_laws};
 ghost use Rattle.abi_tree.specs.Widths.{have_widths};
 ghost use Rattle.abi_tree.specs.Room.{has_room};
 
-use crate::counted::Counted;
+use crate::counted::CountedNodes;
 use crate::handle::{TreeTy, handle_at};
 use crate::nodes::Nodes;
 use crate::parts::{PartBytes, parts};
@@ -98,7 +98,7 @@ impl Laid {
     /// of the type lie below its size.
     pub fn root(&self) -> TyAndLayout<'_, TreeTy<'_>>
         ensures valid { IsHandle result }
-        ensures told { tree_type result ≡ typed_of self.now }
+        ensures typed { tree_type result ≡ typed_of self.now }
         ensures seen { Sees (tree_type result) (placed_of self.now) }
         ensures layout { result.layout.0.now ≡ layout_of (placed_of self.now) }
         ensures within { (k : ℕ) → is_data_place (placed_of self.now) k ≡ true →
@@ -116,7 +116,7 @@ impl Laid {
     }
 
     /// The bytes of the type that decide nothing, whatever the value: those below its size that are no data places; and
-    /// how many nodes were read to tell: each of those that its data places rest on, once. `AllocError` where memory is
+    /// how many nodes were read for it: each of those that its data places rest on, once. `AllocError` where memory is
     /// refused.
     pub fn padding(&self, alloc: Global) -> Result<(RangeSet, usize), AllocError>
         ensures ranges { IfOk result (λ r. (k : ℕ) →
@@ -125,11 +125,11 @@ impl Laid {
             AreVisits self.now.nodes (node_count_of self.now - 1) r.1) }
         ensures few { IfOk result (λ r. r.1 ≤ node_count_of self.now) }
     {
-        padding(alloc, Counted::new(&self.nodes), self.nodes.len() - 1)
+        padding(alloc, CountedNodes::new(&self.nodes), self.nodes.len() - 1)
     }
 
-    /// What each variant that a tag tells apart leaves unused: the bytes that some variant covers, and neither this one nor
-    /// what all have, as the tag; none where no tag does. And how many nodes were read to tell, as `padding` has it. What
+    /// What each variant that a tag distinguishes leaves unused: the bytes that some variant covers, and neither this one nor
+    /// what all have, as the tag; none where no tag does. And how many nodes were read for it, as `padding` has it. What
     /// `variant_dependent_padding_ranges` answers of the handle, for each variant in one call: all of it lies below the
     /// type's size. `AllocError` where memory is refused.
     pub fn variant_padding(
@@ -146,19 +146,19 @@ impl Laid {
             AreVisits self.now.nodes (node_count_of self.now - 1) r.1) }
         ensures few { IfOk result (λ r. r.1 ≤ node_count_of self.now) }
     {
-        variant_padding(alloc, Counted::new(&self.nodes), self.nodes.len() - 1)
+        variant_padding(alloc, CountedNodes::new(&self.nodes), self.nodes.len() - 1)
     }
 
     /// The parts of the type, each with its data places: its number, elements or lanes, or its fields and its tag, and
-    /// behind these the fields of all variants that the tag tells apart. A type without bytes has none. And how many nodes
-    /// were read to tell, as `padding` has it. `AllocError` where memory is refused.
+    /// behind these the fields of all variants that the tag distinguishes. A type without bytes has none. And how many nodes
+    /// were read for it, as `padding` has it. `AllocError` where memory is refused.
     pub fn parts(&self, alloc: Global) -> Result<(Vec<PartBytes>, usize), AllocError>
         ensures parts { IfOk result (λ r. map kept_part r.0.items ≡ all_parts (placed_of self.now)) }
         ensures visits { IfOk result (λ r.
             AreVisits self.now.nodes (node_count_of self.now - 1) r.1) }
         ensures few { IfOk result (λ r. r.1 ≤ node_count_of self.now) }
     {
-        parts(alloc, Counted::new(&self.nodes), self.nodes.len() - 1)
+        parts(alloc, CountedNodes::new(&self.nodes), self.nodes.len() - 1)
     }
 
     /// Whether each type in the type has a value: no layout in it is flagged as having none, be it that of a variant that

@@ -1,7 +1,7 @@
 //! The layouts that nodes have: one that equals one of the newest is kept once.
 
 ghost use Rattle.std.specs.Prelude.{◌≡◌, ◌<◌, IfOk, IfSome, OnOk, get_or, length, vec_capacity, vec_len};
-ghost use Rattle.abi_scalar.specs.Scalar.{IsReadable};
+ghost use Rattle.abi_scalar.specs.Scalar.{IsWellFormed};
 ghost use Rattle.abi_scalar.specs.Simple.{scalar_layout};
 ghost use Rattle.abi_types.specs.Ty.Typed.{no_layout};
 ghost use Rattle.abi_tree.specs.Entries.{KeepsLayouts};
@@ -69,7 +69,7 @@ pub(crate) fn scalar_place(
     dl: &TargetDataLayout,
     value: Scalar,
 ) -> Result<usize, AllocError>
-    requires { IsReadable dl.now value }
+    requires { IsWellFormed dl.now value }
     ensures there { IfOk result (λ at. at < length layouts.new.items) }
     ensures same { IfOk result (λ at. get_or layouts.new.items at no_layout ≡ scalar_layout 0 dl.now value) }
     ensures more { KeepsLayouts layouts.old.items layouts.new.items }

@@ -1,4 +1,4 @@
-//! What a type tells of itself beside its layout.
+//! What a type says of itself beside its layout.
 
 ghost use Rattle.std.specs.Prelude.{◌≡◌};
 ghost use Rattle.abi_tree.specs.Mark.{mark_of};

@@ -7,14 +7,14 @@ ghost use Rattle.abi_tree.specs.Nodes.{placed_at};
 ghost use Rattle.abi_tree.specs.Room.{has_room};
 ghost use Rattle.abi_tree.specs.Well.{are_nodes};
 
-use crate::counted::Counted;
+use crate::counted::CountedNodes;
 use crate::node::{NodeRef, Shape, offsets};
 use abi_index::{FieldIdx, VariantIdx};
 use abi_scalar::LayoutData;
 use std::alloc::{AllocError, Global};
 
 /// Those of these children that have an offset in the layout.
-pub(crate) fn placed<'a>(
+pub(crate) fn placed_children<'a>(
     layout: &LayoutData<FieldIdx, VariantIdx>,
     children: &'a [usize],
 ) -> &'a [usize]
@@ -54,12 +54,12 @@ fn mark_named(needed: &mut [bool], node: NodeRef<'_>)
     match node.shape {
         Shape::Scalar(_) => {}
         Shape::Never(_) => {}
-        Shape::Pair { first, second } => mark(needed, placed(layout, &[*first, *second])),
+        Shape::Pair { first, second } => mark(needed, placed_children(layout, &[*first, *second])),
         Shape::Elements { count: _, element } => mark(needed, &[*element]),
-        Shape::Fields(_, children) => mark(needed, placed(layout, children)),
+        Shape::Fields(_, children) => mark(needed, placed_children(layout, children)),
         Shape::Union(_, children) => mark(needed, children),
         Shape::Vector(lanes) => mark(needed, &[*lanes]),
-        Shape::Single(_, children) => mark(needed, placed(layout, children)),
+        Shape::Single(_, children) => mark(needed, placed_children(layout, children)),
         Shape::Tagged {
             mark: _,
             tag,
@@ -73,7 +73,7 @@ fn mark_named(needed: &mut [bool], node: NodeRef<'_>)
             tag,
             states,
         } => {
-            mark(needed, placed(layout, prefix));
+            mark(needed, placed_children(layout, prefix));
             mark(needed, &[*tag]);
             mark_variants(needed, states);
         }
@@ -81,7 +81,7 @@ fn mark_named(needed: &mut [bool], node: NodeRef<'_>)
 }
 
 /// `count` places, at none of which a node is kept.
-fn unread<'a>(alloc: Global, count: usize) -> Result<Vec<Option<NodeRef<'a>>>, AllocError>
+fn no_nodes_read<'a>(alloc: Global, count: usize) -> Result<Vec<Option<NodeRef<'a>>>, AllocError>
     ensures { IfOk result (λ kept. kept.items ≡ replicate count None) }
 {
     let mut kept = Vec::with_capacity(alloc, count)?;
@@ -97,7 +97,7 @@ fn unread<'a>(alloc: Global, count: usize) -> Result<Vec<Option<NodeRef<'a>>>, A
 #[tactic(auto, using(crate::proofs::Places::NeededLemmas::counted_all))]
 pub(crate) fn needed_nodes<'a>(
     alloc: Global,
-    mut nodes: Counted<'a>,
+    mut nodes: CountedNodes<'a>,
     root: usize,
 ) -> Result<(Vec<Option<NodeRef<'a>>>, usize), AllocError>
     requires none { nodes.visits ≡ 0 }
@@ -114,10 +114,10 @@ pub(crate) fn needed_nodes<'a>(
     let _count = nodes.len();
     let mut needed = vec![in alloc; false; root + 1]?;
     needed[root] = true;
-    let mut kept = unread(alloc, root + 1)?;
+    let mut kept = no_nodes_read(alloc, root + 1)?;
     for at in (0..root + 1).rev() {
         if needed[at] {
-            let node = nodes.read(at);
+            let node = nodes.visit(at);
             if node.layout.size.bytes() > 0 {
                 mark_named(&mut needed, node);
             }

@@ -39,9 +39,9 @@ pub enum Shape {
     /// A child for each field of the one variant that is left; the layout says which that is, and where they lie.
     Single(Mark, Vec<usize>),
     /// A tag, and variants beside it, each a child of fields with its discriminant; the layout says where the tag lies,
-    /// and how it tells them apart.
+    /// and how it distinguishes them.
     Tagged {
-        /// What it tells of itself.
+        /// What it says of itself.
         mark: Mark,
         /// The tag.
         tag: usize,

@@ -4,7 +4,7 @@
 //! no other file can read a node that isn't counted.
 
 ghost use Rattle.std.specs.Prelude.{◌≡◌, ◌+◌, ◌-◌, ◌<◌, ◌^◌, ◌∷◌, ◌++◌, [], OnErr, OnOk, get_or, length};
-ghost use Rattle.abi_scalar.specs.Scalar.{IsReadable};
+ghost use Rattle.abi_scalar.specs.Scalar.{IsWellFormed};
 ghost use Rattle.abi_scalar.specs.Simple.{scalar_layout};
 ghost use Rattle.abi_tree.specs.declared.node.Shape.TheVariants.{Scalar as Number};
 ghost use Rattle.abi_tree.specs.Nodes.{lent_node};
@@ -69,7 +69,7 @@ impl PartialEq for Nodes {
         }
         for at in 0..self.len() {
             let mut visits = 0;
-            if !is_equal(self.read(at, &mut visits), other.read(at, &mut visits)) {
+            if !is_equal(self.visit(at, &mut visits), other.visit(at, &mut visits)) {
                 return false;
             }
         }
@@ -140,7 +140,7 @@ impl Nodes {
     /// Puts a number behind the others, which has the layout that it has by itself. `AllocError` where memory is refused:
     /// then they are as they were.
     pub fn push_scalar(&mut self, dl: &TargetDataLayout, value: Scalar) -> Result<(), AllocError>
-        requires { IsReadable dl.now value }
+        requires { IsWellFormed dl.now value }
         ensures ok { OnOk result (self.new ≡ self.old
             ++ record { layout = scalar_layout 0 dl.now value; shape = Number value } ∷ []) }
         ensures err { OnErr result (self.new ≡ self.old) }
@@ -152,7 +152,7 @@ impl Nodes {
     }
 
     /// The node at a place. The counter says how many were read, this one with them.
-    pub(crate) fn read(&self, at: usize, visits: &mut usize) -> NodeRef<'_>
+    pub(crate) fn visit(&self, at: usize, visits: &mut usize) -> NodeRef<'_>
         requires there { at < length self.now }
         requires few { visits.old < 2 ^ 64 - 1 }
         ensures node { lent_node result ≡ get_or self.now at (lent_node result) }

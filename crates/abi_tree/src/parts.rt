@@ -7,14 +7,14 @@ ghost use Rattle.abi_scalar.specs.Shape.{listed_offsets};
 ghost use Rattle.abi_tree.specs.declared.node.Node.{Node as OneNode};
 ghost use Rattle.abi_tree.specs.Laws.{keep_laws};
 ghost use Rattle.abi_tree.specs.Needed.{AreNeeded, ArePartsMade, AreVisits, HaveSets, IsKept, IsPartMade, numbered_nodes};
-ghost use Rattle.abi_tree.specs.Nodes.{arms_in, own_fields, parts_at, parts_at_0, placed_at, placed_in, types_in};
-ghost use Rattle.abi_tree.specs.Parts.{all_parts, common_parts, field_name, field_parts, placed_part, kept_part, parts_of_arms, variant_parts};
+ghost use Rattle.abi_tree.specs.Nodes.{tagged_variants_in, own_fields, parts_at, parts_at_0, placed_at, placed_in, types_in};
+ghost use Rattle.abi_tree.specs.Parts.{all_parts, common_parts, field_name, field_parts, placed_part, kept_part, parts_of_tagged_variants, variant_parts};
 ghost use Rattle.abi_tree.specs.Placed.{Placed};
 ghost use Rattle.abi_tree.specs.Places.{is_data_place};
 ghost use Rattle.abi_tree.specs.Room.{has_room};
 ghost use Rattle.abi_tree.specs.Well.{are_nodes};
 
-use crate::counted::Counted;
+use crate::counted::CountedNodes;
 use crate::needed::needed_nodes;
 use crate::node::{NodeRef, Shape, offsets, state_tag_offset, tag_offset};
 use crate::runs_of::{set_at, sets_of};
@@ -35,7 +35,7 @@ pub enum PartName {
     Lanes,
     /// The field with this index in source order.
     Field(usize),
-    /// The tag, which tells variants apart.
+    /// The tag, which distinguishes variants.
     Tag,
     /// Of the variant with the first index the field with the second.
     VariantField(usize, usize),
@@ -229,7 +229,7 @@ fn put_variants(
         × All (λ v. IsKept sets.kept.now v.1) variants.now }
     ensures { OnOk result ((ns : List OneNode) → HaveSets ns sets.entry.kept.now sets.entry.done.now →
         All (λ v. IsKept sets.entry.kept.now v.1) variants.now → map kept_part parts.new.items
-        ≡ map kept_part parts.old.items ++ parts_of_arms 0 (arms_in (types_in ns) variants.now)) }
+        ≡ map kept_part parts.old.items ++ parts_of_tagged_variants 0 (tagged_variants_in (types_in ns) variants.now)) }
 {
     for v in 0..variants.len() {
         put_variant(sets, parts, v, variants[v].1)?;
@@ -280,7 +280,7 @@ fn kept_parts(
 /// The parts of a node, and how many nodes were read.
 pub(crate) fn parts(
     alloc: Global,
-    nodes: Counted<'_>,
+    nodes: CountedNodes<'_>,
     node: usize,
 ) -> Result<(Vec<PartBytes>, usize), AllocError>
     requires none { nodes.visits ≡ 0 }

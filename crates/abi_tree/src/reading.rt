@@ -16,7 +16,7 @@ impl Nodes {
         ensures { lent_node result ≡ get_or self.now at (lent_node result) }
     {
         let mut visits = 0;
-        self.read(at, &mut visits)
+        self.visit(at, &mut visits)
     }
 
     /// The layout of the node at a place.

@@ -13,8 +13,8 @@ ghost use Rattle.abi_tree.specs.Room.{has_room};
 ghost use Rattle.abi_tree.specs.Runs.{is_padding_of};
 ghost use Rattle.abi_tree.specs.Well.{all_at, are_nodes};
 
-use crate::counted::Counted;
-use crate::needed::{needed_nodes, placed};
+use crate::counted::CountedNodes;
+use crate::needed::{needed_nodes, placed_children};
 use crate::node::{NodeRef, Shape, offsets, state_tag_offset, tag_offset};
 use abi_base::Size;
 use abi_index::{RangeSet, RangeSetBuilder};
@@ -136,19 +136,29 @@ fn put_places(
         Shape::Pair { first, second } => put_parts(
             runs,
             offsets(layout),
-            placed(layout, &[*first, *second]),
+            placed_children(layout, &[*first, *second]),
             done,
         ),
         Shape::Elements { count, element } => {
             put_elements(runs, size, *count, set_at(done, *element))
         }
         Shape::Fields(_, children) => {
-            put_parts(runs, offsets(layout), placed(layout, children), done)
+            put_parts(
+                runs,
+                offsets(layout),
+                placed_children(layout, children),
+                done,
+            )
         }
         Shape::Union(_, children) => put_fields(runs, children, done),
         Shape::Vector(lanes) => runs.add_set(set_at(done, *lanes), 0),
         Shape::Single(_, children) => {
-            put_parts(runs, offsets(layout), placed(layout, children), done)
+            put_parts(
+                runs,
+                offsets(layout),
+                placed_children(layout, children),
+                done,
+            )
         }
         Shape::Tagged {
             mark: _,
@@ -160,7 +170,7 @@ fn put_places(
             tag,
             states,
         } => {
-            put_parts(runs, offsets(layout), placed(layout, prefix), done)?;
+            put_parts(runs, offsets(layout), placed_children(layout, prefix), done)?;
             let offset = state_tag_offset(layout, prefix.len());
             put_tagged(runs, offset, *tag, states, done)
         }
@@ -257,7 +267,7 @@ fn kept_size(kept: &[Option<NodeRef<'_>>], node: usize) -> u64
 /// The data places of a node.
 pub(crate) fn data_places(
     alloc: Global,
-    nodes: Counted<'_>,
+    nodes: CountedNodes<'_>,
     node: usize,
 ) -> Result<RangeSet, AllocError>
     requires none { nodes.visits ≡ 0 }
@@ -323,7 +333,7 @@ fn mark_numbers(
 }
 
 /// Those of the first bytes, so many of them, that aren't marked.
-fn unmarked(alloc: Global, marks: &[bool], size: u64) -> Result<RangeSet, AllocError>
+fn unmarked_bytes(alloc: Global, marks: &[bool], size: u64) -> Result<RangeSet, AllocError>
     requires { size ≤ length marks.now }
     ensures { IfOk result (λ set. (k : ℕ) →
         is_in_ranges set k ≡ (nat_lt k size && not (get_or marks.now k false))) }
@@ -357,7 +367,7 @@ fn numbers_padding(
     if size <= MOST_MARKED as u64
         && mark_numbers(&mut marks, offsets(node.layout), children, kept)
     {
-        let set = unmarked(alloc, &marks, size)?;
+        let set = unmarked_bytes(alloc, &marks, size)?;
         Ok(Some(set))
     } else {
         Ok(None)
@@ -404,7 +414,7 @@ fn kept_padding(
 /// The padding of a node: the bytes below its size that are no data places; and how many nodes were read.
 pub(crate) fn padding(
     alloc: Global,
-    nodes: Counted<'_>,
+    nodes: CountedNodes<'_>,
     node: usize,
 ) -> Result<(RangeSet, usize), AllocError>
     requires none { nodes.visits ≡ 0 }

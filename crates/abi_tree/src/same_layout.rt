@@ -172,7 +172,7 @@ fn are_same_variants(a: &[VariantLayout<FieldIdx>], b: &[VariantLayout<FieldIdx>
     true
 }
 
-/// Whether the variants are the same, and told apart alike.
+/// Whether the variants are the same, and distinguished alike.
 fn has_same_variants(a: &Variants<FieldIdx, VariantIdx>, b: &Variants<FieldIdx, VariantIdx>) -> bool
     ensures { IsTrue result → a.now ≡ b.now }
 {

@@ -1,4 +1,4 @@
-//! What each variant that a tag tells apart leaves unused.
+//! What each variant that a tag distinguishes leaves unused.
 
 ghost use Rattle.std.specs.Prelude.{◌≡◌, ℕ, ◌&&◌, ◌+◌, ◌<◌, ◌≤◌, [], All, IfOk, List, OnOk, get_or, length, not, true};
 ghost use Rattle.abi_index.specs.Idx.{greatest_place};
@@ -18,8 +18,8 @@ ghost use Rattle.abi_tree.specs.Typed.{variant_nodes};
 ghost use Rattle.abi_tree.specs.Unused.{is_left_unused};
 ghost use Rattle.abi_tree.specs.Well.{are_nodes};
 
-use crate::counted::Counted;
-use crate::needed::{needed_nodes, placed};
+use crate::counted::CountedNodes;
+use crate::needed::{needed_nodes, placed_children};
 use crate::node::{NodeRef, Shape, offsets, state_tag_offset, tag_offset};
 use crate::runs_of::{put_parts, set_at, sets_of};
 use abi_base::Size;
@@ -27,7 +27,7 @@ use abi_index::{IndexVec, RangeSet, RangeSetBuilder, VariantIdx};
 use abi_scalar::Variants;
 use std::alloc::{AllocError, Global};
 
-/// The variants or states that a tag tells apart, each with its number and its node.
+/// The variants or states that a tag distinguishes, each with its number and its node.
 pub(crate) fn numbered_nodes(shape: &Shape) -> &[(u128, usize)]
     ensures { result.now ≡ numbered_nodes shape.now }
 {
@@ -72,7 +72,7 @@ fn put_common(
             tag,
             states: _,
         } => {
-            put_parts(runs, offsets(layout), placed(layout, prefix), done)?;
+            put_parts(runs, offsets(layout), placed_children(layout, prefix), done)?;
             runs.add_set(set_at(done, *tag), state_tag_offset(layout, prefix.len()))
         }
         _ => Ok(()),
@@ -142,7 +142,7 @@ fn unused_of_several(
     unused_of_each(alloc, numbered_nodes(node.shape), count, &bytes, done)
 }
 
-/// Of the bytes that some variant of a node covers those that each variant that a tag tells apart leaves unused.
+/// Of the bytes that some variant of a node covers those that each variant that a tag distinguishes leaves unused.
 fn unused_of(
     alloc: Global,
     node: NodeRef<'_>,
@@ -195,7 +195,7 @@ fn kept_unused(
 /// The bytes that each variant of a node leaves unused, though another one covers them; and how many nodes were read.
 pub(crate) fn variant_padding(
     alloc: Global,
-    nodes: Counted<'_>,
+    nodes: CountedNodes<'_>,
     node: usize,
 ) -> Result<(IndexVec<VariantIdx, RangeSet>, usize), AllocError>
     requires none { nodes.visits ≡ 0 }

@@ -14,7 +14,7 @@ use Rattle.abi_scalar.specs.Layout.{IsZst, Is1zst, Layout}
 use Rattle.abi_scalar.specs.View.{IsSizedView}
 use Rattle.abi_types.specs.declared.ty.one_field.NoBytes.{NoBytes}
 use Rattle.abi_types.specs.Ty.Typed.{Typed, typed, no_type, field_in, layout_in}
-use Rattle.abi_types.specs.Ty.Lawful.{CanBeNamed, IsLawfulType}
+use Rattle.abi_types.specs.Ty.Lawful.{CanBeNamed, IsWellFormedType}
 use Rattle.abi_types.specs.Ty.NoBytes.{has_no_bytes}
 use Rattle.abi_types.specs.Ty.Walks.{is_sized, is_sized_memory, is_zst, is_1zst, only_field, only_item}
 
@@ -151,7 +151,7 @@ alike_in kind l field stride count e two named =
     ∙ alike p count (p 0) refl two (λ k lt. ap (λ t. not (has_no_bytes kind (layout_in t))) (all.0 k lt))
 
 -- of two elements or more none is the only one that has bytes
-pub of_elements : (kind : NoBytes) (t : Typed) (stride count : ℕ) → IsLawfulType t → (layout_in t).fields ≡ Array stride count → 1 < count
+pub of_elements : (kind : NoBytes) (t : Typed) (stride count : ℕ) → IsWellFormedType t → (layout_in t).fields ≡ Array stride count → 1 < count
     → only_field (has_no_bytes kind) (layout_in t) (field_in t) ≡ None
 of_elements kind (typed l marks field variant) stride count law e two = alike_in kind l field stride count e two law.0.named
 of_elements kind no_type stride count law e two = absurd law
@@ -182,7 +182,7 @@ named_below kind l field i named found lt (Array stride count) e =
     (cases_lt 1 count)
 
 -- the index of a field that is found names it
-pub can_be_named : (kind : NoBytes) (t : Typed) (i : ℕ) → IsLawfulType t → only_field (has_no_bytes kind) (layout_in t) (field_in t) ≡ Some i → i < count_of t → i ≤ 0xFFFF_FF00
+pub can_be_named : (kind : NoBytes) (t : Typed) (i : ℕ) → IsWellFormedType t → only_field (has_no_bytes kind) (layout_in t) (field_in t) ≡ Some i → i < count_of t → i ≤ 0xFFFF_FF00
 can_be_named kind (typed l marks field variant) i law found lt = named_below kind l field i law.0.named found lt l.fields refl
 can_be_named kind no_type i law found lt = absurd law
 

@@ -24,7 +24,7 @@ use Rattle.abi_scalar.specs.Shape.{field_count, field_offset}
 use Rattle.abi_scalar.specs.Variant.{variants_of}
 use Rattle.abi_types.specs.Ty.Typed.{Typed, typed, no_type, at_variant, field_in, layout_in, variant_in}
 use Rattle.abi_scalar.specs.Layout.{Layout}
-use Rattle.abi_types.specs.Ty.Lawful.{CanBeNamed, DepthFalls, IsLawfulType, NamesVariant}
+use Rattle.abi_types.specs.Ty.Lawful.{CanBeNamed, DepthFalls, IsWellFormedType, NamesVariant}
 use Rattle.abi_types.specs.Ty.Places.{covers_element, fields_cover, is_place, is_shared_place, is_unused, variants_cover}
 use Rattle.abi_index.specs.Runs.{Adds, moved_to, repeated}
 use Rattle.abi_types.specs.Ty.Runs.{AreUnusedOf, IsVariantOfSeveral, IsVariantIndex, elements_cover, first_cover, variant_count}
@@ -89,7 +89,7 @@ or_none : (a b : Bool) → a ≡ false → b ≡ false → (a || b) ≡ false
 or_none a b e f = ap (λ x. x || b) e ∙ f
 
 -- no byte behind the size is a data place
-pub place_inside : (t : Typed) → IsLawfulType t → (k : ℕ) → (layout_in t).size ≤ k → is_place t k ≡ false
+pub place_inside : (t : Typed) → IsWellFormedType t → (k : ℕ) → (layout_in t).size ≤ k → is_place t k ≡ false
 place_inside no_type law k past = refl
 place_inside (typed l m f v) law k past =
     or_none (fields_cover l.size l.fields f (λ i. is_place (f i)) k) (variants_cover l.variants (λ i. is_place (v i)) k)
@@ -97,7 +97,7 @@ place_inside (typed l m f v) law k past =
     (variants_inside l.variants (λ i. is_place (v i)) k (λ i lt. place_inside (v i) (law.2 i lt) k (let le : (layout_in (v i)).size ≤ l.size = law.0.within i lt in omega (arith, le, past))))
 
 -- nor is it one of an element
-covers_inside : (t : Typed) → IsLawfulType t → (k : ℕ) → (layout_in t).size ≤ k → covers_element (layout_in t) (is_place t) k ≡ false
+covers_inside : (t : Typed) → IsWellFormedType t → (k : ℕ) → (layout_in t).size ≤ k → covers_element (layout_in t) (is_place t) k ≡ false
 covers_inside t law k past = element_inside (layout_in t) (is_place t) k past (place_inside t law k past)
 
 -- byte k is covered by one of the first n variants
@@ -106,7 +106,7 @@ first_variants t n k = list_any (λ v. is_place (variant_in t v) k) (range_with_
 
 -- ---- fields and variants, one by one
 
--- the type at a variant that a tag tells apart
+-- the type at a variant that a tag distinguishes
 pub of_variant : (t : Typed) (i : ℕ) (tag : Scalar) (encoding : TagEncoding ℕ) (at : ℕ) (layouts : List (VariantLayout ℕ)) → (layout_in t).variants ≡ Multiple tag encoding at layouts → at_variant t i ≡ variant_in t i
 of_variant t i tag encoding at layouts e = rw e refl
 
@@ -144,12 +144,12 @@ adds_variant all old new offset t u i n tag encoding at layouts several e f befo
     adds_variant_in all old new offset t i before
     (subst (λ w. Adds old new (moved_to offset (is_place w))) (e ∙ ap (at_variant t) f ∙ of_variant t i tag encoding at layouts several) next)
 
-variant_inside : (t : Typed) (i : ℕ) → IsLawfulType t → i < length (variants_of (layout_in t).variants) → (layout_in (variant_in t i)).size ≤ (layout_in t).size
+variant_inside : (t : Typed) (i : ℕ) → IsWellFormedType t → i < length (variants_of (layout_in t).variants) → (layout_in (variant_in t i)).size ≤ (layout_in t).size
 variant_inside (typed l m f v) i law lt = law.0.within i lt
 variant_inside no_type i law lt = absurd law
 
--- a variant that a tag tells apart fits where its type does
-pub variant_fits : (t : Typed) (i offset : ℕ) (tag : Scalar) (encoding : TagEncoding ℕ) (at : ℕ) (layouts : List (VariantLayout ℕ)) → IsLawfulType t
+-- a variant that a tag distinguishes fits where its type does
+pub variant_fits : (t : Typed) (i offset : ℕ) (tag : Scalar) (encoding : TagEncoding ℕ) (at : ℕ) (layouts : List (VariantLayout ℕ)) → IsWellFormedType t
     → (layout_in t).variants ≡ Multiple tag encoding at layouts → i < length layouts → offset + (layout_in t).size < 2 ^ 64 → offset + (layout_in (at_variant t i)).size < 2 ^ 64
 variant_fits t i offset tag encoding at layouts law e lt fits =
     let same : at_variant t i ≡ variant_in t i = of_variant t i tag encoding at layouts e in
@@ -202,7 +202,7 @@ adds_type all old new offset t fields variants =
     (λ k. sym (moved-or offset (is_shared_place t) q k) ∙ sym (moved-same offset (is_place t) (λ j. is_shared_place t j || q j) (place_split t) k))
 
 -- a type of no bytes has no data places
-pub adds_empty : (all : List (ℕ × ℕ)) (offset : ℕ) (t : Typed) → IsLawfulType t → (layout_in t).size ≡ 0 → Adds all all (moved_to offset (is_place t))
+pub adds_empty : (all : List (ℕ × ℕ)) (offset : ℕ) (t : Typed) → IsWellFormedType t → (layout_in t).size ≡ 0 → Adds all all (moved_to offset (is_place t))
 adds_empty all offset t law none =
     adds_nothing all (moved_to offset (is_place t)) (λ k. moved-same offset (is_place t) (λ j. false) (λ j. place_inside t law j (omega (arith, none))) k ∙ moved-none offset k)
 
@@ -223,7 +223,7 @@ runs_end size low (run ∷ runs) maximal none =
     (runs_end size (run.0 + run.1 + 1) runs maximal.3 (λ k past. (or_parts (is_in_run k run) (is_in_ranges runs k) (none k past)).1))
 
 -- a set of what an element covers ends inside the element
-pub one_ends : (t : Typed) (set : List (ℕ × ℕ)) → IsLawfulType t → AreMaximalRuns 0 set → ((k : ℕ) → is_in_ranges set k ≡ covers_element (layout_in t) (is_place t) k)
+pub one_ends : (t : Typed) (set : List (ℕ × ℕ)) → IsWellFormedType t → AreMaximalRuns 0 set → ((k : ℕ) → is_in_ranges set k ≡ covers_element (layout_in t) (is_place t) k)
     → All (λ run. run.0 + run.1 ≤ (layout_in t).size) set
 one_ends t set law maximal same = runs_end (layout_in t).size 0 set maximal (λ k past. same k ∙ covers_inside t law k past)
 
@@ -233,7 +233,7 @@ pub cut_ends : (set below : List (ℕ × ℕ)) (stride : ℕ) → AreMaximalRuns
 cut_ends set below stride maximal same = runs_end stride 0 below maximal (λ k past. same k ∙ ap (λ b. b && is_in_ranges set k) (le-ltb k stride past))
 
 -- and inside the element
-pub cut_ends_inside : (t : Typed) (set below : List (ℕ × ℕ)) (stride : ℕ) → IsLawfulType t → AreMaximalRuns 0 below
+pub cut_ends_inside : (t : Typed) (set below : List (ℕ × ℕ)) (stride : ℕ) → IsWellFormedType t → AreMaximalRuns 0 below
     → ((k : ℕ) → is_in_ranges set k ≡ covers_element (layout_in t) (is_place t) k) → ((k : ℕ) → is_in_ranges below k ≡ (nat_lt k stride && is_in_ranges set k))
     → All (λ run. run.0 + run.1 ≤ (layout_in t).size) below
 cut_ends_inside t set below stride law maximal one same =
@@ -263,7 +263,7 @@ beside_parts (Multiple tag encoding at layouts) i h = (tag, encoding, at, layout
 beside_parts Empty i h = absurd h
 beside_parts (Single only) i h = absurd h
 
--- where a tag tells variants apart
+-- where a tag distinguishes variants
 unused_split : (t : Typed) (i k : ℕ) (tag : Scalar) (encoding : TagEncoding ℕ) (at : ℕ) (layouts : List (VariantLayout ℕ)) → (layout_in t).variants ≡ Multiple tag encoding at layouts
     → is_unused t i k ≡ (is_place t k && not (is_shared_place t k || is_place (variant_in t i) k))
 unused_split t i k tag encoding at layouts e = rw e refl
@@ -307,7 +307,7 @@ beside_named (Multiple tag encoding at layouts) i h = h
 beside_named Empty i h = absurd h
 beside_named (Single only) i h = absurd h
 
-pub beside_fits : (t : Typed) (i : ℕ) → IsLawfulType t → IsVariantOfSeveral (layout_in t).variants i → (layout_in t).size < 2 ^ 64 → (layout_in (at_variant t i)).size < 2 ^ 64
+pub beside_fits : (t : Typed) (i : ℕ) → IsWellFormedType t → IsVariantOfSeveral (layout_in t).variants i → (layout_in t).size < 2 ^ 64 → (layout_in (at_variant t i)).size < 2 ^ 64
 beside_fits t i law several fits =
     let (tag, encoding, at, layouts, e, lt) = beside_parts (layout_in t).variants i several in
     let all = variant_fits t i 0 tag encoding at layouts law e lt (omega (arith, fits)) in

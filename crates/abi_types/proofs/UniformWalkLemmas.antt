@@ -19,7 +19,7 @@ use Rattle.abi_types.specs.declared.homogeneous.HomogeneousAggregate.{Homogeneou
 use Rattle.abi_types.specs.Homogeneous.{AllRun, Answers, AnswersRun, IsOneOf, IsUnionShape, register_of}
 use Rattle.abi_types.specs.Ty.Typed.{Typed, typed, no_type, at_variant, field_in, layout_in, variant_in}
 use Rattle.abi_scalar.specs.Layout.{Layout}
-use Rattle.abi_types.specs.Ty.Lawful.{IsLawfulType}
+use Rattle.abi_types.specs.Ty.Lawful.{IsWellFormedType}
 use Rattle.abi_types.specs.Ty.Walks.{is_1zst}
 use Rattle.abi_types.specs.Uniform.{AllRunBy, FieldsRun, FieldsRunBy, IsChain, IsUniform, RunsBy, VariantsRunBy, bulky_fields}
 use Rattle.abi_types.proofs.OneFieldLemmas.{kept, passed, taken}
@@ -152,7 +152,7 @@ pub listed_offset : (t : Typed) (offsets : List ℕ) (i bytes offset : ℕ) → 
 listed_offset t offsets i bytes offset l e f g = g ∙ f ∙ ap (λ os. slice_index os i) e ∙ begins (layout_in t).fields i l
 
 -- a field ends inside its type
-pub ends_inside : (t u : Typed) (i end size : ℕ) → IsLawfulType t → i < count_of t → u ≡ field_in t i → end ≡ field_offset (layout_in t).fields i → size ≡ (layout_in u).size
+pub ends_inside : (t u : Typed) (i end size : ℕ) → IsWellFormedType t → i < count_of t → u ≡ field_in t i → end ≡ field_offset (layout_in t).fields i → size ≡ (layout_in u).size
     → end + size ≤ (layout_in t).size
 ends_inside no_type u i end size law short is at bytes = absurd law
 ends_inside (typed layout marks field variant) u i end size law short is at bytes =
@@ -298,7 +298,7 @@ variants_taken : (P : ℕ → Option Reg → Type 0) (t : Typed) (start i : ℕ)
 variants_taken P t start i h before lt same =
     subst (λ ps. IsSameRun P (IsLeft (variant_own (runs_of t) start) h ps (IsEnd (variant_ends (runs_of t) start) ps before))) (range_next i (variants_in t) lt) same
 
--- a variant that a tag tells apart
+-- a variant that a tag distinguishes
 pub variant_is : (t u : Typed) (i n : ℕ) (tag : Scalar) (encoding : TagEncoding ℕ) (at : ℕ) (layouts : List (VariantLayout ℕ)) → (layout_in t).variants ≡ Multiple tag encoding at layouts → u ≡ at_variant t n → n ≡ i
     → u ≡ variant_in t i
 variant_is t u i n tag encoding at layouts several e f = e ∙ ap (at_variant t) f ∙ of_variant t i tag encoding at layouts several

@@ -11,7 +11,7 @@ use Rattle.abi_scalar.specs.declared.variants.Variants.TheVariants.{Empty, Singl
 use Rattle.abi_types.specs.Ty.Typed.{Typed, typed, no_type, field_in, layout_in}
 use Rattle.abi_types.specs.Ty.Walks.{has_variant_dependent_padding, some_field_has}
 
--- with a tag that tells variants apart
+-- with a tag that distinguishes variants
 pub of_several : (t : Typed) (tag : Scalar) (encoding : TagEncoding ℕ) (at : ℕ) (layouts : List (VariantLayout ℕ)) → (layout_in t).variants ≡ Multiple tag encoding at layouts → has_variant_dependent_padding t ≡ true
 of_several (typed l m f v) tag encoding at layouts e = rw e refl
 of_several no_type tag encoding at layouts e = cc

@@ -8,7 +8,7 @@ use Rattle.abi_scalar.specs.declared.scalar.Scalar.{Scalar}
 use Rattle.abi_base.specs.declared.scalable.NumScalableVectors.{NumScalableVectors}
 use Rattle.abi_scalar.specs.Shape.{field_count, field_offset}
 use Rattle.abi_types.specs.Ty.Typed.{Typed, typed, no_type, field_in, layout_in}
-use Rattle.abi_types.specs.Ty.Lawful.{IsLawfulType}
+use Rattle.abi_types.specs.Ty.Lawful.{IsWellFormedType}
 use Rattle.abi_types.specs.Ty.Walks.{is_single_vector}
 
 -- a vector
@@ -56,7 +56,7 @@ of_scalable_vector size (typed l m f v) s c n e = rw e refl
 of_scalable_vector size no_type s c n e = refl
 
 -- a field begins inside
-pub offset_fits : (t : Typed) (i : ℕ) → IsLawfulType t → i < field_count (layout_in t).fields → (layout_in t).size < 2 ^ 64 → field_offset (layout_in t).fields i < 2 ^ 64
+pub offset_fits : (t : Typed) (i : ℕ) → IsWellFormedType t → i < field_count (layout_in t).fields → (layout_in t).size < 2 ^ 64 → field_offset (layout_in t).fields i < 2 ^ 64
 offset_fits no_type i law lt fits = absurd law
 offset_fits (typed l m f v) i law lt fits = let inside : field_offset l.fields i + (layout_in (f i)).size ≤ l.size = law.0.inside i lt in omega (arith, inside, fits)
 

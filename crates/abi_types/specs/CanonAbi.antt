@@ -1,4 +1,4 @@
--- Calling conventions as a code generator tells them apart on one target.
+-- Calling conventions as a code generator distinguishes them on one target.
 use Rattle.std.specs.Prelude.{ℕ, List, Bool, true, false}
 use Rattle.abi_types.specs.declared.extern_abi.ExternAbi.{ExternAbi}
 use Rattle.abi_types.specs.declared.extern_abi.ExternAbi.TheVariants as extern

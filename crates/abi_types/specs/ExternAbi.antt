@@ -9,7 +9,7 @@ use Rattle.abi_base.specs.declared.abi_from_str_err.AbiFromStrErr.TheVariants.{U
 use Rattle.abi_types.specs.declared.extern_abi.ExternAbi.{ExternAbi}
 use Rattle.abi_types.specs.declared.extern_abi.ExternAbi.TheVariants.{C, Rust, Swift, Aapcs, AvrInterrupt, AvrNonBlockingInterrupt, Cdecl, CmseNonSecureCall, CmseNonSecureEntry, Custom, EfiApi, Fastcall, GpuKernel, LlvmIntrinsic, Msp430Interrupt, PtxKernel, RiscvInterruptM, RiscvInterruptS, RustCall, RustCold, RustInvalid, RustPreserveNone, Stdcall, System, SysV64, RustTail, Thiscall, Vectorcall, Win64, X86Interrupt}
 
--- each convention's number and name; a flag tells whether it unwinds
+-- each convention's number and name; a flag says whether it unwinds
 abbrev pub row_of : ExternAbi → ℕ × List ℕ
 row_of (C false) = (0, codes "C")
 row_of (C true) = (1, codes "C-unwind")

@@ -4,7 +4,7 @@ pub mod Predicates
 pub mod CanonAbi
 -- registers
 pub mod Reg
--- types as they tell of themselves, walks over them, uniform ones
+-- types as they say of themselves, walks over them, uniform ones
 pub mod Ty
 pub mod Uniform
 pub mod Homogeneous

@@ -58,7 +58,7 @@ VariantsRunBy count runs shared_end shared end r =
     × ((r ≡ None) ⊎ (shared ≡ r) ⊎ ((v : ℕ) × (v < count) × (registers v ≡ r)))
     × (end ≡ max shared_end (greatest_of (map ends (range_with_len 0 count))))
 
--- the shared fields, and then the variants where a tag tells several apart
+-- the shared fields, and then the variants where a tag distinguishes several
 abbrev pub AllRunBy : Variants ℕ ℕ → (fields : (end : ℕ) → Option Reg → Type 0) → (runs : (index start end : ℕ) → Option Reg → Type 0) → (end : ℕ) → Option Reg → Type 0
 AllRunBy (Multiple tag encoding at layouts) fields runs end r =
     (shared_end : ℕ) × (shared : Option Reg) × fields shared_end shared × VariantsRunBy (length layouts) runs shared_end shared end r

@@ -1,4 +1,4 @@
-//! Calling conventions as a code generator tells them apart on one target.
+//! Calling conventions as a code generator distinguishes them on one target.
 
 ghost use Rattle.std.specs.Prelude.{◌≡◌, Some};
 ghost use Rattle.std.specs.Fmt.{styled_text};
@@ -8,7 +8,7 @@ use crate::extern_abi::ExternAbi;
 use std::fmt;
 use std::fmt::Display;
 
-/// A calling convention as a code generator tells it from others on one target. Where two names
+/// A calling convention as a code generator distinguishes it from others on one target. Where two names
 /// mean one convention there, they are one here.
 #[derive(Clone, Copy, PartialEq, Eq, PartialOrd, Ord, Hash, Debug)]
 pub enum CanonAbi {
@@ -120,7 +120,7 @@ impl CanonAbi {
     }
 
     /// The convention that has its name.
-    fn named(self) -> ExternAbi
+    fn extern_abi(self) -> ExternAbi
         ensures { result ≡ same_name self }
     {
         match self {
@@ -159,6 +159,6 @@ impl Display for CanonAbi {
 
     /// Its name, padded to a width as a text is.
     fn fmt<W: fmt::Write>(&self, f: &mut fmt::Formatter<W>) -> fmt::Result {
-        f.pad(self.named().as_str())
+        f.pad(self.extern_abi().as_str())
     }
 }

@@ -10,7 +10,7 @@ ghost use Rattle.abi_types.specs.ExternAbi.{abi_name, abi_number};
 
 use std::alloc::{AllocError, Global};
 
-/// A calling convention, as `extern "name"` tells it.
+/// A calling convention, as `extern "name"` says it.
 #[derive(Clone, Copy, Debug)]
 pub enum ExternAbi {
     /// The C convention of the platform.

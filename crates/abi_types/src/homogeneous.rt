@@ -30,7 +30,7 @@ impl HomogeneousAggregate {
     }
 
     /// What two parts hold together: an error where each has a register and they differ.
-    pub(crate) fn beside(
+    pub(crate) fn merge(
         self,
         other: HomogeneousAggregate,
     ) -> Result<HomogeneousAggregate, Heterogeneous>

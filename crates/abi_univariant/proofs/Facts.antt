@@ -6,7 +6,7 @@ use Rattle.std.proofs.lemmas.List.Sorted.{IsPermutation-refl, length_permutation
 use Rattle.abi_base.specs.declared.struct_kind.StructKind.{StructKind}
 use Rattle.abi_base.specs.declared.struct_kind.StructKind.TheVariants.{AlwaysSized, MaybeUnsized, Prefixed}
 use Rattle.std.proofs.lemmas.Bool.{cases_lt}
-use Rattle.abi_univariant.specs.declared.list_repr.ListRepr.{ListRepr}
+use Rattle.abi_univariant.specs.declared.fields_repr.FieldsRepr.{FieldsRepr}
 use Rattle.abi_scalar.specs.declared.backend_repr.BackendRepr.TheVariants.{Memory}
 use Rattle.abi_univariant.specs.declared.part.Part.{Part}
 use Rattle.abi_univariant.specs.Placement.{IsAllowed, IsNonEmptyIfUnsized, KeepsTail, size_in, source_order}
@@ -26,7 +26,7 @@ source_cases : (b : Bool) (kind : StructKind) (n : ℕ) → IsNonEmptyIfUnsized 
 source_cases true kind n some = (IsPermutation-refl (source_order n), source_keeps kind n some)
 source_cases false kind n some = refl
 
-pub source_allowed : (repr : ListRepr) (n : ℕ) → IsNonEmptyIfUnsized repr.kind n → IsAllowed repr n (source_order n)
+pub source_allowed : (repr : FieldsRepr) (n : ℕ) → IsNonEmptyIfUnsized repr.kind n → IsAllowed repr n (source_order n)
 source_allowed repr n some = source_cases repr.reorderable repr.kind n some
 
 -- ---- some allowed order has the least size
@@ -49,7 +49,7 @@ least_cases true kind n size some =
 least_cases false kind n size some = (source_order n, refl, λ other is. let same : size other ≡ size (source_order n) = ap size is in omega arith)
 
 -- whatever the fields, some allowed order has the least size of all allowed orders
-pub some_least : (repr : ListRepr) (fields : List Part) → IsNonEmptyIfUnsized repr.kind (length fields)
+pub some_least : (repr : FieldsRepr) (fields : List Part) → IsNonEmptyIfUnsized repr.kind (length fields)
     → (order : List ℕ) × IsAllowed repr (length fields) order × ((other : List ℕ) → IsAllowed repr (length fields) other → size_in repr fields order ≤ size_in repr fields other)
 some_least repr fields some = least_cases repr.reorderable repr.kind (length fields) (size_in repr fields) some
 
@@ -135,10 +135,10 @@ two_of_six order (inr (inr (inr (inl e)))) keeps = absurd (differs 0 (last_of or
 two_of_six order (inr (inr (inr (inr (inl e))))) keeps = absurd (differs 1 (last_of order (2 ∷ 0 ∷ 1 ∷ []) e keeps) (omega arith))
 two_of_six order (inr (inr (inr (inr (inr e))))) keeps = absurd (differs 0 (last_of order (2 ∷ 1 ∷ 0 ∷ []) e keeps) (omega arith))
 
-abbrev pub free_list : StructKind → ListRepr
+abbrev pub free_list : StructKind → FieldsRepr
 free_list kind = record { kind = kind; pack = None; align = 0; reorderable = true }
 
-abbrev pub fixed_list : StructKind → ListRepr
+abbrev pub fixed_list : StructKind → FieldsRepr
 fixed_list kind = record { kind = kind; pack = None; align = 0; reorderable = false }
 
 pub two_orders : (order : List ℕ) → IsAllowed (free_list MaybeUnsized) 3 order → (order ≡ 0 ∷ 1 ∷ 2 ∷ []) ⊎ (order ≡ 1 ∷ 0 ∷ 2 ∷ [])

@@ -4,10 +4,10 @@ use Rattle.abi_base.specs.declared.struct_kind.StructKind.{StructKind}
 use Rattle.abi_base.specs.declared.struct_kind.StructKind.TheVariants.{AlwaysSized, MaybeUnsized, Prefixed}
 use Rattle.abi_scalar.specs.declared.error.LayoutCalculatorError.{LayoutCalculatorError}
 use Rattle.abi_scalar.specs.declared.error.LayoutCalculatorError.TheVariants.{SizeOverflow, UnexpectedUnsized}
-use Rattle.abi_univariant.specs.declared.list_repr.ListRepr.{ListRepr}
+use Rattle.abi_univariant.specs.declared.fields_repr.FieldsRepr.{FieldsRepr}
 use Rattle.abi_univariant.specs.declared.part.Part.{Part}
-use Rattle.abi_univariant.specs.declared.placing.ListFault.{ListFault}
-use Rattle.abi_univariant.specs.declared.placing.ListFault.TheVariants.{Unsized, TooLarge, OutOfMemory}
+use Rattle.abi_univariant.specs.declared.placing.FieldsFault.{FieldsFault}
+use Rattle.abi_univariant.specs.declared.placing.FieldsFault.TheVariants.{Unsized, TooLarge, OutOfMemory}
 use Rattle.abi_univariant.specs.Part.{is_unsized}
 use Rattle.abi_univariant.specs.Placement.{no_part, place_of, start_of, size_in}
 
@@ -24,7 +24,7 @@ is_empty (i ∷ is) = false
 
 -- the first fault of fields that lie in this order from an offset on: an unsized field in a list of sized ones, an end at
 -- the bound, or an unsized field that others follow
-abbrev pub fault_from : ListRepr → (bound : ℕ) → List Part → (from : ℕ) → (order : List ℕ) → Option ListFault
+abbrev pub fault_from : FieldsRepr → (bound : ℕ) → List Part → (from : ℕ) → (order : List ℕ) → Option FieldsFault
 fault_from repr bound parts from [] = None
 fault_from repr bound parts from (i ∷ is) =
     let part : Part = slice_index_or parts i no_part in
@@ -35,22 +35,22 @@ fault_from repr bound parts from (i ∷ is) =
     else fault_from repr bound parts end is))
 
 -- the first fault of a field, else too large a size
-abbrev pub fault_or_size : ListRepr → (bound : ℕ) → List Part → (order : List ℕ) → Option ListFault → Option ListFault
+abbrev pub fault_or_size : FieldsRepr → (bound : ℕ) → List Part → (order : List ℕ) → Option FieldsFault → Option FieldsFault
 fault_or_size repr bound parts order (Some fault) = Some fault
 fault_or_size repr bound parts order None = if nat_lt (size_in repr parts order) bound then None else Some TooLarge
 
 -- why a list has no layout in an order
-abbrev pub fault_in : ListRepr → (bound : ℕ) → List Part → (order : List ℕ) → Option ListFault
+abbrev pub fault_in : FieldsRepr → (bound : ℕ) → List Part → (order : List ℕ) → Option FieldsFault
 fault_in repr bound parts order = fault_or_size repr bound parts order (fault_from repr bound parts (start_of repr.pack repr.kind) order)
 
--- the error tells the fault, with the field that it names
-abbrev pub IsErrorOf : {H : Type 0} → (fields : List H) → ListFault → LayoutCalculatorError H → Type 0
+-- the error names the fault, with the field that it names
+abbrev pub IsErrorOf : {H : Type 0} → (fields : List H) → FieldsFault → LayoutCalculatorError H → Type 0
 IsErrorOf fields (Unsized i) error = (field : _) × (slice_get fields i ≡ Some field) × (error ≡ UnexpectedUnsized field)
 IsErrorOf fields TooLarge error = error ≡ SizeOverflow
 IsErrorOf fields OutOfMemory error = error ≡ LayoutCalculatorError.OutOfMemory
 
 -- a field that a fault names is there
-abbrev pub IsFaultIndex : (count : ℕ) → ListFault → Type 0
+abbrev pub IsFaultIndex : (count : ℕ) → FieldsFault → Type 0
 IsFaultIndex count (Unsized i) = i < count
 IsFaultIndex count TooLarge = Unit {0}
 IsFaultIndex count OutOfMemory = Unit {0}

@@ -23,19 +23,19 @@ abbrev pub greatest_unadjusted : {F V : Type 0} → (own : ℕ) → List (Layout
 greatest_unadjusted own fields = max own (greatest (map (λ f. f.unadjusted_abi_align) fields))
 
 -- the greater of two alignments, where there are any
-abbrev pub greater : Option ℕ → Option ℕ → Option ℕ
-greater None b = b
-greater (Some a) None = Some a
-greater (Some a) (Some b) = Some (max a b)
+abbrev pub greater_of : Option ℕ → Option ℕ → Option ℕ
+greater_of None b = b
+greater_of (Some a) None = Some a
+greater_of (Some a) (Some b) = Some (max a b)
 
 -- the greatest alignment that a `repr(align)` in the fields asks for
 abbrev pub greatest_asked : {F V : Type 0} → List (LayoutData F V) → Option ℕ
 greatest_asked [] = None
-greatest_asked (f ∷ fs) = greater f.max_repr_align (greatest_asked fs)
+greatest_asked (f ∷ fs) = greater_of f.max_repr_align (greatest_asked fs)
 
 -- the greatest alignment that a `repr(align)` asks for, this one or one in the fields
 abbrev pub greatest_repr_align : {F V : Type 0} → (own : Option ℕ) → List (LayoutData F V) → Option ℕ
-greatest_repr_align own fields = greater own (greatest_asked fields)
+greatest_repr_align own fields = greater_of own (greatest_asked fields)
 
 -- the type lies as `repr(C)` has it: it asks for that, or is transparent and some field lies so
 abbrev pub lies_as_in_c : {F V : Type 0} → ReprOptions → List (LayoutData F V) → Bool

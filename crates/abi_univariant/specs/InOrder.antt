@@ -9,12 +9,12 @@ use Rattle.abi_scalar.specs.declared.error.LayoutCalculatorError.{LayoutCalculat
 use Rattle.abi_scalar.specs.declared.error.LayoutCalculatorError.TheVariants.{BadOrder, OutOfMemory}
 use Rattle.abi_scalar.specs.declared.repr.ReprOptions.{ReprOptions}
 use Rattle.abi_univariant.specs.declared.order.NicheBias.TheVariants.{Start}
-use Rattle.abi_univariant.specs.declared.placing.ListFault.{ListFault}
+use Rattle.abi_univariant.specs.declared.placing.FieldsFault.{FieldsFault}
 use Rattle.abi_univariant.specs.Fault.{IsErrorOf, fault_in}
 use Rattle.abi_univariant.specs.Least.{IsOrderOf}
 use Rattle.abi_univariant.specs.List.{IsListBy}
 use Rattle.abi_univariant.specs.Part.{parts_of}
-use Rattle.abi_univariant.specs.Placement.{list_repr}
+use Rattle.abi_univariant.specs.Placement.{fields_repr}
 use Rattle.abi_univariant.specs.Run.{IsPlacedIn}
 
 -- the order is allowed, and the fields lie in it; the niche is the greatest that comes first in memory
@@ -22,19 +22,19 @@ abbrev pub IsLaidInOrder : {F V : Type 0} → TargetDataLayout → ReprOptions �
     → (order offsets : List ℕ) → (size align : ℕ) → Option Niche → Type 0
 IsLaidInOrder dl repr kind fields order offsets size align niche =
     IsOrderOf dl repr kind (length fields) order
-    × IsPlacedIn dl (list_repr dl repr kind) Start (parts_of dl fields) order offsets size align niche
+    × IsPlacedIn dl (fields_repr dl repr kind) Start (parts_of dl fields) order offsets size align niche
 
 -- the layout of these fields as one list, in the order that is handed in
 abbrev pub IsOrderedLayout : {F V : Type 0} → (at : ℕ → F) → (first : V) → TargetDataLayout → ReprOptions → StructKind → List (LayoutData F V)
     → (order offsets : List ℕ) → LayoutData F V → Type 0
 IsOrderedLayout at first dl repr kind fields = IsListBy (IsLaidInOrder dl repr kind fields) at first dl repr kind fields
 
--- the error tells that the order isn't allowed, else the first fault of the fields in it
+-- the error names that the order isn't allowed, else the first fault of the fields in it
 abbrev pub IsOrderedError : {F V H : Type 0} → (layout_of : H → LayoutData F V) → TargetDataLayout → ReprOptions → StructKind → (order : List ℕ) → List H → LayoutCalculatorError H → Type 0
 IsOrderedError layout_of dl repr kind order fields error =
     ((IsOrderOf dl repr kind (length fields) order → ⊥) × (error ≡ BadOrder))
     ⊎ (IsOrderOf dl repr kind (length fields) order
-    × (fault : ListFault) × (fault_in (list_repr dl repr kind) (size_bound dl) (parts_of dl (map layout_of fields)) order ≡ Some fault) × IsErrorOf fields fault error)
+    × (fault : FieldsFault) × (fault_in (fields_repr dl repr kind) (size_bound dl) (parts_of dl (map layout_of fields)) order ≡ Some fault) × IsErrorOf fields fault error)
 
 -- the answer to a list of fields in an order that is handed in, memory aside
 abbrev pub IsOrderedAnswer : {F V H : Type 0} → (layout_of : H → LayoutData F V) → (at : ℕ → F) → (first : V) → TargetDataLayout → ReprOptions → StructKind → (order : List ℕ) → List H

@@ -8,11 +8,11 @@ use Rattle.abi_scalar.specs.declared.layout_data.LayoutData.{LayoutData}
 use Rattle.abi_scalar.specs.declared.repr.ReprOptions.{ReprOptions}
 use Rattle.abi_scalar.specs.Shape.{listed_offsets}
 use Rattle.abi_univariant.specs.Part.{parts_of}
-use Rattle.abi_univariant.specs.Placement.{IsAllowed, align_of, in_order, list_repr, offsets_from, size_in, start_of}
+use Rattle.abi_univariant.specs.Placement.{IsAllowed, align_of, in_order, fields_repr, offsets_from, size_in, start_of}
 
 -- an order that the repr and the kind allow so many fields
 abbrev pub IsOrderOf : TargetDataLayout → ReprOptions → StructKind → (count : ℕ) → List ℕ → Type 0
-IsOrderOf dl repr kind count order = IsAllowed (list_repr dl repr kind) count order
+IsOrderOf dl repr kind count order = IsAllowed (fields_repr dl repr kind) count order
 
 -- where the fields lie in an order, as they follow one another in memory
 abbrev pub places_by : {F V : Type 0} → TargetDataLayout → ReprOptions → StructKind → List (LayoutData F V) → List ℕ → List ℕ
@@ -20,11 +20,11 @@ places_by dl repr kind fields order = offsets_from repr.pack (start_of repr.pack
 
 -- the size that they take in an order
 abbrev pub size_by : {F V : Type 0} → TargetDataLayout → ReprOptions → StructKind → List (LayoutData F V) → List ℕ → ℕ
-size_by dl repr kind fields order = size_in (list_repr dl repr kind) (parts_of dl fields) order
+size_by dl repr kind fields order = size_in (fields_repr dl repr kind) (parts_of dl fields) order
 
 -- the list's alignment, which is the same in each order
 abbrev pub align_by : {F V : Type 0} → TargetDataLayout → ReprOptions → StructKind → List (LayoutData F V) → ℕ
-align_by dl repr kind fields = align_of (list_repr dl repr kind) (parts_of dl fields)
+align_by dl repr kind fields = align_of (fields_repr dl repr kind) (parts_of dl fields)
 
 -- An allowed order has this size, and none a smaller one.
 pub record IsLeastSize {F V : Type 0} (dl : TargetDataLayout) (repr : ReprOptions) (kind : StructKind) (fields : List (LayoutData F V)) (size : ℕ) : Type 0 where
@@ -51,7 +51,7 @@ LiesInSomeOrder at dl repr kind fields layout =
     (order : List ℕ) × (layout.fields ≡ Arbitrary (listed_offsets layout.fields) (map at order))
     × IsPlacedBy dl repr kind fields order (listed_offsets layout.fields) layout.size layout.align.abi
 
--- the layout's fields lie one after another in this order, which is allowed and is its memory order; `number` tells the number
+-- the layout's fields lie one after another in this order, which is allowed and is its memory order; `number` gives the number
 -- of a field's index
 abbrev pub LiesInOrder : {F V : Type 0} → (number : F → ℕ) → TargetDataLayout → ReprOptions → StructKind → List (LayoutData F V) → (order : List F) → LayoutData F V → Type 0
 LiesInOrder number dl repr kind fields order layout =

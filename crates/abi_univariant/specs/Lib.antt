@@ -21,5 +21,5 @@ pub mod InOrder
 pub mod Union
 pub mod Simd
 -- lists that are to be variants
-pub mod ListLayouts
-pub mod Overall
+pub mod UnivariantLayouts
+pub mod Summary

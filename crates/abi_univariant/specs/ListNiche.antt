@@ -13,11 +13,11 @@ use Rattle.abi_univariant.specs.declared.list_niche.PlacedField.{PlacedField}
 use Rattle.abi_univariant.specs.declared.order.NicheBias.{NicheBias}
 use Rattle.abi_univariant.specs.declared.order.NicheBias.TheVariants.{Start, End}
 use Rattle.abi_univariant.specs.declared.part.Part.{Part}
-use Rattle.abi_univariant.specs.declared.list_repr.ListRepr.{ListRepr}
+use Rattle.abi_univariant.specs.declared.fields_repr.FieldsRepr.{FieldsRepr}
 use Rattle.abi_univariant.specs.ListView.{part_at}
 use Rattle.abi_univariant.specs.Placement.{in_order, offsets_from, start_of}
 
--- a part's niche, told from the start of the whole
+-- a part's niche, counted from the start of the whole
 abbrev pub niche_of_part : (offset : ℕ) → Option Niche → Option Niche
 niche_of_part offset None = None
 niche_of_part offset (Some own) = Some (record own { offset = offset + own.offset })
@@ -26,7 +26,7 @@ niche_of_part offset (Some own) = Some (record own { offset = offset + own.offse
 abbrev pub placed_field : (index offset : ℕ) → Option PlacedField
 placed_field index offset = Some (record { index = index; offset = offset })
 
--- its niche, told from the start of the whole
+-- its niche, counted from the start of the whole
 abbrev pub niche_of_placed : List Part → Option PlacedField → Option Niche
 niche_of_placed parts None = None
 niche_of_placed parts (Some field) = niche_of_part field.offset (part_at parts field.index).largest_niche
@@ -61,7 +61,7 @@ biased_niche Start first last = first
 biased_niche End first last = last
 
 -- the list's niche in an order
-abbrev pub niche_in : TargetDataLayout → ListRepr → NicheBias → List Part → (order : List ℕ) → Option Niche
+abbrev pub niche_in : TargetDataLayout → FieldsRepr → NicheBias → List Part → (order : List ℕ) → Option Niche
 niche_in dl repr bias parts order =
     greatest_niche bias dl (offsets_from repr.pack (start_of repr.pack repr.kind) (in_order parts order)) (in_order parts order)
 
@@ -77,7 +77,7 @@ abbrev pub begins_after : ℕ → Option Niche → Bool
 begins_after space None = false
 begins_after space (Some niche) = nat_lt space niche.offset
 
--- the niche is a part's own, told from the start of the whole
+-- the niche is a part's own, counted from the start of the whole
 abbrev pub IsNicheAt : (offset : ℕ) → (own : Option Niche) → Niche → Type 0
 IsNicheAt offset None niche = ⊥
 IsNicheAt offset (Some own) niche = (niche.offset ≡ offset + own.offset) × (niche.value ≡ own.value) × (niche.valid_range ≡ own.valid_range)

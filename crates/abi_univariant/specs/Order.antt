@@ -6,7 +6,7 @@ use Rattle.std.specs.Option.{option_map_or}
 use Rattle.std.specs.declared.cmp.Ordering.{Ordering}
 use Rattle.std.specs.Ordering.{ordering_then, nat_cmp}
 use Rattle.abi_univariant.specs.declared.part.Part.{Part}
-use Rattle.abi_univariant.specs.declared.list_repr.ListRepr.{ListRepr}
+use Rattle.abi_univariant.specs.declared.fields_repr.FieldsRepr.{FieldsRepr}
 use Rattle.abi_base.specs.declared.struct_kind.StructKind.{StructKind}
 use Rattle.abi_base.specs.declared.struct_kind.StructKind.TheVariants.{AlwaysSized, MaybeUnsized, Prefixed}
 use Rattle.abi_univariant.specs.declared.order.NicheBias.{NicheBias}
@@ -70,10 +70,10 @@ pub record IsSortedOrder (keys : List SortKey) (order : List ℕ) : Type 0 where
   pub stable : IsStableByKey (key_at keys) compare_keys (source_order (length keys)) order
 
 -- the fields that may move: all but a last one that may lose its size
-abbrev pub movable : {A : Type 0} → StructKind → List A → List A
-movable AlwaysSized fields = fields
-movable MaybeUnsized fields = take (length fields - 1) fields
-movable (Prefixed size align) fields = fields
+abbrev pub movable_front : {A : Type 0} → StructKind → List A → List A
+movable_front AlwaysSized fields = fields
+movable_front MaybeUnsized fields = take (length fields - 1) fields
+movable_front (Prefixed size align) fields = fields
 
 -- the index that stays at the end
 abbrev pub tail : StructKind → List Part → List ℕ
@@ -88,7 +88,7 @@ is_prefixed MaybeUnsized = false
 is_prefixed (Prefixed size align) = true
 
 -- what the order of these fields goes by
-abbrev pub rule_of : ListRepr → NicheBias → List Part → SortRule
+abbrev pub rule_of : FieldsRepr → NicheBias → List Part → SortRule
 rule_of repr bias fields = record {
   pack = repr.pack;
   is_prefixed = is_prefixed repr.kind;
@@ -98,10 +98,10 @@ rule_of repr bias fields = record {
 }
 
 -- the movable fields sorted, then the tail
-abbrev pub IsSortedBefore : ListRepr → NicheBias → List Part → List ℕ → Type 0
+abbrev pub IsSortedBefore : FieldsRepr → NicheBias → List Part → List ℕ → Type 0
 IsSortedBefore repr bias fields order =
-    (front : List ℕ) × IsSortedOrder (map (sort_key (rule_of repr bias (movable repr.kind fields))) (movable repr.kind fields)) front × (order ≡ front ++ tail repr.kind fields)
+    (front : List ℕ) × IsSortedOrder (map (sort_key (rule_of repr bias (movable_front repr.kind fields))) (movable_front repr.kind fields)) front × (order ≡ front ++ tail repr.kind fields)
 
 -- the order that is named for a bias: source order, or sorted where fields may move
-abbrev pub IsNamedOrder : ListRepr → NicheBias → List Part → List ℕ → Type 0
+abbrev pub IsNamedOrder : FieldsRepr → NicheBias → List Part → List ℕ → Type 0
 IsNamedOrder repr bias fields order = MatchBool repr.reorderable (IsSortedBefore repr bias fields order) (order ≡ source_order (length fields))

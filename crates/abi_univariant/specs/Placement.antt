@@ -8,7 +8,7 @@ use Rattle.abi_base.specs.declared.struct_kind.StructKind.TheVariants.{AlwaysSiz
 use Rattle.abi_scalar.specs.declared.backend_repr.BackendRepr.TheVariants.{Memory}
 use Rattle.abi_scalar.specs.declared.repr.ReprOptions.{ReprOptions}
 use Rattle.abi_scalar.specs.Repr.{has_fixed_order}
-use Rattle.abi_univariant.specs.declared.list_repr.ListRepr.{ListRepr}
+use Rattle.abi_univariant.specs.declared.fields_repr.FieldsRepr.{FieldsRepr}
 use Rattle.abi_univariant.specs.declared.part.Part.{Part}
 use Rattle.abi_univariant.specs.Part.{max_align}
 
@@ -44,7 +44,7 @@ prefix_align pack MaybeUnsized = 0
 prefix_align pack (Prefixed size align) = cut pack align
 
 -- the list's alignment: its own, the prefix's and those of its fields
-abbrev pub align_of : ListRepr → List Part → ℕ
+abbrev pub align_of : FieldsRepr → List Part → ℕ
 align_of repr fields = fold (λ greatest field. max greatest (cut repr.pack field.align)) (max repr.align (prefix_align repr.pack repr.kind)) fields
 
 -- the indices of a list of count fields, in source order
@@ -60,7 +60,7 @@ abbrev pub in_order : List Part → List ℕ → List Part
 in_order fields order = map (λ i. slice_index_or fields i no_part) order
 
 -- the size that the list has in an order
-abbrev pub size_in : ListRepr → List Part → List ℕ → ℕ
+abbrev pub size_in : FieldsRepr → List Part → List ℕ → ℕ
 size_in repr fields order = next_multiple_of (end_from repr.pack (start_of repr.pack repr.kind) (in_order fields order)) (2 ^ align_of repr fields)
 
 -- a list whose last field may lose its size keeps it last
@@ -70,7 +70,7 @@ KeepsTail MaybeUnsized count order = slice_index order (count - 1) ≡ count - 1
 KeepsTail (Prefixed size align) count order = Unit {0}
 
 -- the orders that count fields may have: each order that keeps the tail, or source order alone
-abbrev pub IsAllowed : ListRepr → ℕ → List ℕ → Type 0
+abbrev pub IsAllowed : FieldsRepr → ℕ → List ℕ → Type 0
 IsAllowed repr count order = MatchBool repr.reorderable (IsPermutation (source_order count) order × KeepsTail repr.kind count order) (order ≡ source_order count)
 
 -- a list that may not lose its size
@@ -80,7 +80,7 @@ IsSized MaybeUnsized = ⊥
 IsSized (Prefixed size align) = Unit {0}
 
 -- what every order needs: the start and the sizes, rounded up once
-abbrev pub sum_rounded : ListRepr → List Part → ℕ
+abbrev pub sum_rounded : FieldsRepr → List Part → ℕ
 sum_rounded repr fields = next_multiple_of (start_of repr.pack repr.kind + sum_by (λ field. field.size) fields) (2 ^ align_of repr fields)
 
 -- a maybe-unsized list of count fields has a last one
@@ -90,24 +90,24 @@ IsNonEmptyIfUnsized MaybeUnsized count = 0 < count
 IsNonEmptyIfUnsized (Prefixed size align) count = Unit {0}
 
 -- a prefix is smaller than the bound, and its alignment has its limit
-abbrev pub IsLawfulPrefix : StructKind → ℕ → Type 0
-IsLawfulPrefix AlwaysSized bound = Unit {0}
-IsLawfulPrefix MaybeUnsized bound = Unit {0}
-IsLawfulPrefix (Prefixed size align) bound = (size < bound) × (align ≤ max_align)
+abbrev pub IsWellFormedPrefix : StructKind → ℕ → Type 0
+IsWellFormedPrefix AlwaysSized bound = Unit {0}
+IsWellFormedPrefix MaybeUnsized bound = Unit {0}
+IsWellFormedPrefix (Prefixed size align) bound = (size < bound) × (align ≤ max_align)
 
 -- What a list of count fields asks.
-pub record IsLawfulRepr (repr : ListRepr) (count bound : ℕ) : Type 0 where
+pub record IsWellFormedRepr (repr : FieldsRepr) (count bound : ℕ) : Type 0 where
   pub aligned : repr.align ≤ max_align
   pub kind : IsNonEmptyIfUnsized repr.kind count
-  pub starts : IsLawfulPrefix repr.kind bound
+  pub starts : IsWellFormedPrefix repr.kind bound
 
 -- the alignment that a list begins with: that of aggregates, or of a byte where its fields are packed
 abbrev pub own_align : TargetDataLayout → ReprOptions → ℕ
 own_align dl repr = if is_some repr.pack then dl.i8_align else dl.aggregate_align
 
 -- what a `repr` asks of a list of this kind: `repr(align)` raises its alignment
-abbrev pub list_repr : TargetDataLayout → ReprOptions → StructKind → ListRepr
-list_repr dl repr kind = record {
+abbrev pub fields_repr : TargetDataLayout → ReprOptions → StructKind → FieldsRepr
+fields_repr dl repr kind = record {
   kind = kind;
   pack = repr.pack;
   align = max (own_align dl repr) (unwrap_or repr.align 0);
@@ -115,8 +115,8 @@ list_repr dl repr kind = record {
 }
 
 -- the same before `repr(align)` raises the alignment
-abbrev pub unraised : TargetDataLayout → ReprOptions → StructKind → ListRepr
-unraised dl repr kind = record {
+abbrev pub unraised_repr : TargetDataLayout → ReprOptions → StructKind → FieldsRepr
+unraised_repr dl repr kind = record {
   kind = kind;
   pack = repr.pack;
   align = own_align dl repr;

@@ -7,15 +7,15 @@ ghost use Rattle.abi_scalar.specs.Lawful.{IsLawfulLayout};
 ghost use Rattle.abi_scalar.specs.Repr.{has_fixed_order};
 ghost use Rattle.abi_univariant.specs.InOrder.{IsOrderedAnswer};
 ghost use Rattle.abi_univariant.specs.List.{HasLawfulAligns};
-ghost use Rattle.abi_univariant.specs.Placement.{IsAllowed, IsLawfulPrefix, IsNonEmptyIfUnsized, KeepsTail, list_repr, source_order};
+ghost use Rattle.abi_univariant.specs.Placement.{IsAllowed, IsWellFormedPrefix, IsNonEmptyIfUnsized, KeepsTail, fields_repr, source_order};
 
+use crate::fields_repr::{FieldsRepr, fields_repr};
 use crate::list::{error_of, list_of_placed};
-use crate::list_layout::ListLayout;
-use crate::list_repr::{ListRepr, list_repr};
 use crate::memory_order::MemoryOrder;
 use crate::order::NicheBias;
 use crate::part::Parts;
 use crate::run::placed_in;
+use crate::univariant_layout::UnivariantLayout;
 use abi_base::{StructKind, TargetDataLayout};
 use abi_index::{Idx, IndexSlice};
 use abi_scalar::{LayoutCalculatorError, LayoutData, LayoutHandle, ReprOptions};
@@ -95,14 +95,14 @@ fn list_in_order<FieldIdx: Idx, VariantIdx: Idx, F: LayoutHandle<FieldIdx, Varia
     dl: &TargetDataLayout,
     fields: &[F],
     repr: &ReprOptions,
-    list: &ListRepr,
+    list: &FieldsRepr,
     order: MemoryOrder<FieldIdx>,
-) -> Result<ListLayout<FieldIdx, VariantIdx>, LayoutCalculatorError<F>>
+) -> Result<UnivariantLayout<FieldIdx, VariantIdx>, LayoutCalculatorError<F>>
     requires data_layout { IsLawfulDataLayout dl.now }
     requires fields { All (λ f. IsLawfulLayout dl.now (F.layout_of f)) fields.now }
     requires repr { HasLawfulAligns repr.now }
-    requires list { list.now ≡ list_repr dl.now repr.now list.now.kind }
-    requires prefix { IsLawfulPrefix list.now.kind (size_bound dl.now) }
+    requires list { list.now ≡ fields_repr dl.now repr.now list.now.kind }
+    requires prefix { IsWellFormedPrefix list.now.kind (size_bound dl.now) }
     requires tail { IsNonEmptyIfUnsized list.now.kind (length fields.now) }
     requires count { length fields.now ≤ FieldIdx.MAX_INDEX + 1 }
     requires order { IsAllowed list.now (length fields.now) order }
@@ -124,7 +124,7 @@ fn list_in_order<FieldIdx: Idx, VariantIdx: Idx, F: LayoutHandle<FieldIdx, Varia
 /// Refused first of all as `BadOrder` where the order doesn't name each field once, or moves the last field of a
 /// maybe-unsized list. Then as `UnexpectedUnsized` with a field whose size isn't known beforehand, unless it is the
 /// last of a maybe-unsized list, and as `SizeOverflow` where a field's end or the size isn't below the data layout's
-/// bound: the first fault in memory order is told. `OutOfMemory` may come at any time.
+/// bound: the first fault in memory order is reported. `OutOfMemory` may come at any time.
 pub fn layout_of_fields_in_order<
     FieldIdx: Idx,
     VariantIdx: Idx,
@@ -140,7 +140,7 @@ pub fn layout_of_fields_in_order<
     requires data_layout { IsLawfulDataLayout dl.now }
     requires fields { All (λ f. IsLawfulLayout dl.now (F.layout_of f)) (items_of fields) }
     requires repr { HasLawfulAligns repr.now }
-    requires prefix { IsLawfulPrefix kind (size_bound dl.now) }
+    requires prefix { IsWellFormedPrefix kind (size_bound dl.now) }
     requires tail { IsNonEmptyIfUnsized kind (length (items_of fields)) }
     requires free { has_fixed_order repr.now ≡ false }
     ensures exact { IsOrderedAnswer F.layout_of FieldIdx.at (VariantIdx.at 0) dl.now repr.now kind
@@ -148,7 +148,7 @@ pub fn layout_of_fields_in_order<
     ensures lawful { IfOk result (IsLawfulLayout dl.now) }
     ensures within { length (items_of fields.entry) ≤ FieldIdx.MAX_INDEX + 1 }
 {
-    let list = list_repr(dl, repr, kind);
+    let list = fields_repr(dl, repr, kind);
     let fields = fields.as_raw();
     if !is_allowed(alloc, kind, order, fields.len())? {
         return Err(LayoutCalculatorError::BadOrder);

@@ -10,7 +10,7 @@ mod simd;
 mod unions;
 
 // Lists of fields: their parts, orders and places.
-mod list_repr;
+mod fields_repr;
 mod memory_order;
 mod order;
 mod part;
@@ -20,26 +20,26 @@ mod run;
 // Their layouts: view, niche, and the whole; in an order that is handed in.
 mod in_order;
 mod list;
-mod list_layout;
 mod list_niche;
 mod list_view;
+mod univariant_layout;
 
 // Lists that are to be the variants of a type.
-mod lent_list;
-mod list_layouts;
-mod overall;
+mod fields_ref;
+mod summary;
+mod univariant_layouts;
 
 pub use array::layout_of_array;
 pub use fields::greatest_align;
+pub use fields_ref::FieldsRef;
+pub use fields_repr::round_up;
 pub use in_order::layout_of_fields_in_order;
-pub use lent_list::LentList;
 pub use list::{any_uninhabited, field_offsets, layout_of_fields, list_of_fields};
-pub use list_layout::ListLayout;
-pub use list_layouts::{ListLayouts, Rest};
-pub use list_repr::rounded;
 pub use list_view::pair_view;
 pub use one_item::one;
-pub use overall::Overall;
 pub use part::free_numbers;
 pub use simd::{layout_of_scalable, layout_of_simd};
+pub use summary::Summary;
 pub use unions::layout_of_union;
+pub use univariant_layout::UnivariantLayout;
+pub use univariant_layouts::{UnivariantLayouts, VariantRest};

@@ -10,20 +10,20 @@ ghost use Rattle.abi_scalar.specs.Lawful.{IsLawfulLayout};
 ghost use Rattle.abi_scalar.specs.Repr.{is_abi_fixed};
 ghost use Rattle.abi_univariant.specs.Fault.{IsErrorOf, IsFaultIndex};
 ghost use Rattle.abi_univariant.specs.Fields.{greatest_repr_align, lies_as_in_c};
-ghost use Rattle.abi_univariant.specs.List.{HasLawfulAligns, IsListAnswer, list_seed, unadjusted_of};
+ghost use Rattle.abi_univariant.specs.List.{HasLawfulAligns, IsUnivariantAnswer, list_seed, unadjusted_of};
 ghost use Rattle.abi_univariant.specs.ListView.{bulk_of, bulky_parts, list_view};
 ghost use Rattle.abi_univariant.specs.Part.{parts_of};
 ghost use Rattle.abi_univariant.specs.Run.{IsInOrder};
-ghost use Rattle.abi_univariant.specs.Placement.{IsLawfulPrefix, IsNonEmptyIfUnsized, align_of, list_repr};
+ghost use Rattle.abi_univariant.specs.Placement.{IsWellFormedPrefix, IsNonEmptyIfUnsized, align_of, fields_repr};
 
 use crate::fields::{greatest_repr_align, lies_as_in_c, seed_with};
-use crate::list_layout::ListLayout;
-use crate::list_repr::{ListRepr, list_repr, unraised};
+use crate::fields_repr::{FieldsRepr, fields_repr, unraised_repr};
 use crate::list_view::{Bulk, bulk_of, list_view, transparent_align};
-use crate::order::movable;
+use crate::order::movable_front;
 use crate::part::Parts;
-use crate::placing::{ListFault, list_align};
+use crate::placing::{FieldsFault, list_align};
 use crate::run::{PlacedList, layout_of_parts};
+use crate::univariant_layout::UnivariantLayout;
 use abi_base::{Align, Size, StructKind, TargetDataLayout};
 use abi_index::{Idx, IndexSlice, IndexVec};
 use abi_scalar::{LayoutCalculatorError, LayoutData, LayoutHandle, ReprOptions};
@@ -58,15 +58,15 @@ pub fn field_offsets<FieldIdx: Idx>(
     Ok(list)
 }
 
-/// The error that tells a fault.
-pub(crate) fn error_of<F: Copy>(fields: &[F], fault: ListFault) -> LayoutCalculatorError<F>
+/// The error that names a fault.
+pub(crate) fn error_of<F: Copy>(fields: &[F], fault: FieldsFault) -> LayoutCalculatorError<F>
     requires { IsFaultIndex (length fields.now) fault }
     ensures { IsErrorOf fields.now fault result }
 {
     match fault {
-        ListFault::Unsized(index) => LayoutCalculatorError::UnexpectedUnsized(fields[index]),
-        ListFault::TooLarge => LayoutCalculatorError::SizeOverflow,
-        ListFault::OutOfMemory => LayoutCalculatorError::OutOfMemory,
+        FieldsFault::Unsized(index) => LayoutCalculatorError::UnexpectedUnsized(fields[index]),
+        FieldsFault::TooLarge => LayoutCalculatorError::SizeOverflow,
+        FieldsFault::OutOfMemory => LayoutCalculatorError::OutOfMemory,
     }
 }
 
@@ -74,14 +74,14 @@ pub(crate) fn error_of<F: Copy>(fields: &[F], fault: ListFault) -> LayoutCalcula
 fn unadjusted_align<FieldIdx: Idx, VariantIdx: Idx, F: LayoutHandle<FieldIdx, VariantIdx>>(
     dl: &TargetDataLayout,
     repr: &ReprOptions,
-    list: &ListRepr,
+    list: &FieldsRepr,
     size: Size,
     align: Align,
     parts: &Parts<'_, FieldIdx, VariantIdx, F>,
     bulk: Bulk,
 ) -> Align
     requires bulk { bulk ≡ bulk_of (bulky_parts parts.now) }
-    requires list { list.now ≡ list_repr dl.now repr.now list.now.kind }
+    requires list { list.now ≡ fields_repr dl.now repr.now list.now.kind }
     requires align { align ≡ align_of list.now parts.now }
     ensures { result ≡ unadjusted_of dl.now repr.now list.now.kind size align parts.now }
 {
@@ -90,7 +90,7 @@ fn unadjusted_align<FieldIdx: Idx, VariantIdx: Idx, F: LayoutHandle<FieldIdx, Va
     } else if repr.align.is_none() {
         align
     } else {
-        list_align(parts, &unraised(dl, repr, list))
+        list_align(parts, &unraised_repr(dl, repr, list))
     }
 }
 
@@ -100,14 +100,14 @@ pub(crate) fn list_of_placed<FieldIdx: Idx, VariantIdx: Idx, F: LayoutHandle<Fie
     dl: &TargetDataLayout,
     fields: &[F],
     repr: &ReprOptions,
-    list: &ListRepr,
+    list: &FieldsRepr,
     placed: PlacedList<FieldIdx>,
-) -> ListLayout<FieldIdx, VariantIdx>
+) -> UnivariantLayout<FieldIdx, VariantIdx>
     requires data_layout { IsLawfulDataLayout dl.now }
     requires fields { All (λ f. IsLawfulLayout dl.now (F.layout_of f)) fields.now }
     requires repr { HasLawfulAligns repr.now }
-    requires list { list.now ≡ list_repr dl.now repr.now list.now.kind }
-    requires prefix { IsLawfulPrefix list.now.kind (size_bound dl.now) }
+    requires list { list.now ≡ fields_repr dl.now repr.now list.now.kind }
+    requires prefix { IsWellFormedPrefix list.now.kind (size_bound dl.now) }
     requires tail { IsNonEmptyIfUnsized list.now.kind (length fields.now) }
     requires count { length fields.now ≤ FieldIdx.MAX_INDEX + 1 }
     requires placed { IsInOrder dl.now list.now (parts_of dl.now (map F.layout_of fields.now))
@@ -145,7 +145,7 @@ pub(crate) fn list_of_placed<FieldIdx: Idx, VariantIdx: Idx, F: LayoutHandle<Fie
     let view = list_view(dl, fixed, size, align, &parts, &offsets, bulk);
     let unadjusted_abi_align = unadjusted_align(dl, repr, list, size, align, &parts, bulk);
     let offsets = IndexVec::from_raw(offsets);
-    ListLayout {
+    UnivariantLayout {
         offsets,
         in_memory_order: order.into_fields(),
         index: VariantIdx::new(0),
@@ -157,7 +157,7 @@ pub(crate) fn list_of_placed<FieldIdx: Idx, VariantIdx: Idx, F: LayoutHandle<Fie
         max_repr_align: greatest_repr_align(repr.align, fields),
         unadjusted_abi_align,
         repr_c: lies_as_in_c(repr, fields),
-        randomization_seed: seed_with(repr.field_shuffle_seed, movable(list.kind, fields)),
+        randomization_seed: seed_with(repr.field_shuffle_seed, movable_front(list.kind, fields)),
     }
 }
 
@@ -168,16 +168,16 @@ fn list_of_slice<FieldIdx: Idx, VariantIdx: Idx, F: LayoutHandle<FieldIdx, Varia
     dl: &TargetDataLayout,
     fields: &[F],
     repr: &ReprOptions,
-    list: &ListRepr,
-) -> Result<ListLayout<FieldIdx, VariantIdx>, LayoutCalculatorError<F>>
+    list: &FieldsRepr,
+) -> Result<UnivariantLayout<FieldIdx, VariantIdx>, LayoutCalculatorError<F>>
     requires data_layout { IsLawfulDataLayout dl.now }
     requires fields { All (λ f. IsLawfulLayout dl.now (F.layout_of f)) fields.now }
     requires repr { HasLawfulAligns repr.now }
-    requires list { list.now ≡ list_repr dl.now repr.now list.now.kind }
-    requires prefix { IsLawfulPrefix list.now.kind (size_bound dl.now) }
+    requires list { list.now ≡ fields_repr dl.now repr.now list.now.kind }
+    requires prefix { IsWellFormedPrefix list.now.kind (size_bound dl.now) }
     requires tail { IsNonEmptyIfUnsized list.now.kind (length fields.now) }
     requires count { length fields.now ≤ FieldIdx.MAX_INDEX + 1 }
-    ensures exact { IsListAnswer F.layout_of FieldIdx.at
+    ensures exact { IsUnivariantAnswer F.layout_of FieldIdx.at
         (VariantIdx.at 0) dl.now repr.now list.now.kind fields.now result }
     ensures lawful { IfOk result (IsLawfulLayout dl.now) }
 {
@@ -194,25 +194,25 @@ fn list_of_slice<FieldIdx: Idx, VariantIdx: Idx, F: LayoutHandle<FieldIdx, Varia
 ///
 /// Refused as `UnexpectedUnsized` with a field whose size isn't known beforehand, unless it is the last of a
 /// maybe-unsized list, and as `SizeOverflow` where a field's end or the size isn't below the data layout's bound: the
-/// first fault in memory order is told. `OutOfMemory` may come at any time.
+/// first fault in memory order is reported. `OutOfMemory` may come at any time.
 pub fn list_of_fields<FieldIdx: Idx, VariantIdx: Idx, F: LayoutHandle<FieldIdx, VariantIdx> + Copy>(
     alloc: Global,
     dl: &TargetDataLayout,
     fields: IndexSlice<'_, FieldIdx, F>,
     repr: &ReprOptions,
     kind: StructKind,
-) -> Result<ListLayout<FieldIdx, VariantIdx>, LayoutCalculatorError<F>>
+) -> Result<UnivariantLayout<FieldIdx, VariantIdx>, LayoutCalculatorError<F>>
     requires data_layout { IsLawfulDataLayout dl.now }
     requires fields { All (λ f. IsLawfulLayout dl.now (F.layout_of f)) (items_of fields) }
     requires repr { HasLawfulAligns repr.now }
-    requires prefix { IsLawfulPrefix kind (size_bound dl.now) }
+    requires prefix { IsWellFormedPrefix kind (size_bound dl.now) }
     requires tail { IsNonEmptyIfUnsized kind (length (items_of fields)) }
-    ensures exact { IsListAnswer F.layout_of FieldIdx.at (VariantIdx.at 0) dl.now repr.now kind
+    ensures exact { IsUnivariantAnswer F.layout_of FieldIdx.at (VariantIdx.at 0) dl.now repr.now kind
         (items_of fields.entry) result }
     ensures lawful { IfOk result (IsLawfulLayout dl.now) }
     ensures within { length (items_of fields.entry) ≤ FieldIdx.MAX_INDEX + 1 }
 {
-    let list = list_repr(dl, repr, kind);
+    let list = fields_repr(dl, repr, kind);
     list_of_slice(alloc, dl, fields.as_raw(), repr, &list)
 }
 
@@ -231,9 +231,9 @@ pub fn layout_of_fields<
     requires data_layout { IsLawfulDataLayout dl.now }
     requires fields { All (λ f. IsLawfulLayout dl.now (F.layout_of f)) (items_of fields) }
     requires repr { HasLawfulAligns repr.now }
-    requires prefix { IsLawfulPrefix kind (size_bound dl.now) }
+    requires prefix { IsWellFormedPrefix kind (size_bound dl.now) }
     requires tail { IsNonEmptyIfUnsized kind (length (items_of fields)) }
-    ensures exact { IsListAnswer F.layout_of FieldIdx.at (VariantIdx.at 0) dl.now repr.now kind
+    ensures exact { IsUnivariantAnswer F.layout_of FieldIdx.at (VariantIdx.at 0) dl.now repr.now kind
         (items_of fields.entry) result }
     ensures lawful { IfOk result (IsLawfulLayout dl.now) }
     ensures within { length (items_of fields.entry) ≤ FieldIdx.MAX_INDEX + 1 }

@@ -2,7 +2,7 @@
 
 ghost use Rattle.std.specs.Prelude.{◌≡◌, ◌+◌, ◌^◌, ◌<◌, IfSome, if◌then◌else◌, max, nat_lt};
 ghost use Rattle.abi_scalar.specs.Lawful.{IsLawfulNiche};
-ghost use Rattle.abi_scalar.specs.Niche.{IsReadableNiche};
+ghost use Rattle.abi_scalar.specs.Niche.{IsWellFormedNiche};
 ghost use Rattle.abi_univariant.specs.ListNiche.{IsPlacedField, biased_niche, niche_found, niche_of_part, niche_of_placed, placed_field, space_beside};
 
 use crate::order::NicheBias;
@@ -11,7 +11,7 @@ use abi_base::{HasDataLayout, Size};
 use abi_index::Idx;
 use abi_scalar::{LayoutHandle, Niche};
 
-/// A field's niche, told from the start of the list.
+/// A field's niche, counted from the start of the list.
 pub(crate) fn niche_of_part(offset: Size, own: &Option<Niche>) -> Option<Niche>
     requires { IfSome own.now (λ niche. offset + niche.offset < 2 ^ 64) }
     ensures { result ≡ niche_of_part offset own.now }
@@ -35,7 +35,7 @@ pub struct GreatestNiche {
 
 impl GreatestNiche {
     /// The one that counts: the first for a bias to the start, the last for one to the end.
-    pub(crate) fn biased(&self, bias: NicheBias) -> Option<Niche>
+    pub(crate) fn niche_by_bias(&self, bias: NicheBias) -> Option<Niche>
         ensures { result ≡ biased_niche bias self.now.first self.now.last }
     {
         match bias {
@@ -106,8 +106,8 @@ impl NicheSoFar {
         }
     }
 
-    /// The niches themselves, told from the start of the list.
-    pub(crate) fn found<FieldIdx: Idx, VariantIdx: Idx, F: LayoutHandle<FieldIdx, VariantIdx>>(
+    /// The niches themselves, counted from the start of the list.
+    pub(crate) fn niches<FieldIdx: Idx, VariantIdx: Idx, F: LayoutHandle<FieldIdx, VariantIdx>>(
         self,
         parts: &Parts<'_, FieldIdx, VariantIdx, F>,
     ) -> GreatestNiche
@@ -126,7 +126,7 @@ impl NicheSoFar {
 /// The space before the niche or after it, whichever is more, in a list of this size. None where the niche touches
 /// an edge.
 pub(crate) fn space_beside<C: HasDataLayout>(cx: &C, size: Size, niche: &Niche) -> Option<Size>
-    requires readable { IsReadableNiche (C.target cx.now) niche.now }
+    requires readable { IsWellFormedNiche (C.target cx.now) niche.now }
     requires inside { IsLawfulNiche (C.target cx.now) size niche.now }
     ensures { result ≡ space_beside (C.target cx.now) size (Some niche.now) }
 {

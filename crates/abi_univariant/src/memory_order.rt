@@ -32,7 +32,11 @@ impl<FieldIdx: Idx> Model for MemoryOrder<FieldIdx> {
 
 impl<FieldIdx: Idx> MemoryOrder<FieldIdx> {
     /// Source order of `count` fields, with room for `room` of them.
-    pub(crate) fn source(alloc: Global, room: usize, count: usize) -> Result<Self, AllocError>
+    pub(crate) fn in_source_order(
+        alloc: Global,
+        room: usize,
+        count: usize,
+    ) -> Result<Self, AllocError>
         requires { count ≤ FieldIdx.MAX_INDEX + 1 }
         ensures { IfOk result (λ order. order ≡ source_order count) }
     {

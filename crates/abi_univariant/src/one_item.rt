@@ -1,7 +1,7 @@
 //! A list with one item: the one field that a vector's lanes are kept in, or the one that a tag is.
 
 ghost use Rattle.std.specs.Prelude.{◌≡◌, ◌∷◌, []};
-ghost use Rattle.abi_index.specs.Few.{TwoFit};
+ghost use Rattle.abi_index.specs.InlineVec.{TwoFit};
 
 use abi_index::{Idx, IndexVec};
 use std::alloc::{AllocError, Global};

@@ -5,9 +5,9 @@ ghost use Rattle.std.specs.List.Sorted.{IsSortedByKey, IsStableByKey};
 ghost use Rattle.abi_univariant.specs.Part.{max_align};
 ghost use Rattle.abi_univariant.specs.LawfulPart.{IsAlignedPart};
 ghost use Rattle.abi_univariant.specs.Placement.{IsNonEmptyIfUnsized};
-ghost use Rattle.abi_univariant.specs.Order.{size_as_align, group_of, niche_from_front, niche_to_end, sort_key, compare_keys, key_at, IsSortedOrder, movable, is_prefixed, rule_of, IsSortedBefore, IsNamedOrder};
+ghost use Rattle.abi_univariant.specs.Order.{size_as_align, group_of, niche_from_front, niche_to_end, sort_key, compare_keys, key_at, IsSortedOrder, movable_front, is_prefixed, rule_of, IsSortedBefore, IsNamedOrder};
 
-use crate::list_repr::ListRepr;
+use crate::fields_repr::FieldsRepr;
 use crate::memory_order::MemoryOrder;
 use crate::part::{Part, Parts};
 use abi_base::{Align, StructKind};
@@ -205,15 +205,15 @@ fn sorted_order<FieldIdx: Idx, VariantIdx: Idx, F: LayoutHandle<FieldIdx, Varian
     requires count { length parts.now ≤ FieldIdx.MAX_INDEX + 1 }
     ensures { IfOk result (λ order. IsSortedOrder (map (sort_key rule.now) parts.now) order) }
 {
-    let mut order = MemoryOrder::source(alloc, room, parts.len())?;
+    let mut order = MemoryOrder::in_source_order(alloc, room, parts.len())?;
     sort_fields(alloc, &mut order, parts, rule)?;
     Ok(order)
 }
 
 /// The fields that may move: all but a last one that may be unsized.
-pub(crate) fn movable<'a, F>(kind: StructKind, fields: &'a [F]) -> &'a [F]
+pub(crate) fn movable_front<'a, F>(kind: StructKind, fields: &'a [F]) -> &'a [F]
     requires { IsNonEmptyIfUnsized kind (length fields.now) }
-    ensures { result.now ≡ movable kind fields.now }
+    ensures { result.now ≡ movable_front kind fields.now }
 {
     match kind {
         StructKind::MaybeUnsized => &fields[..fields.len() - 1],
@@ -258,7 +258,7 @@ fn greatest_niche<FieldIdx: Idx, VariantIdx: Idx, F: LayoutHandle<FieldIdx, Vari
 
 impl SortRule {
     fn new<FieldIdx: Idx, VariantIdx: Idx, F: LayoutHandle<FieldIdx, VariantIdx>>(
-        repr: &ListRepr,
+        repr: &FieldsRepr,
         bias: NicheBias,
         parts: &Parts<'_, FieldIdx, VariantIdx, F>,
     ) -> Self
@@ -278,7 +278,7 @@ impl SortRule {
 fn sorted_before<FieldIdx: Idx, VariantIdx: Idx, F: LayoutHandle<FieldIdx, VariantIdx>>(
     alloc: Global,
     parts: &Parts<'_, FieldIdx, VariantIdx, F>,
-    repr: &ListRepr,
+    repr: &FieldsRepr,
     bias: NicheBias,
 ) -> Result<MemoryOrder<FieldIdx>, AllocError>
     requires lawful { All IsAlignedPart parts.now }
@@ -286,14 +286,14 @@ fn sorted_before<FieldIdx: Idx, VariantIdx: Idx, F: LayoutHandle<FieldIdx, Varia
     requires count { length parts.now ≤ FieldIdx.MAX_INDEX + 1 }
     ensures { IfOk result (λ order. IsSortedBefore repr.now bias parts.now order) }
 {
-    let movable = parts.movable(repr.kind);
-    if movable.len() < 2 {
-        return MemoryOrder::source(alloc, parts.len(), parts.len());
+    let movable_front = parts.movable_front(repr.kind);
+    if movable_front.len() < 2 {
+        return MemoryOrder::in_source_order(alloc, parts.len(), parts.len());
     }
-    let rule = SortRule::new(repr, bias, &movable);
-    let mut order = sorted_order(alloc, parts.len(), &movable, &rule)?;
-    if movable.len() < parts.len() {
-        order.push(movable.len())?;
+    let rule = SortRule::new(repr, bias, &movable_front);
+    let mut order = sorted_order(alloc, parts.len(), &movable_front, &rule)?;
+    if movable_front.len() < parts.len() {
+        order.push(movable_front.len())?;
     }
     Ok(order)
 }
@@ -302,7 +302,7 @@ fn sorted_before<FieldIdx: Idx, VariantIdx: Idx, F: LayoutHandle<FieldIdx, Varia
 pub(crate) fn memory_order<FieldIdx: Idx, VariantIdx: Idx, F: LayoutHandle<FieldIdx, VariantIdx>>(
     alloc: Global,
     parts: &Parts<'_, FieldIdx, VariantIdx, F>,
-    repr: &ListRepr,
+    repr: &FieldsRepr,
     bias: NicheBias,
 ) -> Result<MemoryOrder<FieldIdx>, AllocError>
     requires lawful { All IsAlignedPart parts.now }
@@ -313,6 +313,6 @@ pub(crate) fn memory_order<FieldIdx: Idx, VariantIdx: Idx, F: LayoutHandle<Field
     if repr.reorderable {
         sorted_before(alloc, parts, repr, bias)
     } else {
-        MemoryOrder::source(alloc, parts.len(), parts.len())
+        MemoryOrder::in_source_order(alloc, parts.len(), parts.len())
     }
 }

@@ -3,11 +3,11 @@
 ghost use Rattle.std.specs.Prelude.{◌≡◌, ◌<◌, All, IfSome, length, map, slice_index_or};
 ghost use Rattle.abi_scalar.specs.Lawful.{IsLawfulLayout, IsLawfulNiche};
 ghost use Rattle.abi_univariant.specs.ListView.{part_at};
-ghost use Rattle.abi_univariant.specs.Order.{movable};
+ghost use Rattle.abi_univariant.specs.Order.{movable_front};
 ghost use Rattle.abi_univariant.specs.Part.{free_numbers, space_after, part_of, is_unsized, parts_of};
 ghost use Rattle.abi_univariant.specs.Placement.{IsNonEmptyIfUnsized};
 
-use crate::order::movable;
+use crate::order::movable_front;
 use abi_base::{Align, HasDataLayout, Size, StructKind, TargetDataLayout};
 use abi_index::Idx;
 use abi_scalar::{BackendRepr, LayoutData, LayoutHandle, Niche};
@@ -95,7 +95,7 @@ fn field_at<F>(fields: &[F], index: usize) -> &F
     &fields[index]
 }
 
-/// The fields of a list, as parts: each is told by its field's layout, when it is asked for.
+/// The fields of a list, as parts: each is given by its field's layout, when it is asked for.
 #[derive(Drop)]
 pub struct Parts<'a, FieldIdx: Idx, VariantIdx: Idx, F: LayoutHandle<FieldIdx, VariantIdx>> {
     dl: &'a TargetDataLayout,
@@ -151,7 +151,7 @@ impl<'a, FieldIdx: Idx, VariantIdx: Idx, F: LayoutHandle<FieldIdx, VariantIdx>> 
         part_of(self.dl, self.fields[index].layout())
     }
 
-    /// The layout of the field at an index: what it tells is there, where `at` works out the rest.
+    /// The layout of the field at an index: what it says is there, where `at` works out the rest.
     #[inline(always)]
     pub(crate) fn layout_at(&self, index: usize) -> &LayoutData<FieldIdx, VariantIdx>
         requires { index < length self.now }
@@ -164,13 +164,13 @@ impl<'a, FieldIdx: Idx, VariantIdx: Idx, F: LayoutHandle<FieldIdx, VariantIdx>> 
     }
 
     /// The parts that may move: all but a last one that may be unsized.
-    pub(crate) fn movable(&self, kind: StructKind) -> Self
+    pub(crate) fn movable_front(&self, kind: StructKind) -> Self
         requires { IsNonEmptyIfUnsized kind (length self.now) }
-        ensures { result ≡ movable kind self.now }
+        ensures { result ≡ movable_front kind self.now }
     {
         Parts {
             dl: self.dl,
-            fields: movable(kind, self.fields),
+            fields: movable_front(kind, self.fields),
             of: PhantomData,
         }
     }

@@ -3,14 +3,14 @@
 ghost use Rattle.std.specs.Prelude.{◌≡◌, ◌+◌, ◌^◌, ◌<◌, ◌⊎◌, All, IfOk, IfErr, Some, None, length, map, slice_index, IsPermutation, not, ◌&&◌};
 ghost use Rattle.abi_base.specs.DataLayout.{IsLawfulDataLayout, size_bound};
 ghost use Rattle.abi_univariant.specs.Part.{is_unsized, max_align};
-ghost use Rattle.abi_univariant.specs.Placement.{align_of, prefix_align, end_from, in_order, IsLawfulPrefix, offsets_from, source_order, start_of};
+ghost use Rattle.abi_univariant.specs.Placement.{align_of, prefix_align, end_from, in_order, IsWellFormedPrefix, offsets_from, source_order, start_of};
 ghost use Rattle.abi_univariant.specs.ListNiche.{niche_in};
 ghost use Rattle.abi_univariant.specs.Fault.{fault_from, is_maybe_unsized};
-ghost use Rattle.abi_univariant.specs.declared.placing.ListFault.TheVariants.{OutOfMemory};
+ghost use Rattle.abi_univariant.specs.declared.placing.FieldsFault.TheVariants.{OutOfMemory};
 ghost use Rattle.abi_univariant.specs.LawfulPart.{IsLawfulPart};
 
+use crate::fields_repr::{FieldsRepr, cut_to, round_up};
 use crate::list_niche::{GreatestNiche, NicheSoFar};
-use crate::list_repr::{ListRepr, cut_to, rounded};
 use crate::memory_order::MemoryOrder;
 use crate::order::NicheBias;
 use crate::part::{Parts, is_unsized};
@@ -21,7 +21,7 @@ use std::alloc::{AllocError, AllocFailed, Global};
 
 /// Why a list of fields has no layout.
 #[derive(Clone, Copy)]
-pub enum ListFault {
+pub enum FieldsFault {
     /// The field of this index is unsized, and may not be.
     Unsized(usize),
     /// A field's end, or the size, is not below the bound.
@@ -29,11 +29,11 @@ pub enum ListFault {
     OutOfMemory,
 }
 
-impl From<AllocError> for ListFault {
+impl From<AllocError> for FieldsFault {
     ghost from_gives = { λ _ fault. fault ≡ OutOfMemory };
 
     fn from(_: AllocError) -> Self {
-        ListFault::OutOfMemory
+        FieldsFault::OutOfMemory
     }
 }
 
@@ -74,7 +74,7 @@ fn prefix_align(kind: StructKind, pack: Option<Align>) -> Align
 /// The greatest alignment of the list, its prefix and its fields.
 pub(crate) fn list_align<FieldIdx: Idx, VariantIdx: Idx, F: LayoutHandle<FieldIdx, VariantIdx>>(
     parts: &Parts<'_, FieldIdx, VariantIdx, F>,
-    repr: &ListRepr,
+    repr: &FieldsRepr,
 ) -> Align
     ensures { result ≡ align_of repr.now parts.now }
 {
@@ -88,12 +88,12 @@ pub(crate) fn list_align<FieldIdx: Idx, VariantIdx: Idx, F: LayoutHandle<FieldId
 /// Where the first field may begin.
 fn list_start(kind: StructKind, pack: Option<Align>, bound: u64) -> Size
     requires bound { bound < 2 ^ 62 }
-    requires starts { IsLawfulPrefix kind bound }
+    requires starts { IsWellFormedPrefix kind bound }
     ensures value { result ≡ start_of pack kind }
     ensures small { result < bound + 2 ^ max_align }
 {
     match kind {
-        StructKind::Prefixed(size, align) => rounded(size, cut_to(align, pack)),
+        StructKind::Prefixed(size, align) => round_up(size, cut_to(align, pack)),
         _ => Size::ZERO,
     }
 }
@@ -113,11 +113,11 @@ pub(crate) fn place<FieldIdx: Idx, VariantIdx: Idx, F: LayoutHandle<FieldIdx, Va
     dl: &TargetDataLayout,
     parts: &Parts<'_, FieldIdx, VariantIdx, F>,
     order: &MemoryOrder<FieldIdx>,
-    repr: &ListRepr,
-) -> Result<Placement, ListFault>
+    repr: &FieldsRepr,
+) -> Result<Placement, FieldsFault>
     requires data_layout { IsLawfulDataLayout dl.now }
     requires lawful { All (IsLawfulPart dl.now) parts.now }
-    requires starts { IsLawfulPrefix repr.now.kind (size_bound dl.now) }
+    requires starts { IsWellFormedPrefix repr.now.kind (size_bound dl.now) }
     requires order { IsPermutation (source_order (length parts.now)) order.now }
     ensures count { IfOk result (λ placed. length placed.offsets.items ≡ length parts.now) }
     ensures offsets { IfOk result (λ placed.
@@ -144,14 +144,14 @@ pub(crate) fn place<FieldIdx: Idx, VariantIdx: Idx, F: LayoutHandle<FieldIdx, Va
         let index = order.at(at);
         let part = parts.at(index);
         if is_misplaced(repr.kind, part.view) {
-            return Err(ListFault::Unsized(index));
+            return Err(FieldsFault::Unsized(index));
         }
-        let offset = rounded(end, cut_to(part.align, repr.pack));
+        let offset = round_up(end, cut_to(part.align, repr.pack));
         let Some(next) = offset.checked_add(part.size, dl) else {
-            return Err(ListFault::TooLarge);
+            return Err(FieldsFault::TooLarge);
         };
         if is_followed(part.view, at + 1 < count) {
-            return Err(ListFault::Unsized(index));
+            return Err(FieldsFault::Unsized(index));
         }
         offsets[index] = offset;
         niche = niche.with(index, offset, part.free);
@@ -160,6 +160,6 @@ pub(crate) fn place<FieldIdx: Idx, VariantIdx: Idx, F: LayoutHandle<FieldIdx, Va
     Ok(Placement {
         offsets,
         end,
-        niche: niche.found(parts),
+        niche: niche.niches(parts),
     })
 }

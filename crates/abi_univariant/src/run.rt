@@ -3,21 +3,21 @@
 ghost use Rattle.std.specs.Prelude.{◌≡◌, ◌+◌, ◌<◌, ◌≤◌, ◌⊎◌, All, Err, IfOk, IfErr, IfSome, IsPermutation, Some, None, length, if◌then◌else◌};
 ghost use Rattle.abi_base.specs.DataLayout.{IsLawfulDataLayout, size_bound};
 ghost use Rattle.abi_scalar.specs.Lawful.{IsLawfulNiche};
-ghost use Rattle.abi_scalar.specs.Niche.{IsReadableNiche};
+ghost use Rattle.abi_scalar.specs.Niche.{IsWellFormedNiche};
 ghost use Rattle.abi_univariant.specs.Fault.{fault_in};
-ghost use Rattle.abi_univariant.specs.Placement.{IsLawfulRepr, source_order};
+ghost use Rattle.abi_univariant.specs.Placement.{IsWellFormedRepr, source_order};
 ghost use Rattle.abi_univariant.specs.ListNiche.{begins_after, niche_in, space_beside};
 ghost use Rattle.abi_univariant.specs.Order.{IsNamedOrder};
-ghost use Rattle.abi_univariant.specs.declared.placing.ListFault.TheVariants.{OutOfMemory};
+ghost use Rattle.abi_univariant.specs.declared.placing.FieldsFault.TheVariants.{OutOfMemory};
 ghost use Rattle.abi_univariant.specs.LawfulPart.{IsLawfulPart};
 ghost use Rattle.abi_univariant.specs.Run.{IsFaultOf, IsNamedLayout, IsPlacedIn, may_move};
 
+use crate::fields_repr::{FieldsRepr, round_up};
 use crate::list_niche::space_beside;
-use crate::list_repr::{ListRepr, rounded};
 use crate::memory_order::MemoryOrder;
 use crate::order::{NicheBias, memory_order};
 use crate::part::Parts;
-use crate::placing::{ListFault, Placement, list_align, place};
+use crate::placing::{FieldsFault, Placement, list_align, place};
 use abi_base::{Align, Size, StructKind, TargetDataLayout};
 use abi_index::Idx;
 use abi_scalar::{LayoutHandle, Niche};
@@ -32,7 +32,7 @@ pub struct PlacedList<FieldIdx: Idx> {
     pub order: MemoryOrder<FieldIdx>,
     pub size: Size,
     pub align: Align,
-    /// The greatest niche, told from the start of the list.
+    /// The greatest niche, counted from the start of the list.
     pub largest_niche: Option<Niche>,
     /// The last of those that are as great in this order.
     pub last_niche: Option<Niche>,
@@ -44,13 +44,13 @@ pub(crate) fn placed_in<FieldIdx: Idx, VariantIdx: Idx, F: LayoutHandle<FieldIdx
     alloc: Global,
     dl: &TargetDataLayout,
     parts: &Parts<'_, FieldIdx, VariantIdx, F>,
-    repr: &ListRepr,
+    repr: &FieldsRepr,
     bias: NicheBias,
     order: MemoryOrder<FieldIdx>,
-) -> Result<PlacedList<FieldIdx>, ListFault>
+) -> Result<PlacedList<FieldIdx>, FieldsFault>
     requires data_layout { IsLawfulDataLayout dl.now }
     requires lawful { All (IsLawfulPart dl.now) parts.now }
-    requires repr { IsLawfulRepr repr.now (length parts.now) (size_bound dl.now) }
+    requires repr { IsWellFormedRepr repr.now (length parts.now) (size_bound dl.now) }
     requires order { IsPermutation (source_order (length parts.now)) order }
     ensures same { IfOk result (λ list. list.order ≡ order) }
     ensures placed { IfOk result (λ list.
@@ -58,7 +58,7 @@ pub(crate) fn placed_in<FieldIdx: Idx, VariantIdx: Idx, F: LayoutHandle<FieldIdx
         list.largest_niche) }
     ensures last { IfOk result (λ list.
         list.last_niche ≡ niche_in dl.now repr.now NicheBias.End parts.now order) }
-    ensures readable { IfOk result (λ list. IfSome list.largest_niche (IsReadableNiche dl.now)) }
+    ensures readable { IfOk result (λ list. IfSome list.largest_niche (IsWellFormedNiche dl.now)) }
     ensures inside { IfOk result (λ list.
         IfSome list.largest_niche (IsLawfulNiche dl.now list.size)) }
     ensures fits { IfOk result (λ list. list.size < size_bound dl.now) }
@@ -71,12 +71,12 @@ pub(crate) fn placed_in<FieldIdx: Idx, VariantIdx: Idx, F: LayoutHandle<FieldIdx
         end,
         niche,
     } = place(alloc, dl, parts, &order, repr)?;
-    let largest_niche = niche.biased(bias);
-    let last_niche = niche.biased(NicheBias::End);
+    let largest_niche = niche.niche_by_bias(bias);
+    let last_niche = niche.niche_by_bias(NicheBias::End);
     let align = list_align(parts, repr);
-    let size = rounded(end, align);
+    let size = round_up(end, align);
     if size.bytes() >= dl.obj_size_bound() {
-        return Err(ListFault::TooLarge);
+        return Err(FieldsFault::TooLarge);
     }
     Ok(PlacedList {
         offsets,
@@ -94,12 +94,12 @@ fn run<FieldIdx: Idx, VariantIdx: Idx, F: LayoutHandle<FieldIdx, VariantIdx>>(
     alloc: Global,
     dl: &TargetDataLayout,
     parts: &Parts<'_, FieldIdx, VariantIdx, F>,
-    repr: &ListRepr,
+    repr: &FieldsRepr,
     bias: NicheBias,
-) -> Result<PlacedList<FieldIdx>, ListFault>
+) -> Result<PlacedList<FieldIdx>, FieldsFault>
     requires data_layout { IsLawfulDataLayout dl.now }
     requires lawful { All (IsLawfulPart dl.now) parts.now }
-    requires repr { IsLawfulRepr repr.now (length parts.now) (size_bound dl.now) }
+    requires repr { IsWellFormedRepr repr.now (length parts.now) (size_bound dl.now) }
     requires count { length parts.now ≤ FieldIdx.MAX_INDEX + 1 }
     ensures named { IfOk result (λ list. IsNamedOrder repr.now bias parts.now list.order) }
     ensures placed { IfOk result (λ list.
@@ -107,7 +107,7 @@ fn run<FieldIdx: Idx, VariantIdx: Idx, F: LayoutHandle<FieldIdx, VariantIdx>>(
         list.largest_niche) }
     ensures last { IfOk result (λ list.
         list.last_niche ≡ niche_in dl.now repr.now NicheBias.End parts.now list.order) }
-    ensures readable { IfOk result (λ list. IfSome list.largest_niche (IsReadableNiche dl.now)) }
+    ensures readable { IfOk result (λ list. IfSome list.largest_niche (IsWellFormedNiche dl.now)) }
     ensures inside { IfOk result (λ list.
         IfSome list.largest_niche (IsLawfulNiche dl.now list.size)) }
     ensures fits { IfOk result (λ list. list.size < size_bound dl.now) }
@@ -130,11 +130,11 @@ fn may_move(kind: StructKind, count: usize) -> bool
 /// How far a second order's niche has to begin from the front, if one is tried.
 fn space_wanted<FieldIdx: Idx>(
     dl: &TargetDataLayout,
-    repr: &ListRepr,
+    repr: &FieldsRepr,
     count: usize,
     first: &PlacedList<FieldIdx>,
 ) -> Option<Size>
-    requires readable { IfSome first.now.largest_niche (IsReadableNiche dl.now) }
+    requires readable { IfSome first.now.largest_niche (IsWellFormedNiche dl.now) }
     requires inside { IfSome first.now.largest_niche (IsLawfulNiche dl.now first.now.size) }
     ensures { result ≡ (if may_move repr.now.kind count then space_beside dl.now first.now.size
         first.now.largest_niche else None) }
@@ -181,11 +181,11 @@ pub(crate) fn layout_of_parts<
     alloc: Global,
     dl: &TargetDataLayout,
     parts: &Parts<'_, FieldIdx, VariantIdx, F>,
-    repr: &ListRepr,
-) -> Result<PlacedList<FieldIdx>, ListFault>
+    repr: &FieldsRepr,
+) -> Result<PlacedList<FieldIdx>, FieldsFault>
     requires data_layout { IsLawfulDataLayout dl.now }
     requires lawful { All (IsLawfulPart dl.now) parts.now }
-    requires repr { IsLawfulRepr repr.now (length parts.now) (size_bound dl.now) }
+    requires repr { IsWellFormedRepr repr.now (length parts.now) (size_bound dl.now) }
     requires count { length parts.now ≤ FieldIdx.MAX_INDEX + 1 }
     ensures named { IfOk result (λ list.
         IsNamedLayout dl.now repr.now parts.now list.order list.offsets.items list.size list.align

@@ -9,7 +9,7 @@ ghost use Rattle.abi_scalar.specs.View.{union_view};
 ghost use Rattle.abi_univariant.specs.Union.{CountsForView, HasView, IsAlignedFor, IsCommonView, IsUnionAnswer, IsUnionView, KnowsScalarsOf, first_unsized, raised_to, unraised_align, union_align};
 
 use crate::fields::{greatest_align, greatest_repr_align, greatest_size, lies_as_in_c, seed_with};
-use crate::list_repr::{cut_to, own_align};
+use crate::fields_repr::{cut_to, own_align};
 use abi_base::{AbiAlign, Align, HasDataLayout, TargetDataLayout};
 use abi_index::Idx;
 use abi_scalar::{

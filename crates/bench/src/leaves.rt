@@ -4,7 +4,7 @@ ghost use Rattle.std.specs.Prelude.{◌≡◌, ◌≤◌, ◌<◌, ◌∷◌, []
 ghost use Rattle.abi_base.specs.declared.data_layout.TargetDataLayout.{TargetDataLayout};
 ghost use Rattle.abi_base.specs.Integer.{integer_size};
 ghost use Rattle.abi_scalar.specs.Range.{numbers_of};
-ghost use Rattle.abi_scalar.specs.Scalar.{IsReadable};
+ghost use Rattle.abi_scalar.specs.Scalar.{IsWellFormed};
 
 use crate::numbers::Numbers;
 use abi_base::{Integer, Primitive, TargetDataLayout};
@@ -29,7 +29,7 @@ pub(crate) fn size_of(answer: Result<Laid, LayoutCalculatorError<&Laid>>) -> u64
 /// The unsigned integers up to this one.
 fn up_to(integer: Integer, greatest: u128) -> Scalar
     requires { greatest < numbers_of (integer_size integer) }
-    ensures { (dl : TargetDataLayout) → IsReadable dl result }
+    ensures { (dl : TargetDataLayout) → IsWellFormed dl result }
 {
     Scalar::Initialized {
         value: Primitive::Int(integer, false),
@@ -42,7 +42,7 @@ fn up_to(integer: Integer, greatest: u128) -> Scalar
 
 /// `u8`, `bool`, `u16` and `char`, by their places; `u64` from 4 on.
 pub(crate) fn scalar(place: u64) -> Scalar
-    ensures { (dl : TargetDataLayout) → IsReadable dl result }
+    ensures { (dl : TargetDataLayout) → IsWellFormed dl result }
 {
     match place {
         0 => up_to(Integer::I8, 0xFF),

@@ -5,7 +5,7 @@ ghost use Rattle.std.specs.Prelude.{◌≤◌, All, IfOk, IsTrue, length};
 ghost use Rattle.abi_base.specs.DataLayout.{IsLawfulDataLayout, size_bound};
 ghost use Rattle.abi_scalar.specs.Lawful.{IsLawfulLayout};
 ghost use Rattle.abi_univariant.specs.List.{HasLawfulAligns};
-ghost use Rattle.abi_univariant.specs.Placement.{IsLawfulPrefix, IsNonEmptyIfUnsized};
+ghost use Rattle.abi_univariant.specs.Placement.{IsWellFormedPrefix, IsNonEmptyIfUnsized};
 
 use crate::command::Command;
 use crate::in_order::univariant_in_order;
@@ -61,9 +61,9 @@ pub(crate) fn list_repr(command: &mut Command) -> ListRepr {
 }
 
 /// Whether the prefix, if there is one, ends below the bound and is aligned within the limit.
-fn is_lawful_prefix(dl: &TargetDataLayout, kind: &StructKind) -> bool
+fn is_well_formed_prefix(dl: &TargetDataLayout, kind: &StructKind) -> bool
     requires { IsLawfulDataLayout dl.now }
-    ensures { IsTrue result → IsLawfulPrefix kind.now (size_bound dl.now) }
+    ensures { IsTrue result → IsWellFormedPrefix kind.now (size_bound dl.now) }
 {
     match kind {
         StructKind::Prefixed(size, align) => {
@@ -96,7 +96,7 @@ fn check_list(dl: &TargetDataLayout, fields: &[&Layout], asked: &ListRepr) -> Re
     ensures count { IfOk result (λ _. length fields.now ≤ 1_000_000) }
     ensures fields { IfOk result (λ _. All (λ f. IsLawfulLayout dl.now f.now) fields.now) }
     ensures repr { IfOk result (λ _. HasLawfulAligns asked.now.repr) }
-    ensures prefix { IfOk result (λ _. IsLawfulPrefix asked.now.kind (size_bound dl.now)) }
+    ensures prefix { IfOk result (λ _. IsWellFormedPrefix asked.now.kind (size_bound dl.now)) }
     ensures tail { IfOk result (λ _. IsNonEmptyIfUnsized asked.now.kind (length fields.now)) }
 {
     if fields.len() > MOST_ITEMS {
@@ -108,7 +108,7 @@ fn check_list(dl: &TargetDataLayout, fields: &[&Layout], asked: &ListRepr) -> Re
     if !has_lawful_aligns(&asked.repr) {
         return Err(Stop::Asks(Clause::Repr));
     }
-    if !is_lawful_prefix(dl, &asked.kind) {
+    if !is_well_formed_prefix(dl, &asked.kind) {
         return Err(Stop::Asks(Clause::Prefix));
     }
     if !has_tail(&asked.kind, fields.len()) {

@@ -2,9 +2,9 @@
 
 ghost use Rattle.std.specs.Prelude.{◌≤◌, ◌<◌, All, IfSome, IsTrue};
 ghost use Rattle.abi_base.specs.Primitive.{KnowsPrimitive};
-ghost use Rattle.abi_scalar.specs.Niche.{IsReadableNiche};
+ghost use Rattle.abi_scalar.specs.Niche.{IsWellFormedNiche};
 ghost use Rattle.abi_scalar.specs.Range.{AreWithin, numbers_of};
-ghost use Rattle.abi_scalar.specs.Scalar.{IsReadable};
+ghost use Rattle.abi_scalar.specs.Scalar.{IsWellFormed};
 
 use crate::command::Command;
 use crate::print::{write_niche, write_range};
@@ -115,7 +115,7 @@ fn knows(dl: &TargetDataLayout, value: Primitive) -> bool
 
 /// Whether the data layout knows the scalar's primitive, and its ends are numbers of its width.
 fn is_readable(dl: &TargetDataLayout, scalar: Scalar) -> bool
-    ensures { IsTrue result → IsReadable dl.now scalar }
+    ensures { IsTrue result → IsWellFormed dl.now scalar }
 {
     if !knows(dl, scalar.primitive()) {
         return false;
@@ -138,7 +138,7 @@ fn is_readable(dl: &TargetDataLayout, scalar: Scalar) -> bool
 
 /// The niche of a scalar at the start, whatever it has free. None where it can't be read.
 fn niche(dl: &TargetDataLayout, scalar: Scalar) -> Option<Niche>
-    ensures { IfSome result (IsReadableNiche dl.now) }
+    ensures { IfSome result (IsWellFormedNiche dl.now) }
 {
     match scalar {
         Scalar::Initialized { value, valid_range } if is_readable(dl, scalar) => Some(Niche {

@@ -5,7 +5,7 @@ use Rattle.abi_scalar.specs.declared.fields_shape.FieldsShape.TheVariants.{Array
 use Rattle.abi_scalar.specs.Shape.{field_count}
 use Rattle.abi_types.specs.declared.ty.interface.TyAndLayout.{TyAndLayout}
 use Rattle.abi_types.specs.Ty.Typed.{Marks, Typed, typed, no_type, no_marks, layout_in}
-use Rattle.abi_types.specs.Ty.Lawful.{IsLawfulType}
+use Rattle.abi_types.specs.Ty.Lawful.{IsWellFormedType}
 use Rattle.listed_types.specs.declared.nodes.Marked.{Marked}
 use Rattle.listed_types.specs.declared.nodes.Node.{Node}
 use Rattle.listed_types.specs.declared.nodes.Part.{Part}
@@ -51,6 +51,6 @@ abbrev pub part_depth : TyAndLayout Part → ℕ
 part_depth this = this.ty.depth
 
 -- The layout beside a type is its own, and the type keeps the laws.
-pub record IsLawfulHandle (this : TyAndLayout Part) : Type 0 where
+pub record IsWellFormedHandle (this : TyAndLayout Part) : Type 0 where
   pub layout : layout_in (part_type this) ≡ this.layout.0.now
-  pub lawful : IsLawfulType (part_type this)
+  pub lawful : IsWellFormedType (part_type this)

@@ -5,8 +5,8 @@ ghost use Rattle.std.specs.Prelude.{◌≡◌, ℕ, ◌+◌, ◌<◌, ◌≤◌,
 ghost use Rattle.abi_scalar.specs.Shape.{field_count, field_offset};
 ghost use Rattle.abi_scalar.specs.Variant.{variants_of};
 ghost use Rattle.abi_types.specs.Ty.Typed.{at_variant, field_in, layout_in, marks_of};
-ghost use Rattle.abi_types.specs.Ty.Lawful.{CanBeNamed, DepthFalls, IsLawfulType, NamesVariant};
-ghost use Rattle.listed_types.specs.Nodes.{HasParts, IsLawfulHandle, marks_of_marked, part_depth, part_type, place_at, place_by, typed_in};
+ghost use Rattle.abi_types.specs.Ty.Lawful.{CanBeNamed, DepthFalls, IsWellFormedType, NamesVariant};
+ghost use Rattle.listed_types.specs.Nodes.{HasParts, IsWellFormedHandle, marks_of_marked, part_depth, part_type, place_at, place_by, typed_in};
 
 use abi_base::{PointeeInfo, Size};
 use abi_index::{FieldIdx, VariantIdx};
@@ -91,8 +91,8 @@ fn size_in(nodes: &[Node], depth: u64, at: usize) -> u64
 
 /// The type at a place, beside its layout.
 pub fn part_of(nodes: &[Node], depth: u64, at: usize) -> TyAndLayout<'_, Part<'_>>
-    requires { IsLawfulType (typed_in nodes.now depth at) }
-    ensures part { IsLawfulHandle result }
+    requires { IsWellFormedType (typed_in nodes.now depth at) }
+    ensures part { IsWellFormedHandle result }
     ensures told { part_type result ≡ typed_in nodes.now depth at }
     ensures depth { part_depth result ≡ depth }
 {
@@ -104,7 +104,7 @@ pub fn part_of(nodes: &[Node], depth: u64, at: usize) -> TyAndLayout<'_, Part<'_
 
 /// What the type says of itself.
 fn marked_in(this: TyAndLayout<'_, Part<'_>>) -> Marked
-    requires { IsLawfulHandle this }
+    requires { IsWellFormedHandle this }
     ensures { marks_of (part_type this.entry) ≡ marks_of_marked result }
 {
     this.ty.nodes[this.ty.at].marked
@@ -168,7 +168,7 @@ fn offset_of(node: &Node, i: usize) -> Option<u64>
 /// Whether a field lies inside, and keeps the laws.
 #[cycle(laws)]
 fn field_keeps_laws(nodes: &[Node], depth: u64, node: &Node, i: usize) -> bool
-    ensures kept { IsTrue result → IsLawfulType
+    ensures kept { IsTrue result → IsWellFormedType
         (typed_in nodes.now depth (place_by node.now.layout.fields node.now.fields i)) }
     ensures inside { let place = place_by node.now.layout.fields node.now.fields i in
         IsTrue result → field_offset node.now.layout.fields i
@@ -190,7 +190,7 @@ fn field_keeps_laws(nodes: &[Node], depth: u64, node: &Node, i: usize) -> bool
 #[cycle(laws)]
 fn variant_keeps_laws(nodes: &[Node], depth: u64, node: &Node, i: usize) -> bool
     ensures kept { IsTrue result →
-        IsLawfulType (typed_in nodes.now depth (place_at node.now.variants i)) }
+        IsWellFormedType (typed_in nodes.now depth (place_at node.now.variants i)) }
     ensures inside { IsTrue result →
         (layout_in (typed_in nodes.now depth (place_at node.now.variants i))).size
         ≤ node.now.layout.size }
@@ -202,7 +202,7 @@ fn variant_keeps_laws(nodes: &[Node], depth: u64, node: &Node, i: usize) -> bool
 /// Whether the type at the place keeps the laws.
 #[cycle(laws)]
 pub fn keeps_laws(nodes: &[Node], depth: u64, at: usize) -> bool
-    ensures { IsTrue result → IsLawfulType (typed_in nodes.now depth at) }
+    ensures { IsTrue result → IsWellFormedType (typed_in nodes.now depth at) }
 {
     if depth == 0 || at >= nodes.len() {
         return false;
@@ -229,9 +229,9 @@ impl<'a, C> TyAbiInterface<'a, C> for Part<'a> {
     ghost use Rattle.abi_scalar.specs.Shape.{field_count};
     ghost use Rattle.abi_types.specs.Ty.Typed.{at_variant, field_in, layout_in, marks_of};
     ghost use Rattle.abi_types.specs.Ty.Lawful.{DepthFalls, NamesVariant};
-    ghost use Rattle.listed_types.specs.Nodes.{IsLawfulHandle, part_depth, part_type};
+    ghost use Rattle.listed_types.specs.Nodes.{IsWellFormedHandle, part_depth, part_type};
 
-    ghost is_valid = { IsLawfulHandle };
+    ghost is_valid = { IsWellFormedHandle };
 
     ghost depth_of = { part_depth };
 
@@ -246,9 +246,9 @@ impl<'a, C> TyAbiInterface<'a, C> for Part<'a> {
         _cx: &C,
         variant_index: VariantIdx,
     ) -> TyAndLayout<'a, Part<'a>>
-        requires valid { IsLawfulHandle this }
+        requires valid { IsWellFormedHandle this }
         requires named { NamesVariant (layout_in (part_type this)).variants variant_index }
-        ensures valid { IsLawfulHandle result }
+        ensures valid { IsWellFormedHandle result }
         ensures variant { part_type result ≡ at_variant (part_type this.entry) variant_index }
         ensures falls { DepthFalls (layout_in (part_type this.entry)).variants (part_depth result)
             (part_depth this.entry) }
@@ -274,9 +274,9 @@ impl<'a, C> TyAbiInterface<'a, C> for Part<'a> {
         _cx: &C,
         i: usize,
     ) -> TyAndLayout<'a, Part<'a>>
-        requires valid { IsLawfulHandle this }
+        requires valid { IsWellFormedHandle this }
         requires within { i < field_count (layout_in (part_type this)).fields }
-        ensures valid { IsLawfulHandle result }
+        ensures valid { IsWellFormedHandle result }
         ensures field { part_type result ≡ field_in (part_type this.entry) i }
         ensures falls { part_depth result < part_depth this.entry }
     {
@@ -290,77 +290,77 @@ impl<'a, C> TyAbiInterface<'a, C> for Part<'a> {
         _cx: &C,
         _offset: Size,
     ) -> Option<PointeeInfo>
-        requires { IsLawfulHandle this }
+        requires { IsWellFormedHandle this }
         ensures { result ≡ (marks_of (part_type this.entry)).pointee _offset }
     {
         None
     }
 
     fn is_adt(this: TyAndLayout<'a, Part<'a>>) -> bool
-        requires { IsLawfulHandle this }
+        requires { IsWellFormedHandle this }
         ensures { result ≡ (marks_of (part_type this.entry)).is_adt }
     {
         false
     }
 
     fn is_enum(this: TyAndLayout<'a, Part<'a>>) -> bool
-        requires { IsLawfulHandle this }
+        requires { IsWellFormedHandle this }
         ensures { result ≡ (marks_of (part_type this.entry)).is_enum }
     {
         false
     }
 
     fn is_never(this: TyAndLayout<'a, Part<'a>>) -> bool
-        requires { IsLawfulHandle this }
+        requires { IsWellFormedHandle this }
         ensures { result ≡ (marks_of (part_type this.entry)).is_never }
     {
         false
     }
 
     fn is_tuple(this: TyAndLayout<'a, Part<'a>>) -> bool
-        requires { IsLawfulHandle this }
+        requires { IsWellFormedHandle this }
         ensures { result ≡ (marks_of (part_type this.entry)).is_tuple }
     {
         false
     }
 
     fn is_unit(this: TyAndLayout<'a, Part<'a>>) -> bool
-        requires { IsLawfulHandle this }
+        requires { IsWellFormedHandle this }
         ensures { result ≡ (marks_of (part_type this.entry)).is_unit }
     {
         false
     }
 
     fn is_transparent(this: TyAndLayout<'a, Part<'a>>) -> bool
-        requires { IsLawfulHandle this }
+        requires { IsWellFormedHandle this }
         ensures { result ≡ (marks_of (part_type this.entry)).is_transparent }
     {
         marked_in(this).transparent
     }
 
     fn is_complex_number_lang_item(this: TyAndLayout<'a, Part<'a>>, _cx: &C) -> bool
-        requires { IsLawfulHandle this }
+        requires { IsWellFormedHandle this }
         ensures { result ≡ (marks_of (part_type this.entry)).is_complex }
     {
         marked_in(this).complex
     }
 
     fn is_scalable_vector(this: TyAndLayout<'a, Part<'a>>) -> bool
-        requires { IsLawfulHandle this }
+        requires { IsWellFormedHandle this }
         ensures { result ≡ (marks_of (part_type this.entry)).is_scalable_vector }
     {
         false
     }
 
     fn is_pass_indirectly_in_non_rustic_abis_flag_set(this: TyAndLayout<'a, Part<'a>>) -> bool
-        requires { IsLawfulHandle this }
+        requires { IsWellFormedHandle this }
         ensures { result ≡ (marks_of (part_type this.entry)).is_passed_indirectly }
     {
         marked_in(this).indirect
     }
 
     fn depth(this: TyAndLayout<'a, Part<'a>>) -> u64
-        requires { IsLawfulHandle this }
+        requires { IsWellFormedHandle this }
         ensures { result ≡ part_depth this.entry }
     {
         this.ty.depth

@@ -15,20 +15,20 @@ use Rattle.abi_scalar.specs.declared.variants.VariantLayout.{VariantLayout}
 use Rattle.abi_scalar.specs.Repr.{has_fixed_order}
 use Rattle.abi_univariant.specs.Fields.{greatest}
 use Rattle.abi_univariant.specs.Placement.{own_align, prefix_align, start_of}
-use Rattle.abi_calc.specs.declared.enums.path.Path.{Path}
+use Rattle.abi_calc.specs.declared.enums.strategy.EnumStrategy.{EnumStrategy}
 use Rattle.abi_calc.specs.Enums.Answer.{IsTypeAnswer}
 use Rattle.abi_calc.specs.Enums.Discriminants.{IsAskedWith, meant_by}
 use Rattle.abi_calc.specs.Enums.Lists.{behind_tag}
-use Rattle.abi_calc.specs.Enums.Path.{is_free}
-use Rattle.abi_calc.specs.Enums.Tagged.{layout_seen_as, lists_size}
+use Rattle.abi_calc.specs.Enums.EnumStrategy.{is_free}
+use Rattle.abi_calc.specs.Enums.Tagged.{layout_with_view, lists_size}
 use Rattle.abi_tree.specs.declared.mark.Mark.{Mark}
 use Rattle.abi_tree.specs.Mark.{mark_of}
 use Rattle.abi_tree.specs.Placed.{Placed, layout_of}
 use Rattle.abi_scalar.specs.Layout.{Layout}
 use Rattle.abi_tree.specs.Tree.{Tree, Trees, no_trees, more_trees, Variants, no_variants, more_variants, struct, enum}
 use Rattle.rustc_abi.specs.declared.error.LayError.{LayError}
-use Rattle.rustc_abi.specs.Enums.{IsEnumed, IsTagIntegerAnswer as IsAsking, arms_at, counted, discriminants_of, layouts_of, numbered_from, tag_integer}
-use Rattle.rustc_abi.specs.Everywhere.{OfArms, Within}
+use Rattle.rustc_abi.specs.Enums.{IsEnumed, IsTagIntegerAnswer as IsAsking, tagged_variants_at, counted, discriminants_of, layouts_of, numbered_from, tag_integer}
+use Rattle.rustc_abi.specs.Everywhere.{OfTaggedVariants, Within}
 use Rattle.rustc_abi.specs.Laying.{AreLaying, IsLaying, VariantsLaying, enum_fault, placed_enum}
 use Rattle.reference.specs.Words.{align_in_bytes, extent_of, most_aligned}
 use Rattle.reference.specs.Modifiers.{IsForeign, unaligned}
@@ -146,8 +146,8 @@ module _ (dl : TargetDataLayout) where
       absurd (let none : more_variants d ts rest ≡ no_variants = none_left dl (more_variants d ts rest) there in cc)
   behind_by repr d ts rest (v ∷ vs) layout p asked there h is =
       let numbers = discriminants_of (more_variants d ts rest) in
-      let answer = subst (λ (path : Path). IsTypeAnswer layout_of (λ i. i) (λ i. i) (λ i. i) (λ i. i) dl repr (v ∷ vs) true true Enabled (IsAsking dl repr)
-      (λ items. items ≡ numbered_from 0 numbers) path (Ok layout)) (is_several repr v vs asked) h in
+      let answer = subst (λ (strategy : EnumStrategy). IsTypeAnswer layout_of (λ i. i) (λ i. i) (λ i. i) (λ i. i) dl repr (v ∷ vs) true true Enabled (IsAsking dl repr)
+      (λ items. items ≡ numbered_from 0 numbers) strategy (Ok layout)) (is_several repr v vs asked) h in
       record {
         first = v;
         others = vs;
@@ -195,7 +195,7 @@ module _ (dl : TargetDataLayout) where
 
   pub same_variants : (whole : Layout) (mark : Mark) (i : ℕ) (all : Variants) (variants others : List (List Placed)) (layouts : List (VariantLayout ℕ))
       → HaveCounts layouts variants → VariantsLaying dl all (Ok variants)
-      → OfArms dl (IsOnly dl) all (arms_at whole mark i layouts (discriminants_of all) variants) → VariantsLaying dl all (Ok others) → others ≡ variants
+      → OfTaggedVariants dl (IsOnly dl) all (tagged_variants_at whole mark i layouts (discriminants_of all) variants) → VariantsLaying dl all (Ok others) → others ≡ variants
   same_variants whole mark i no_variants variants others layouts lie are h k = inj-variants others variants (k ∙ sym are)
   same_variants whole mark i (more_variants d ts rest) variants others layouts lie (inl f) h k = absurd (cc f.2)
   same_variants whole mark i (more_variants d ts rest) variants others layouts lie (inr (ps, here, inl f)) h k = absurd (cc f.2)
@@ -219,7 +219,7 @@ module _ (dl : TargetDataLayout) where
       let b = h.behind in
       let from : ℕ = start_of repr.pack (behind_tag dl repr b.asked (layouts_of variants)) in
       let whole : Layout =
-      layout_seen_as 0 dl repr (integer_size b.asked) (Initialized (Int b.asked b.signed) b.range) (integer_size b.asked) b.lists b.view in
+      layout_with_view 0 dl repr (integer_size b.asked) (Initialized (Int b.asked b.signed) b.range) (integer_size b.asked) b.lists b.view in
       let own : Within dl (IsOnly dl) (enum repr all) (placed_enum dl repr (discriminants_of all) variants h.layout) =
       subst (Within dl (IsOnly dl) (enum repr all)) (sym h.is) inside in
       let lie : LieFrom from (layouts repr all p fixed h) variants =

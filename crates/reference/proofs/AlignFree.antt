@@ -30,20 +30,20 @@ use Rattle.abi_scalar.specs.Simple.{never_layout}
 use Rattle.abi_scalar.specs.Variant.{variant_of}
 use Rattle.abi_univariant.specs.declared.part.Part.{Part}
 use Rattle.abi_univariant.specs.Fields.{greatest}
-use Rattle.abi_univariant.specs.List.{IsListAnswer}
+use Rattle.abi_univariant.specs.List.{IsUnivariantAnswer}
 use Rattle.abi_univariant.specs.Part.{parts_of as asked_of}
-use Rattle.abi_univariant.specs.Placement.{align_of as list_align, cut, list_repr, prefix_align}
+use Rattle.abi_univariant.specs.Placement.{align_of as list_align, cut, fields_repr, prefix_align}
 use Rattle.abi_calc.specs.declared.enums.niche.Room.{Room}
-use Rattle.abi_calc.specs.declared.enums.path.Path.{Path}
-use Rattle.abi_calc.specs.declared.enums.path.Path.TheVariants.{NoValue, OneList, Several}
+use Rattle.abi_calc.specs.declared.enums.strategy.EnumStrategy.{EnumStrategy}
+use Rattle.abi_calc.specs.declared.enums.strategy.EnumStrategy.TheVariants.{NoValue, OneList, Several}
 use Rattle.abi_calc.specs.Enums.Answer.{IsTypeAnswer}
 use Rattle.abi_calc.specs.Enums.Choice.{IsNicheAnswer}
-use Rattle.abi_calc.specs.Enums.Discriminants.{counting_of, counts, meant_by}
+use Rattle.abi_calc.specs.Enums.Discriminants.{counted_discriminants, counts, meant_by}
 use Rattle.abi_calc.specs.Enums.Growth.{grown_tag, grown_variant, moved, start_align}
 use Rattle.abi_calc.specs.Enums.Lists.{AreListLayouts, align_with_all, behind_tag}
 use Rattle.abi_calc.specs.Enums.Niche.{beside_niche, moved_on, needing_numbers, place_after, room_beside, span_of, untagged_of, variants_from, with_first, without_niche}
-use Rattle.abi_calc.specs.Enums.Path.{is_free, path_of, variant_at}
-use Rattle.abi_calc.specs.Enums.Payload.{seen_as, tagged_view}
+use Rattle.abi_calc.specs.Enums.EnumStrategy.{is_free, strategy_of, variant_at}
+use Rattle.abi_calc.specs.Enums.Payload.{variant_with_view, tagged_view}
 use Rattle.abi_calc.specs.Enums.Several.{IsAskedAnswer, IsAskedFor, IsSeveralAnswer}
 use Rattle.abi_calc.specs.Enums.Tagged.{lists_align, lists_size, payloads_of}
 use Rattle.abi_tree.specs.Mark.{mark_of}
@@ -73,11 +73,11 @@ ListCounts (l ∷ lists) (ps ∷ variants) = (length (listed_offsets l.fields) �
 ListCounts _ _ = ⊥
 
 module _ (dl : TargetDataLayout) (repr : ReprOptions) where
-  pub list_count : (kind : StructKind) (ps : List Placed) (l : Layout) → IsListAnswer layout_of (λ i. i) 0 dl repr kind ps (Ok l) → length (listed_offsets l.fields) ≡ length ps
+  pub list_count : (kind : StructKind) (ps : List Placed) (l : Layout) → IsUnivariantAnswer layout_of (λ i. i) 0 dl repr kind ps (Ok l) → length (listed_offsets l.fields) ≡ length ps
   list_count kind ps l (order, offsets, h) =
       let parts : List Part = asked_of dl (map layout_of ps) in
       ap length (ap listed_offsets h.shape)
-      ∙ run_has dl (list_repr dl repr kind) parts h.named.0 order offsets l.size l.align.abi l.largest_niche (length offsets ≡ length parts) (λ bias own. own.count) h.named.3
+      ∙ run_has dl (fields_repr dl repr kind) parts h.named.0 order offsets l.size l.align.abi l.largest_niche (length offsets ≡ length parts) (λ bias own. own.count) h.named.3
       ∙ asked_count dl ps
 
   lists_count : (kind : StructKind) (variants : List (List Placed)) (lists : List Layout) → AreListLayouts layout_of (λ i. i) 0 dl repr kind variants lists → ListCounts lists variants
@@ -87,12 +87,12 @@ module _ (dl : TargetDataLayout) (repr : ReprOptions) where
   lists_count kind (ps ∷ variants) (l ∷ lists) h = (list_count kind ps l h.0, lists_count kind variants lists h.1)
 
   list_most : (kind : StructKind) (ps : List Placed) (l : Layout) → repr.pack ≡ None → prefix_align repr.pack kind ≡ 0
-      → IsListAnswer layout_of (λ i. i) 0 dl repr kind ps (Ok l) → 2 ^ l.align.abi ≡ max (2 ^ least_align dl repr) (most_aligned (map extent_of ps))
+      → IsUnivariantAnswer layout_of (λ i. i) 0 dl repr kind ps (Ok l) → 2 ^ l.align.abi ≡ max (2 ^ least_align dl repr) (most_aligned (map extent_of ps))
   list_most kind ps l loose prefix (order, offsets, h) =
       let parts : List Part = asked_of dl (map layout_of ps) in
-      let high : l.align.abi ≡ list_align (list_repr dl repr kind) parts =
-      run_has dl (list_repr dl repr kind) parts h.named.0 order offsets l.size l.align.abi l.largest_niche
-      (l.align.abi ≡ list_align (list_repr dl repr kind) parts) (λ bias own. own.alignment) h.named.3 in
+      let high : l.align.abi ≡ list_align (fields_repr dl repr kind) parts =
+      run_has dl (fields_repr dl repr kind) parts h.named.0 order offsets l.size l.align.abi l.largest_niche
+      (l.align.abi ≡ list_align (fields_repr dl repr kind) parts) (λ bias own. own.alignment) h.named.3 in
       let begin : ℕ = least_align dl repr in
       let least : max begin (prefix_align repr.pack kind) ≡ begin = ap (max begin) prefix ∙ omega arith in
       ap (λ a. 2 ^ a) high ∙ align_same dl repr.pack (max begin (prefix_align repr.pack kind)) ps
@@ -121,7 +121,7 @@ grown_long true v w e = e
 grown_long false v w e = refl
 
 tagged_counts : (old new : ℕ) (view : BackendRepr) (size : ℕ) (lists : List Layout) (variants : List (List Placed)) → ListCounts lists variants
-    → HaveCounts (map (λ list. seen_as view size (grown_variant old new (variant_of list))) lists) variants
+    → HaveCounts (map (λ list. variant_with_view view size (grown_variant old new (variant_of list))) lists) variants
 tagged_counts old new view size [] [] h = tt
 tagged_counts old new view size [] (ps ∷ variants) h = absurd h
 tagged_counts old new view size (l ∷ lists) [] h = absurd h
@@ -214,10 +214,10 @@ module _ (dl : TargetDataLayout) (law : IsLawfulDataLayout dl) (repr : ReprOptio
   unnamed = no_name repr.int (free_by (is_c repr) (is_some repr.int) free).1
 
   asked_small : (layouts : List (List Layout)) (numbers : List ℕ) (items : List (ℕ × ℕ)) (asked : Integer) (signed : Bool) → All (λ d. d < 256) numbers → items ≡ numbered_from 0 numbers
-      → IsAskedFor dl repr (IsAsking dl repr) (counting_of (λ v. v) repr layouts items) asked signed → integer_size asked ≤ 1
+      → IsAskedFor dl repr (IsAsking dl repr) (counted_discriminants (λ v. v) repr layouts items) asked signed → integer_size asked ≤ 1
   asked_small layouts numbers items asked signed small are (least, greatest, with, is) =
       let test = counts (λ (v : ℕ). v) repr layouts in
-      let values : List ℕ = counting_of (λ v. v) repr layouts items in
+      let values : List ℕ = counted_discriminants (λ v. v) repr layouts items in
       let each : All (λ d. d < 256) values =
       All-map (λ d. d < 256) (λ (item : ℕ × ℕ). item.1) (filter test items)
       (All-filter test (λ item. item.1 < 256) items (subst (All (λ (item : ℕ × ℕ). item.1 < 256)) (sym are) (all_numbered (λ d. d < 256) 0 numbers small))) in
@@ -270,7 +270,7 @@ module _ (dl : TargetDataLayout) (law : IsLawfulDataLayout dl) (repr : ReprOptio
         (span_of (needing_numbers (untagged_of lists) (layouts_of (v ∷ vs)))) n (sym e ∙ is)
 
     tagged_most : (items : List (ℕ × ℕ)) (l : Layout) → repr.pack ≡ None → items ≡ numbered_from 0 numbers
-        → IsAskedAnswer layout_of (λ i. i) (λ i. i) 0 dl repr (IsAsking dl repr) (counting_of (λ v. v) repr (layouts_of (v ∷ vs)) items) (v ∷ vs) (Ok l) → IsMost (v ∷ vs) l
+        → IsAskedAnswer layout_of (λ i. i) (λ i. i) 0 dl repr (IsAsking dl repr) (counted_discriminants (λ v. v) repr (layouts_of (v ∷ vs)) items) (v ∷ vs) (Ok l) → IsMost (v ∷ vs) l
     tagged_most items l loose same (asked, signed, for, (lists, are, by)) =
         let narrow : integer_size asked ≤ 1 = asked_small (layouts_of (v ∷ vs)) numbers items asked signed small same for in
         let kind : StructKind = behind_tag dl repr asked (layouts_of (v ∷ vs)) in
@@ -297,17 +297,17 @@ module _ (dl : TargetDataLayout) (law : IsLawfulDataLayout dl) (repr : ReprOptio
 
   -- ---- of each way in which such an enum is laid out
 
-  abbrev IsAlignedOn : Path → List (List Placed) → ℕ → Type 0
+  abbrev IsAlignedOn : EnumStrategy → List (List Placed) → ℕ → Type 0
   IsAlignedOn NoValue variants align = ⊤
   IsAlignedOn (OneList i) variants align = align ≡ max (2 ^ least_align dl repr) (most_aligned (map extent_of (variant_at variants i)))
   IsAlignedOn Several variants align = align ≡ max (2 ^ dl.aggregate_align) (max (2 ^ least_align dl repr) (most_of variants))
 
-  abbrev IsAnswerOn : List ℕ → Path → List (List Placed) → Layout → Type 0
-  IsAnswerOn numbers path variants layout =
-      IsTypeAnswer layout_of (λ i. i) (λ i. i) (λ i. i) (λ i. i) dl repr variants true true Enabled (IsAsking dl repr) (λ items. items ≡ numbered_from 0 numbers) path (Ok layout)
+  abbrev IsAnswerOn : List ℕ → EnumStrategy → List (List Placed) → Layout → Type 0
+  IsAnswerOn numbers strategy variants layout =
+      IsTypeAnswer layout_of (λ i. i) (λ i. i) (λ i. i) (λ i. i) dl repr variants true true Enabled (IsAsking dl repr) (λ items. items ≡ numbered_from 0 numbers) strategy (Ok layout)
 
-  on_path : (numbers : List ℕ) → All (λ d. d < 256) numbers → repr.pack ≡ None → (path : Path) (v : List Placed) (vs : List (List Placed)) (layout : Layout)
-      → IsAnswerOn numbers path (v ∷ vs) layout → IsAlignedOn path (v ∷ vs) (2 ^ layout.align.abi) × CountsIn layout layout.variants (v ∷ vs)
+  on_path : (numbers : List ℕ) → All (λ d. d < 256) numbers → repr.pack ≡ None → (strategy : EnumStrategy) (v : List Placed) (vs : List (List Placed)) (layout : Layout)
+      → IsAnswerOn numbers strategy (v ∷ vs) layout → IsAlignedOn strategy (v ∷ vs) (2 ^ layout.align.abi) × CountsIn layout layout.variants (v ∷ vs)
   on_path numbers small loose NoValue v vs layout e =
       (tt, subst (λ (l : Layout). CountsIn l l.variants (v ∷ vs)) (sym (inj-answer layout (never_layout dl) e)) tt)
   on_path numbers small loose (OneList i) v vs layout e =
@@ -398,8 +398,8 @@ module _ (dl : TargetDataLayout) (law : IsLawfulDataLayout dl) (repr : ReprOptio
   some : 0 < 2 ^ dl.aggregate_align
   some = pow_pos dl.aggregate_align
 
-  by_way : (path : Path) (v : List Placed) (vs : List (List Placed)) (layout lower : Layout) → IsAnswerOn dl law repr free numbers path (v ∷ vs) layout
-      → IsAnswerOn dl law (unaligned repr) free numbers path (v ∷ vs) lower → HasVariant (placed_enum dl repr numbers (v ∷ vs) layout)
+  by_way : (strategy : EnumStrategy) (v : List Placed) (vs : List (List Placed)) (layout lower : Layout) → IsAnswerOn dl law repr free numbers strategy (v ∷ vs) layout
+      → IsAnswerOn dl law (unaligned repr) free numbers strategy (v ∷ vs) lower → HasVariant (placed_enum dl repr numbers (v ∷ vs) layout)
       → 2 ^ layout.align.abi ≡ max (max (2 ^ dl.aggregate_align) (2 ^ n)) (2 ^ lower.align.abi)
   by_way NoValue v vs layout lower h k left =
       absurd (subst (λ l. HasVariant (placed_enum dl repr numbers (v ∷ vs) l)) (inj-answer layout (never_layout dl) h) left)
@@ -444,10 +444,10 @@ module _ (dl : TargetDataLayout) (law : IsLawfulDataLayout dl) (repr : ReprOptio
       go [] others layout lower there here h k left inner =
           absurd (subst (λ l. HasVariant (placed_enum dl repr numbers [] l)) (none_by dl repr numbers layout h) left)
       go (v ∷ vs) others layout lower there here h k left inner =
-          let path : Path = path_of true repr (layouts_of (v ∷ vs)) in
-          let counts : CountsIn dl law repr free layout layout.variants (v ∷ vs) = (on_path dl law repr free numbers small loose path v vs layout h).1 in
+          let strategy : EnumStrategy = strategy_of true repr (layouts_of (v ∷ vs)) in
+          let counts : CountsIn dl law repr free layout layout.variants (v ∷ vs) = (on_path dl law repr free numbers small loose strategy v vs layout h).1 in
           let same : others ≡ v ∷ vs = same_of (v ∷ vs) others layout layout.variants counts left inner there here in
-          by_way path v vs layout lower h (subst (λ ws. IsEnumed dl (unaligned repr) numbers ws (Ok lower)) same k) left
+          by_way strategy v vs layout lower h (subst (λ ws. IsEnumed dl (unaligned repr) numbers ws (Ok lower)) same k) left
 
 module _ (dl : TargetDataLayout) where
   -- with Rust's own representation, or with another

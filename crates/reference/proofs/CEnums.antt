@@ -18,14 +18,14 @@ use Rattle.abi_univariant.specs.Fields.{greatest, greatest_size}
 use Rattle.abi_univariant.specs.Placement.{cut, own_align, prefix_align, start_of}
 use Rattle.reference.proofs.Rounding.{pow_dvd, round_add, round_mono, round_multiple, round_round, rounded_to}
 use Rattle.abi_calc.specs.Enums.Lists.{align_with_all, behind_tag, tag_align}
-use Rattle.abi_calc.specs.Enums.Path.{is_free}
-use Rattle.abi_calc.specs.Enums.Tagged.{layout_seen_as, lists_align, lists_size}
+use Rattle.abi_calc.specs.Enums.EnumStrategy.{is_free}
+use Rattle.abi_calc.specs.Enums.Tagged.{layout_with_view, lists_align, lists_size}
 use Rattle.abi_tree.specs.Mark.{mark_of}
 use Rattle.abi_tree.specs.declared.mark.Mark.{Mark}
 use Rattle.abi_tree.specs.Placed.{Placed, layout_of, scalar as one_number, pair as two, never as nowhere, elements, vector as lanes_of, fields, union as together, single, tagged, states}
 use Rattle.abi_scalar.specs.Layout.{Layout}
 use Rattle.abi_tree.specs.Tree.{Tree, Variants, scalar, pair, never, unit, array, vector, struct, union, enum, coroutine}
-use Rattle.rustc_abi.specs.Enums.{arms_at, discriminants_of, layouts_of}
+use Rattle.rustc_abi.specs.Enums.{tagged_variants_at, discriminants_of, layouts_of}
 use Rattle.rustc_abi.specs.Laying.{IsLaying, VariantsLaying, enum_fault, placed_enum}
 use Rattle.reference.proofs.Answers.{numbers_for}
 use Rattle.reference.specs.Words.{Extent, align_in_bytes, extents_of, extent_of, largest, most_aligned, padding_needed_for, rounded_up}
@@ -35,7 +35,7 @@ use Rattle.reference.specs.Tags.{integer_extent}
 use Rattle.reference.specs.FieldEnums.{EachVariant, IsCEnum, LieInPayload, c_enum, payload, variant_fields, with_fields}
 use Rattle.reference.proofs.Lists.{aligned_some, c_is_fixed, extents_for, extents_of-parts_at, offsets_of-parts_at, pow_max, rounded}
 use Rattle.reference.proofs.PrimitiveEnums.{end_behind, named_tag, offsets_behind}
-use Rattle.reference.proofs.EnumLists.{AreListsFrom, IsTaggedBehind, LieFrom, ListsFrom, arm_fields, arm_for_each, lie_from, lists_are, of_tagged, seen_from}
+use Rattle.reference.proofs.EnumLists.{AreListsFrom, IsTaggedBehind, LieFrom, ListsFrom, tagged_variant_fields, tagged_variant_for_each, lie_from, lists_are, of_tagged, seen_from}
 
 -- ---- rounding
 
@@ -239,7 +239,7 @@ module _ (size a : ℕ) (fits : 2 ^ a ∣ size) where
   module _ (whole : Layout) (mark : Mark) (every : List (List Placed)) where
     pub each_in_payload : (i : ℕ) (numbers : List ℕ) (variants : List (List Placed)) (layouts : List (VariantLayout ℕ))
         → tops variants ≤ tops every → length numbers ≡ length variants → LieFrom (place every) layouts variants
-        → EachVariant (LieInPayload number (extents every)) (arms_at whole mark i layouts numbers variants)
+        → EachVariant (LieInPayload number (extents every)) (tagged_variants_at whole mark i layouts numbers variants)
     each_in_payload i numbers [] [] le e lie = tt
     each_in_payload i numbers [] (l ∷ layouts) le e lie = absurd lie
     each_in_payload i numbers (ps ∷ variants) [] le e lie = absurd lie
@@ -262,7 +262,7 @@ pub c_is_asked : (repr : ReprOptions) → is_c repr ≡ true → is_free repr �
 c_is_asked repr c = ap not (true_or (is_c repr) (is_some repr.int) c)
 
 not_plain : (dl : TargetDataLayout) (repr : ReprOptions) (all : Variants) → (IsPlainC repr → ⊥) → (p : Placed) → IsCEnum dl (enum repr all) p
-not_plain dl repr all isnt (tagged layout mark offset tag encoding arms) = λ plain. absurd (isnt plain)
+not_plain dl repr all isnt (tagged layout mark offset tag encoding tagged_variants) = λ plain. absurd (isnt plain)
 not_plain dl repr all isnt (one_number layout s) = λ plain. absurd (isnt plain)
 not_plain dl repr all isnt (two layout parts) = λ plain. absurd (isnt plain)
 not_plain dl repr all isnt (nowhere layout mark) = λ plain. absurd (isnt plain)
@@ -271,7 +271,7 @@ not_plain dl repr all isnt (lanes_of layout lanes) = λ plain. absurd (isnt plai
 not_plain dl repr all isnt (fields layout mark parts) = λ plain. absurd (isnt plain)
 not_plain dl repr all isnt (together layout mark parts) = λ plain. absurd (isnt plain)
 not_plain dl repr all isnt (single layout mark index parts) = λ plain. absurd (isnt plain)
-not_plain dl repr all isnt (states layout prefix offset tag arms) = λ plain. absurd (isnt plain)
+not_plain dl repr all isnt (states layout prefix offset tag tagged_variants) = λ plain. absurd (isnt plain)
 
 module _ (dl : TargetDataLayout) (law : IsLawfulDataLayout dl) (byte : dl.aggregate_align ≡ 0) (repr : ReprOptions) (all : Variants) where
   abbrev numbers : List ℕ
@@ -298,19 +298,19 @@ module _ (dl : TargetDataLayout) (law : IsLawfulDataLayout dl) (byte : dl.aggreg
       let lists : AreListsFrom dl repr at w (v ∷ vs) b.lists =
       subst (λ k. AreListsFrom dl repr at k (v ∷ vs) b.lists) before
       (subst (λ k. AreListsFrom dl repr k (prefix_align repr.pack (behind_tag dl repr b.asked (layouts_of (v ∷ vs)))) (v ∷ vs) b.lists) start given) in
-      let whole : Layout = layout_seen_as 0 dl repr size (Initialized (Int b.asked b.signed) b.range) size b.lists b.view in
+      let whole : Layout = layout_with_view 0 dl repr size (Initialized (Int b.asked b.signed) b.range) size b.lists b.view in
       let layouts : List (VariantLayout ℕ) = map (seen_from size b.view (lists_size dl b.lists)) b.lists in
       let lie : LieFrom at layouts (v ∷ vs) = lie_from dl repr at w size b.view (lists_size dl b.lists) (v ∷ vs) b.lists plain.2 lists in
       let long : length numbers ≡ length (v ∷ vs) = numbers_for dl all (v ∷ vs) there in
-      let ess : variant_fields (arms_at whole (mark_of true repr) 0 layouts numbers (v ∷ vs)) ≡ extents (v ∷ vs) =
-      arm_fields dl whole (mark_of true repr) at 0 numbers (v ∷ vs) layouts long lie in
+      let ess : variant_fields (tagged_variants_at whole (mark_of true repr) 0 layouts numbers (v ∷ vs)) ≡ extents (v ∷ vs) =
+      tagged_variant_fields dl whole (mark_of true repr) at 0 numbers (v ∷ vs) layouts long lie in
       let most = greatest_is dl repr plain.2 begin at u w (place_fits size a fits (v ∷ vs)) (omega arith) v vs b.lists (omega arith) lists in
       let exponent : lists_align dl b.lists ≡ greatest (map (λ (f : Layout). f.align.abi) b.lists) = omega (arith, byte) in
       let high : 2 ^ lists_align dl b.lists ≡ 2 ^ w = ap (λ k. 2 ^ k) exponent ∙ most.1 in
       let large : lists_size dl b.lists ≡ up (at + ends (v ∷ vs)) w =
       ap₂ next_multiple_of most.0 high ∙ round_round (at + ends (v ∷ vs)) w w (omega arith) in (
         record {
-          each = arm_for_each dl whole (mark_of true repr) at 0 all (v ∷ vs) layouts there lie;
+          each = tagged_variant_for_each dl whole (mark_of true repr) at 0 all (v ∷ vs) layouts there lie;
           start = refl;
           direct = refl;
           number = (b.asked, b.signed, (refl, refl));
@@ -318,7 +318,7 @@ module _ (dl : TargetDataLayout) (law : IsLawfulDataLayout dl) (byte : dl.aggreg
         },
         ap₂ (λ (n k : ℕ). let e : Extent = record { size = n; align = k } in e) large high ∙ sym (enum_is size a fits (v ∷ vs))
             ∙ ap (c_enum (integer_extent dl b.asked)) (sym ess),
-        subst (λ fs. EachVariant (LieInPayload (integer_extent dl b.asked) fs) (arms_at whole (mark_of true repr) 0 layouts numbers (v ∷ vs))) (sym ess)
+        subst (λ fs. EachVariant (LieInPayload (integer_extent dl b.asked) fs) (tagged_variants_at whole (mark_of true repr) 0 layouts numbers (v ∷ vs))) (sym ess)
             (each_in_payload size a fits whole (mark_of true repr) (v ∷ vs) 0 numbers (v ∷ vs) layouts (omega arith) long lie),
       ))
 

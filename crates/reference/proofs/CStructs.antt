@@ -12,7 +12,7 @@ use Rattle.abi_scalar.specs.Repr.{has_fixed_order}
 use Rattle.abi_scalar.specs.Shape.{listed_offsets}
 use Rattle.abi_univariant.specs.declared.part.Part.{Part}
 use Rattle.abi_univariant.specs.Part.{part_of, parts_of}
-use Rattle.abi_univariant.specs.Placement.{cut, end_from, list_repr, offsets_from, own_align, prefix_align, start_of}
+use Rattle.abi_univariant.specs.Placement.{cut, end_from, fields_repr, offsets_from, own_align, prefix_align, start_of}
 use Rattle.abi_tree.specs.Nodes.{parts_at}
 use Rattle.abi_tree.specs.Placed.{Placed, layout_of}
 use Rattle.abi_scalar.specs.Layout.{Layout}
@@ -39,8 +39,8 @@ pub lists_in_c : (dl : TargetDataLayout) (repr : ReprOptions) (kind : StructKind
     → IsLaidList dl repr kind (map layout_of ps) (Ok layout) → ListsInC dl repr ps layout
 lists_in_c dl repr kind ps layout fixed start prefix (order, offsets, h) =
     let parts : List Part = parts_of dl (map layout_of ps) in
-    let s : LiesInSource (list_repr dl repr kind) parts offsets layout.size layout.align.abi =
-    lies_in_source dl (list_repr dl repr kind) parts order offsets layout.size layout.align.abi layout.largest_niche (ap not fixed) h.named in
+    let s : LiesInSource (fields_repr dl repr kind) parts offsets layout.size layout.align.abi =
+    lies_in_source dl (fields_repr dl repr kind) parts order offsets layout.size layout.align.abi layout.largest_niche (ap not fixed) h.named in
     let own : listed_offsets layout.fields ≡ offsets = ap listed_offsets h.shape in
     let begin : ℕ = max (own_align dl repr) (unwrap_or repr.align 0) in
     let least : max begin (prefix_align repr.pack kind) ≡ begin = ap (max begin) prefix ∙ omega arith in

@@ -17,7 +17,7 @@ use Rattle.abi_base.specs.IntegerType.{integer_of_type, is_signed_type}
 use Rattle.abi_base.specs.Size.{signed_value}
 use Rattle.abi_scalar.specs.declared.repr.ReprOptions.{ReprOptions}
 use Rattle.abi_scalar.specs.Repr.{discr_type_of, is_c}
-use Rattle.abi_calc.specs.Enums.Path.{has_no_value, variant_at}
+use Rattle.abi_calc.specs.Enums.EnumStrategy.{has_no_value, variant_at}
 use Rattle.abi_calc.specs.Enums.Discriminants.{IsAskedWith, IsGreatestOf, IsLeastOf, counts, meant_by}
 use Rattle.abi_tree.specs.Placed.{Placed, scalar as one_number, pair as two, never as nowhere, elements, vector as lanes_of, fields, union as together, single, tagged, states}
 use Rattle.abi_scalar.specs.Layout.{Layout}
@@ -362,7 +362,7 @@ unnamed dl repr least greatest none =
     ap (λ o. unwrap_or (option_map (λ type. (integer_of_type dl type, is_signed_type type)) o) (least_integer (least_tag dl repr) least greatest, is_negative least)) none
 
 not_plain : (dl : TargetDataLayout) (repr : ReprOptions) (all : Variants) → (IsPlainC repr → ⊥) → (p : Placed) → IsCTag dl (enum repr all) p
-not_plain dl repr all isnt (tagged layout mark offset tag encoding arms) = λ plain. absurd (isnt plain)
+not_plain dl repr all isnt (tagged layout mark offset tag encoding tagged_variants) = λ plain. absurd (isnt plain)
 not_plain dl repr all isnt (one_number layout s) = tt
 not_plain dl repr all isnt (two layout parts) = tt
 not_plain dl repr all isnt (nowhere layout mark) = tt
@@ -371,7 +371,7 @@ not_plain dl repr all isnt (lanes_of layout lanes) = tt
 not_plain dl repr all isnt (fields layout mark parts) = tt
 not_plain dl repr all isnt (together layout mark parts) = tt
 not_plain dl repr all isnt (single layout mark index parts) = tt
-not_plain dl repr all isnt (states layout prefix offset tag arms) = tt
+not_plain dl repr all isnt (states layout prefix offset tag tagged_variants) = tt
 
 module _ (dl : TargetDataLayout) (law : IsLawfulDataLayout dl) (enough : HasEnumsOfIndex dl) (repr : ReprOptions) (all : Variants) where
   abbrev numbers : List ℕ

@@ -20,7 +20,7 @@ use Rattle.abi_scalar.specs.declared.scalar.Scalar.TheVariants.{Initialized}
 use Rattle.abi_scalar.specs.Range.{full_range}
 use Rattle.abi_scalar.specs.Shape.{listed_offsets}
 use Rattle.abi_scalar.specs.Simple.{never_layout, unit_layout}
-use Rattle.abi_univariant.specs.declared.list_repr.ListRepr.{ListRepr}
+use Rattle.abi_univariant.specs.declared.fields_repr.FieldsRepr.{FieldsRepr}
 use Rattle.abi_univariant.specs.declared.order.NicheBias.TheVariants.{Start}
 use Rattle.abi_univariant.specs.declared.order.SortKey.{SortKey}
 use Rattle.abi_univariant.specs.declared.part.Part.{Part}
@@ -28,21 +28,21 @@ use Rattle.abi_univariant.specs.Array.{elements_layout}
 use Rattle.abi_univariant.specs.Fields.{greatest}
 use Rattle.abi_univariant.specs.Order.{IsSortedBefore, compare_keys, key_at, rule_of, sort_key}
 use Rattle.abi_univariant.specs.Part.{parts_of as parts_asked}
-use Rattle.abi_univariant.specs.Placement.{list_repr}
+use Rattle.abi_univariant.specs.Placement.{fields_repr}
 use Rattle.abi_univariant.specs.Run.{IsPlacedIn, IsRun}
 use Rattle.abi_calc.specs.Coroutine.Lists.{default_repr}
 use Rattle.abi_calc.specs.Enums.Discriminants.{IsAskedWith}
-use Rattle.abi_calc.specs.Enums.Tagged.{layout_seen_as, lists_size}
+use Rattle.abi_calc.specs.Enums.Tagged.{layout_with_view, lists_size}
 use Rattle.abi_tree.specs.declared.mark.Mark.TheVariants.{Never, Unit}
 use Rattle.abi_tree.specs.Mark.{mark_of}
 use Rattle.abi_tree.specs.Nodes.{parts_at, parts_at_0}
-use Rattle.abi_tree.specs.Placed.{Placed, Arms, no_arms, arm, no_parts, part, layout_of, parts_in, elements, fields, never as nowhere}
+use Rattle.abi_tree.specs.Placed.{Placed, TaggedVariants, no_tagged_variants, tagged_variant, no_parts, part, layout_of, parts_in, elements, fields, never as nowhere}
 use Rattle.abi_scalar.specs.Layout.{Layout}
 use Rattle.abi_tree.specs.Tree.{Tree, Trees, no_trees, more_trees, Variants, no_variants, more_variants, struct, union, enum, array, never, unit, scalar as number_type}
-use Rattle.rustc_abi.specs.Enums.{IsEnumed, arms_at, counted, discriminants_of, tag_integer}
+use Rattle.rustc_abi.specs.Enums.{IsEnumed, tagged_variants_at, counted, discriminants_of, tag_integer}
 use Rattle.rustc_abi.specs.Laying.{AreLaying, IsLaying, IsLaidList, IsUnited, VariantsLaying, elements_answer, enum_fault, fields_fault, kind_of, one_scalar, placed_enum, placed_fields, placed_together}
 use Rattle.rustc_abi.specs.ScalarFault.{scalar_fault}
-use Rattle.reference.specs.Words.{Extent, HasArmForEach, align_in_bytes, extent_of, extents_of, most_aligned}
+use Rattle.reference.specs.Words.{Extent, HasTaggedVariantForEach, align_in_bytes, extent_of, extents_of, most_aligned}
 use Rattle.rustc_abi.specs.Lists.{offsets_of}
 use Rattle.reference.specs.CStruct.{IsCStruct, c_struct}
 use Rattle.reference.specs.CUnion.{IsCUnion}
@@ -157,12 +157,12 @@ IsTaggedLone dl = (layout : Layout) × IsTaggedBehind dl c (0 ∷ []) ([] ∷ []
 
 abbrev lone_layout : (dl : TargetDataLayout) → IsTaggedLone dl → Layout
 lone_layout dl b =
-    layout_seen_as 0 dl c (integer_size b.1.asked) (Initialized (Int b.1.asked b.1.signed) b.1.range) (integer_size b.1.asked) b.1.lists b.1.view
+    layout_with_view 0 dl c (integer_size b.1.asked) (Initialized (Int b.1.asked b.1.signed) b.1.range) (integer_size b.1.asked) b.1.lists b.1.view
 
 -- its variants beside the tag
-abbrev lone_arms : (dl : TargetDataLayout) → IsTaggedLone dl → Arms
-lone_arms dl b =
-    arms_at (lone_layout dl b) (mark_of true c) 0 (map (seen_from (integer_size b.1.asked) b.1.view (lists_size dl b.1.lists)) b.1.lists) (0 ∷ []) ([] ∷ [])
+abbrev lone_tagged_variants : (dl : TargetDataLayout) → IsTaggedLone dl → TaggedVariants
+lone_tagged_variants dl b =
+    tagged_variants_at (lone_layout dl b) (mark_of true c) 0 (map (seen_from (integer_size b.1.asked) b.1.view (lists_size dl b.1.lists)) b.1.lists) (0 ∷ []) ([] ∷ [])
 
 -- what such an enum has, whatever its tag
 lone_has : (dl : TargetDataLayout) (P : Placed → Type 0)
@@ -176,11 +176,11 @@ lone_has dl P each p (inr (variants, there, answer)) =
     subst P (ap (placed_enum dl c (0 ∷ []) ([] ∷ [])) (sym b.is) ∙ ap (λ vs. placed_enum dl c (0 ∷ []) vs found.0) (sym are) ∙ found.2)
     (each (found.0, b))
 
-fieldless : (arms : Arms) → HasArmForEach lone arms → with_fields (variant_fields arms) ≡ []
-fieldless no_arms h = absurd h
-fieldless (arm number layout mark no_parts no_arms) h = refl
-fieldless (arm number layout mark no_parts (arm m l k parts arms)) h = absurd h.2
-fieldless (arm number layout mark (part offset placed parts) arms) h = absurd h.1
+fieldless : (tagged_variants : TaggedVariants) → HasTaggedVariantForEach lone tagged_variants → with_fields (variant_fields tagged_variants) ≡ []
+fieldless no_tagged_variants h = absurd h
+fieldless (tagged_variant number layout mark no_parts no_tagged_variants) h = refl
+fieldless (tagged_variant number layout mark no_parts (tagged_variant m l k parts tagged_variants)) h = absurd h.2
+fieldless (tagged_variant number layout mark (part offset placed parts) tagged_variants) h = absurd h.1
 
 four_at_most : (i : Integer) → 2 ^ integer_align aligned_aggregates i ≤ 4
 four_at_most I8 = lit≤ tt
@@ -193,8 +193,8 @@ pub c_enum_departs : (p : Placed) → IsLaying aligned_aggregates (enum c lone) 
 c_enum_departs p h = lone_has aligned_aggregates (λ q. IsCEnum aligned_aggregates (enum c lone) q → ⊥)
     (λ b lies.
     let own = lies (refl, refl, refl) in
-    let fields : List (List Extent) = variant_fields (lone_arms aligned_aggregates b) in
-    let none : with_fields fields ≡ [] = fieldless (lone_arms aligned_aggregates b) own.0.each in
+    let fields : List (List Extent) = variant_fields (lone_tagged_variants aligned_aggregates b) in
+    let none : with_fields fields ≡ [] = fieldless (lone_tagged_variants aligned_aggregates b) own.0.each in
     let payload_align : (payload fields).align ≡ 1 = ap (λ ess. most_aligned (map c_struct ess)) none in
     let tag : ℕ = 2 ^ integer_align aligned_aggregates b.1.asked in
     let small : tag ≤ 4 = four_at_most b.1.asked in
@@ -381,8 +381,8 @@ abbrev asked : List Part
 asked = parts_asked default_data_layout (layout_of word ∷ layout_of shorts ∷ [])
 
 -- in free order the array lies first, since its size counts as an alignment
-abbrev free_list : ListRepr
-free_list = list_repr default_data_layout default_repr AlwaysSized
+abbrev free_list : FieldsRepr
+free_list = fields_repr default_data_layout default_repr AlwaysSized
 
 free_sorted : (order : List ℕ) → IsSortedBefore free_list Start asked order → order ≡ 1 ∷ 0 ∷ []
 unfolding count_trailing_zeros
@@ -395,8 +395,8 @@ free_sorted order (front, s, is) =
     (two_orders front s.permutes)
 
 -- where it is packed the word does, which is aligned to more
-abbrev packed_list : ListRepr
-packed_list = list_repr default_data_layout packed_to_16 AlwaysSized
+abbrev packed_list : FieldsRepr
+packed_list = fields_repr default_data_layout packed_to_16 AlwaysSized
 
 packed_sorted : (order : List ℕ) → IsSortedBefore packed_list Start asked order → order ≡ 0 ∷ 1 ∷ []
 packed_sorted order (front, s, is) =

@@ -21,29 +21,29 @@ use Rattle.abi_scalar.specs.Simple.{never_layout}
 use Rattle.abi_scalar.specs.Variant.{variant_of}
 use Rattle.abi_univariant.specs.declared.part.Part.{Part}
 use Rattle.abi_univariant.specs.Part.{part_of, parts_of}
-use Rattle.abi_univariant.specs.Placement.{end_from, list_repr, own_align, prefix_align, start_of}
-use Rattle.abi_calc.specs.declared.enums.path.Path.{Path}
-use Rattle.abi_calc.specs.declared.enums.path.Path.TheVariants.{Several}
+use Rattle.abi_univariant.specs.Placement.{end_from, fields_repr, own_align, prefix_align, start_of}
+use Rattle.abi_calc.specs.declared.enums.strategy.EnumStrategy.{EnumStrategy}
+use Rattle.abi_calc.specs.declared.enums.strategy.EnumStrategy.TheVariants.{Several}
 use Rattle.abi_calc.specs.Enums.Answer.{IsTypeAnswer}
 use Rattle.abi_calc.specs.Enums.Growth.{grown_tag, grown_variant}
 use Rattle.abi_calc.specs.Enums.Lists.{AreListLayouts, behind_tag}
-use Rattle.abi_calc.specs.Enums.Path.{is_free, path_among, path_of}
-use Rattle.abi_calc.specs.Enums.Payload.{seen_as}
+use Rattle.abi_calc.specs.Enums.EnumStrategy.{is_free, strategy_among, strategy_of}
+use Rattle.abi_calc.specs.Enums.Payload.{variant_with_view}
 use Rattle.abi_calc.specs.Enums.Several.{IsAskedFor, IsSeveralAnswer}
-use Rattle.abi_calc.specs.Enums.Tagged.{layout_seen_as, lists_align, lists_size, payloads_of}
-use Rattle.abi_calc.specs.Enums.Discriminants.{counting_of}
+use Rattle.abi_calc.specs.Enums.Tagged.{layout_with_view, lists_align, lists_size, payloads_of}
+use Rattle.abi_calc.specs.Enums.Discriminants.{counted_discriminants}
 use Rattle.abi_calc.specs.Enums.Payload.{tagged_view}
-use Rattle.abi_univariant.specs.List.{IsListAnswer}
+use Rattle.abi_univariant.specs.List.{IsUnivariantAnswer}
 use Rattle.abi_tree.specs.Nodes.{parts_at}
 use Rattle.abi_tree.specs.declared.mark.Mark.{Mark}
 use Rattle.abi_tree.specs.Mark.{mark_of}
 use Rattle.abi_tree.specs.Placed.{Placed, layout_of, never as nowhere}
 use Rattle.abi_scalar.specs.Layout.{Layout}
 use Rattle.abi_tree.specs.Tree.{Variants, no_variants, more_variants, enum}
-use Rattle.rustc_abi.specs.Enums.{IsEnumed, IsTagIntegerAnswer, arms_at, counted, discriminants_of, layouts_of, numbered_from}
+use Rattle.rustc_abi.specs.Enums.{IsEnumed, IsTagIntegerAnswer, tagged_variants_at, counted, discriminants_of, layouts_of, numbered_from}
 use Rattle.rustc_abi.specs.Laying.{AreLaying, IsLaying, VariantsLaying, enum_fault, placed_enum}
 use Rattle.reference.proofs.Answers.{laid_by}
-use Rattle.reference.specs.Words.{Extent, HasArmForEach, extent_of, extents_of, most_aligned, rounded_up}
+use Rattle.reference.specs.Words.{Extent, HasTaggedVariantForEach, extent_of, extents_of, most_aligned, rounded_up}
 use Rattle.rustc_abi.specs.Lists.{offsets_of}
 use Rattle.reference.specs.CStruct.{c_end, c_offsets}
 use Rattle.reference.specs.FieldEnums.{EachVariant, variant_fields}
@@ -60,7 +60,7 @@ pub record IsTaggedBehind (dl : TargetDataLayout) (repr : ReprOptions) (numbers 
   pub lists : List Layout
   pub are : AreListLayouts layout_of (λ i. i) 0 dl repr (behind_tag dl repr asked (layouts_of variants)) variants lists
   pub view : BackendRepr
-  pub is : layout ≡ layout_seen_as 0 dl repr (integer_size asked) (Initialized (Int asked signed) range) (integer_size asked) lists view
+  pub is : layout ≡ layout_with_view 0 dl repr (integer_size asked) (Initialized (Int asked signed) range) (integer_size asked) lists view
 
 abbrev ok : Layout → Result Layout (LayoutCalculatorError Placed)
 ok l = Ok l
@@ -76,13 +76,13 @@ not_grown dl true a b e = absurd (cc)
 not_grown dl false a b e = refl
 
 -- an enum that isn't free, with some variant, is tagged
-several_by : (free more : Bool) (xs : List ℕ) → free ≡ false → path_among free (if not free || more then 0 ∷ xs else xs) ≡ Several
+several_by : (free more : Bool) (xs : List ℕ) → free ≡ false → strategy_among free (if not free || more then 0 ∷ xs else xs) ≡ Several
 several_by true more xs e = absurd (cc)
 several_by false more [] e = refl
 several_by false more (x ∷ xs) e = refl
 
 pub is_several : (repr : ReprOptions) (v : List Placed) (vs : List (List Placed)) → is_free repr ≡ false
-    → path_of true repr (layouts_of (v ∷ vs)) ≡ Several
+    → strategy_of true repr (layouts_of (v ∷ vs)) ≡ Several
 is_several repr v vs free = several_by (is_free repr) _ _ free
 
 pub tagged_by : (dl : TargetDataLayout) (repr : ReprOptions) (numbers : List ℕ) (variants : List (List Placed)) (layout : Layout)
@@ -104,12 +104,12 @@ tagged_by dl repr numbers variants layout free (inr (inr (none, items, are, inr 
       asked = asked;
       signed = signed;
       range = by.ranged.0;
-      for = subst (λ its. IsAskedFor dl repr (IsTagIntegerAnswer dl repr) (counting_of (λ v. v) repr (layouts_of variants) its) asked signed) are for;
+      for = subst (λ its. IsAskedFor dl repr (IsTagIntegerAnswer dl repr) (counted_discriminants (λ v. v) repr (layouts_of variants) its) asked signed) are for;
       lists = lists;
       are = lay;
       view = seen asked;
       is = inj-Ok layout l is ∙ by.ranged.2
-          ∙ ap (λ (g : Integer). layout_seen_as 0 dl repr (integer_size asked) (Initialized (Int g signed) by.ranged.0) (integer_size g) lists (seen g)) grown;
+          ∙ ap (λ (g : Integer). layout_with_view 0 dl repr (integer_size asked) (Initialized (Int g signed) by.ranged.0) (integer_size g) lists (seen g)) grown;
     }
 
 -- ---- each variant's list, in the words of the chapter
@@ -122,13 +122,13 @@ pub record ListsFrom (dl : TargetDataLayout) (repr : ReprOptions) (from before :
       ≡ max (2 ^ max (max (own_align dl repr) (unwrap_or repr.align 0)) before) (most_aligned (extents_for repr.pack ps))
 
 lists_from : (dl : TargetDataLayout) (repr : ReprOptions) (kind : StructKind) (ps : List Placed) (layout : Layout)
-    → has_fixed_order repr ≡ true → IsListAnswer layout_of (λ i. i) 0 dl repr kind ps (Ok layout)
+    → has_fixed_order repr ≡ true → IsUnivariantAnswer layout_of (λ i. i) 0 dl repr kind ps (Ok layout)
     → ListsFrom dl repr (start_of repr.pack kind) (prefix_align repr.pack kind) ps layout
 lists_from dl repr kind ps layout fixed (order, offsets, h) =
     let parts : List Part = parts_of dl (map layout_of ps) in
     let from : ℕ = start_of repr.pack kind in
-    let s : LiesInSource (list_repr dl repr kind) parts offsets layout.size layout.align.abi =
-    lies_in_source dl (list_repr dl repr kind) parts order offsets layout.size layout.align.abi layout.largest_niche (ap not fixed) h.named in
+    let s : LiesInSource (fields_repr dl repr kind) parts offsets layout.size layout.align.abi =
+    lies_in_source dl (fields_repr dl repr kind) parts order offsets layout.size layout.align.abi layout.largest_niche (ap not fixed) h.named in
     let own : listed_offsets layout.fields ≡ offsets = ap listed_offsets h.shape in
     let begin : ℕ = max (max (own_align dl repr) (unwrap_or repr.align 0)) (prefix_align repr.pack kind) in
     record {
@@ -173,7 +173,7 @@ stays true v w e = absurd (cc)
 stays false v w e = refl
 
 abbrev pub seen_from : (old : ℕ) → (view : BackendRepr) → (size : ℕ) → Layout → VariantLayout ℕ
-seen_from old view size list = seen_as view size (grown_variant old old (variant_of list))
+seen_from old view size list = variant_with_view view size (grown_variant old old (variant_of list))
 
 not_less : (n : ℕ) (b : Bool) → nat_lt n n ≡ b → b ≡ false
 not_less n true e = absurd (let less : n < n = grind (arith) in omega arith)
@@ -201,49 +201,49 @@ lie_from dl repr from before old view size (ps ∷ variants) (l ∷ lists) loose
 -- ---- the arms
 
 module _ (dl : TargetDataLayout) (whole : Layout) (mark : Mark) (from : ℕ) where
-  pub arm_for_each : (i : ℕ) (all : Variants) (variants : List (List Placed)) (layouts : List (VariantLayout ℕ))
+  pub tagged_variant_for_each : (i : ℕ) (all : Variants) (variants : List (List Placed)) (layouts : List (VariantLayout ℕ))
       → VariantsLaying dl all (Ok variants) → LieFrom from layouts variants
-      → HasArmForEach all (arms_at whole mark i layouts (discriminants_of all) variants)
-  arm_for_each i no_variants [] [] are lie = tt
-  arm_for_each i no_variants [] (l ∷ layouts) are lie = absurd lie
-  arm_for_each i no_variants (ps ∷ variants) layouts are lie = absurd (cc are)
-  arm_for_each i (more_variants d ts others) variants layouts (inl f) lie = absurd (cc f.2)
-  arm_for_each i (more_variants d ts others) variants layouts (inr (ps, here, inl f)) lie = absurd (cc f.2)
-  arm_for_each i (more_variants d ts others) [] layouts (inr (ps, here, inr (rest, later, is))) lie = absurd (cc)
-  arm_for_each i (more_variants d ts others) (qs ∷ variants) [] (inr (ps, here, inr (rest, later, is))) lie = absurd lie
-  arm_for_each i (more_variants d ts others) (qs ∷ variants) (l ∷ layouts) (inr (ps, here, inr (rest, later, is))) lie =
+      → HasTaggedVariantForEach all (tagged_variants_at whole mark i layouts (discriminants_of all) variants)
+  tagged_variant_for_each i no_variants [] [] are lie = tt
+  tagged_variant_for_each i no_variants [] (l ∷ layouts) are lie = absurd lie
+  tagged_variant_for_each i no_variants (ps ∷ variants) layouts are lie = absurd (cc are)
+  tagged_variant_for_each i (more_variants d ts others) variants layouts (inl f) lie = absurd (cc f.2)
+  tagged_variant_for_each i (more_variants d ts others) variants layouts (inr (ps, here, inl f)) lie = absurd (cc f.2)
+  tagged_variant_for_each i (more_variants d ts others) [] layouts (inr (ps, here, inr (rest, later, is))) lie = absurd (cc)
+  tagged_variant_for_each i (more_variants d ts others) (qs ∷ variants) [] (inr (ps, here, inr (rest, later, is))) lie = absurd lie
+  tagged_variant_for_each i (more_variants d ts others) (qs ∷ variants) (l ∷ layouts) (inr (ps, here, inr (rest, later, is))) lie =
       let first : ps ≡ qs = cc in
       let more : rest ≡ variants = cc in (
         refl,
         part_for_each dl ts l.field_offsets qs lie.0 (subst (λ xs. AreLaying dl ts (Ok xs)) first here),
-        arm_for_each (i + 1) others variants layouts (subst (λ xs. VariantsLaying dl others (Ok xs)) more later) lie.2,
+        tagged_variant_for_each (i + 1) others variants layouts (subst (λ xs. VariantsLaying dl others (Ok xs)) more later) lie.2,
       )
 
-  pub arm_fields : (i : ℕ) (numbers : List ℕ) (variants : List (List Placed)) (layouts : List (VariantLayout ℕ))
+  pub tagged_variant_fields : (i : ℕ) (numbers : List ℕ) (variants : List (List Placed)) (layouts : List (VariantLayout ℕ))
       → length numbers ≡ length variants → LieFrom from layouts variants
-      → variant_fields (arms_at whole mark i layouts numbers variants) ≡ map (map extent_of) variants
-  arm_fields i numbers [] [] e lie = refl
-  arm_fields i numbers [] (l ∷ layouts) e lie = absurd lie
-  arm_fields i numbers (ps ∷ variants) [] e lie = absurd lie
-  arm_fields i [] (ps ∷ variants) (l ∷ layouts) e lie = absurd (omega (arith, e))
-  arm_fields i (n ∷ numbers) (ps ∷ variants) (l ∷ layouts) e lie =
+      → variant_fields (tagged_variants_at whole mark i layouts numbers variants) ≡ map (map extent_of) variants
+  tagged_variant_fields i numbers [] [] e lie = refl
+  tagged_variant_fields i numbers [] (l ∷ layouts) e lie = absurd lie
+  tagged_variant_fields i numbers (ps ∷ variants) [] e lie = absurd lie
+  tagged_variant_fields i [] (ps ∷ variants) (l ∷ layouts) e lie = absurd (omega (arith, e))
+  tagged_variant_fields i (n ∷ numbers) (ps ∷ variants) (l ∷ layouts) e lie =
       ap₂ (λ (es : List Extent) (ess : List (List Extent)). es ∷ ess) (extents_of-parts_at l.field_offsets ps lie.0)
-      (arm_fields (i + 1) numbers variants layouts (omega (arith, e)) lie.2)
+      (tagged_variant_fields (i + 1) numbers variants layouts (omega (arith, e)) lie.2)
 
-  pub each_arm : (P : List Extent → List ℕ → Type 0) → ((es : List Extent) → P es (c_offsets from es))
+  pub each_tagged_variant : (P : List Extent → List ℕ → Type 0) → ((es : List Extent) → P es (c_offsets from es))
       → (i : ℕ) (numbers : List ℕ) (variants : List (List Placed)) (layouts : List (VariantLayout ℕ))
       → length numbers ≡ length variants → LieFrom from layouts variants
-      → EachVariant P (arms_at whole mark i layouts numbers variants)
-  each_arm P each i numbers [] [] e lie = tt
-  each_arm P each i numbers [] (l ∷ layouts) e lie = absurd lie
-  each_arm P each i numbers (ps ∷ variants) [] e lie = absurd lie
-  each_arm P each i [] (ps ∷ variants) (l ∷ layouts) e lie = absurd (omega (arith, e))
-  each_arm P each i (n ∷ numbers) (ps ∷ variants) (l ∷ layouts) e lie =
+      → EachVariant P (tagged_variants_at whole mark i layouts numbers variants)
+  each_tagged_variant P each i numbers [] [] e lie = tt
+  each_tagged_variant P each i numbers [] (l ∷ layouts) e lie = absurd lie
+  each_tagged_variant P each i numbers (ps ∷ variants) [] e lie = absurd lie
+  each_tagged_variant P each i [] (ps ∷ variants) (l ∷ layouts) e lie = absurd (omega (arith, e))
+  each_tagged_variant P each i (n ∷ numbers) (ps ∷ variants) (l ∷ layouts) e lie =
       let at : offsets_of (parts_at l.field_offsets ps) ≡ c_offsets from (map extent_of ps) =
       offsets_of-parts_at l.field_offsets ps lie.0 ∙ lie.1 in (
         subst (λ os. P (extents_of (parts_at l.field_offsets ps)) os) (sym at)
             (subst (λ es. P es (c_offsets from (map extent_of ps))) (sym (extents_of-parts_at l.field_offsets ps lie.0)) (each (map extent_of ps))),
-        each_arm P each (i + 1) numbers variants layouts (omega (arith, e)) lie.2,
+        each_tagged_variant P each (i + 1) numbers variants layouts (omega (arith, e)) lie.2,
       )
 
 -- ---- what holds of each such enum
@@ -267,8 +267,8 @@ module _ (dl : TargetDataLayout) (repr : ReprOptions) (all : Variants) (Rule : P
       subst (λ (l : Layout). Rule (placed_enum dl repr (discriminants_of all) [] l)) (sym (inj-Ok layout (never_layout dl) h)) (empty (none_left dl all there))
   by_free false is (v ∷ vs) layout there none h =
       tagged v vs layout there none (tagged_by dl repr (discriminants_of all) (v ∷ vs) layout is
-      (subst (λ (path : Path). IsTypeAnswer layout_of (λ i. i) (λ i. i) (λ i. i) (λ i. i) dl repr (v ∷ vs) true true Enabled (IsTagIntegerAnswer dl repr)
-      (λ items. items ≡ numbered_from 0 (discriminants_of all)) path (Ok layout)) (is_several repr v vs is) h))
+      (subst (λ (strategy : EnumStrategy). IsTypeAnswer layout_of (λ i. i) (λ i. i) (λ i. i) (λ i. i) dl repr (v ∷ vs) true true Enabled (IsTagIntegerAnswer dl repr)
+      (λ items. items ≡ numbered_from 0 (discriminants_of all)) strategy (Ok layout)) (is_several repr v vs is) h))
 
   pub of_tagged : (p : Placed) → IsLaying dl (enum repr all) (Ok p) → Rule p
   of_tagged p (inl f) = absurd (cc f.2)

@@ -8,10 +8,10 @@ use Rattle.abi_scalar.specs.Lawful.{IsLawfulLayout}
 use Rattle.abi_tree.specs.declared.laid.Laid.{Laid}
 use Rattle.abi_tree.specs.Laid.{placed_of}
 use Rattle.abi_tree.specs.Nodes.{parts_at, parts_at_0}
-use Rattle.abi_tree.specs.Placed.{Placed, Parts, Arms, no_arms, arm, element_of, first_part, layout_of, more_parts, parts_in, scalar as one_number, pair as two, never as nowhere, elements, vector as lanes_of, fields, union as together, single, tagged, states as in_states}
+use Rattle.abi_tree.specs.Placed.{Placed, Parts, TaggedVariants, no_tagged_variants, tagged_variant, element_of, first_part, layout_of, more_parts, parts_in, scalar as one_number, pair as two, never as nowhere, elements, vector as lanes_of, fields, union as together, single, tagged, states as in_states}
 use Rattle.abi_tree.specs.Tree.{Tree, Trees, no_trees, more_trees, Variants, no_variants, more_variants, scalar, pair, never, unit, array, vector, struct, union, enum, coroutine}
 use Rattle.rustc_abi.specs.declared.error.LayError.{LayError}
-use Rattle.rustc_abi.specs.Everywhere.{ByThemselves, Everywhere, OfAbsent, OfArms, OfEach, OfVariant, Within}
+use Rattle.rustc_abi.specs.Everywhere.{ByThemselves, Everywhere, OfAbsent, OfTaggedVariants, OfEach, OfVariant, Within}
 use Rattle.rustc_abi.specs.Laying.{AreLaying, IsLaying}
 use Rattle.rustc_abi.specs.Lists.{HasLeastLists}
 use Rattle.rustc_abi.specs.Orders.{LiesAsAsked}
@@ -32,19 +32,19 @@ module _ (dl : TargetDataLayout) (P Q : Tree → Placed → Type 0) (each : (t :
     within (union repr all) p h = of_each all (parts_in p) h
     within (enum repr all) (nowhere layout mark) h = of_absent all h
     within (enum repr all) (single layout mark index parts) h = of_variant all index parts h
-    within (enum repr all) (tagged layout mark offset tag encoding arms) h = of_arms all arms h
+    within (enum repr all) (tagged layout mark offset tag encoding tagged_variants) h = of_tagged_variants all tagged_variants h
     within (enum repr all) (one_number layout s) h = absurd h
     within (enum repr all) (two layout parts) h = absurd h
     within (enum repr all) (elements layout count element) h = absurd h
     within (enum repr all) (lanes_of layout lanes) h = absurd h
     within (enum repr all) (fields layout mark parts) h = absurd h
     within (enum repr all) (together layout mark parts) h = absurd h
-    within (enum repr all) (in_states layout prefix offset tag arms) h = absurd h
-    within (coroutine prefix locals all conflicts) (in_states layout pre offset tag arms) h =
+    within (enum repr all) (in_states layout prefix offset tag tagged_variants) h = absurd h
+    within (coroutine prefix locals all conflicts) (in_states layout pre offset tag tagged_variants) h =
         (of_each prefix pre h.0, (h.1.0, h.1.1, of_each locals (parts_at_0 h.1.0) h.1.2, h.1.3))
     within (coroutine prefix locals all conflicts) (nowhere layout mark) h = absurd h
     within (coroutine prefix locals all conflicts) (single layout mark index parts) h = absurd h
-    within (coroutine prefix locals all conflicts) (tagged layout mark offset tag encoding arms) h = absurd h
+    within (coroutine prefix locals all conflicts) (tagged layout mark offset tag encoding tagged_variants) h = absurd h
     within (coroutine prefix locals all conflicts) (one_number layout s) h = absurd h
     within (coroutine prefix locals all conflicts) (two layout parts) h = absurd h
     within (coroutine prefix locals all conflicts) (elements layout count element) h = absurd h
@@ -67,11 +67,11 @@ module _ (dl : TargetDataLayout) (P Q : Tree → Placed → Type 0) (each : (t :
     of_variant (more_variants d ts others) (suc i) parts h =
         ((h.0.0, h.0.1, of_each ts (parts_at_0 h.0.0) h.0.2), of_variant others i parts h.1)
 
-    of_arms : (all : Variants) (arms : Arms) → OfArms dl P all arms → OfArms dl Q all arms
-    of_arms no_variants no_arms h = tt
-    of_arms no_variants (arm number layout mark parts arms) h = absurd h
-    of_arms (more_variants d ts others) no_arms h = absurd h
-    of_arms (more_variants d ts others) (arm number layout mark parts arms) h = (of_each ts parts h.0, of_arms others arms h.1)
+    of_tagged_variants : (all : Variants) (tagged_variants : TaggedVariants) → OfTaggedVariants dl P all tagged_variants → OfTaggedVariants dl Q all tagged_variants
+    of_tagged_variants no_variants no_tagged_variants h = tt
+    of_tagged_variants no_variants (tagged_variant number layout mark parts tagged_variants) h = absurd h
+    of_tagged_variants (more_variants d ts others) no_tagged_variants h = absurd h
+    of_tagged_variants (more_variants d ts others) (tagged_variant number layout mark parts tagged_variants) h = (of_each ts parts h.0, of_tagged_variants others tagged_variants h.1)
 
   pub weaker : (t : Tree) (p : Placed) → Everywhere dl P t p → Everywhere dl Q t p
   weaker t p h = (each t p h.0 h.1, within t p h.1)
@@ -132,20 +132,20 @@ module _ (dl : TargetDataLayout) (P Q : Tree → Placed → Type 0) (one : (t : 
     both_within (union repr all) p h k = both_of_each all (parts_in p) h k
     both_within (enum repr all) (nowhere layout mark) h k = both_of_absent all h k
     both_within (enum repr all) (single layout mark index parts) h k = both_of_variant all index parts h k
-    both_within (enum repr all) (tagged layout mark offset tag encoding arms) h k = both_of_arms all arms h k
+    both_within (enum repr all) (tagged layout mark offset tag encoding tagged_variants) h k = both_of_tagged_variants all tagged_variants h k
     both_within (enum repr all) (one_number layout s) h k = absurd h
     both_within (enum repr all) (two layout parts) h k = absurd h
     both_within (enum repr all) (elements layout count element) h k = absurd h
     both_within (enum repr all) (lanes_of layout lanes) h k = absurd h
     both_within (enum repr all) (fields layout mark parts) h k = absurd h
     both_within (enum repr all) (together layout mark parts) h k = absurd h
-    both_within (enum repr all) (in_states layout prefix offset tag arms) h k = absurd h
-    both_within (coroutine prefix locals all conflicts) (in_states layout pre offset tag arms) h k =
+    both_within (enum repr all) (in_states layout prefix offset tag tagged_variants) h k = absurd h
+    both_within (coroutine prefix locals all conflicts) (in_states layout pre offset tag tagged_variants) h k =
         let own = of_same locals (h.1.0, h.1.1, h.1.2) (k.1.0, k.1.1, k.1.2) in
         (both_of_each prefix pre h.0 k.0, (h.1.0, h.1.1, both_of_each locals (parts_at_0 h.1.0) h.1.2 own, h.1.3))
     both_within (coroutine prefix locals all conflicts) (nowhere layout mark) h k = absurd h
     both_within (coroutine prefix locals all conflicts) (single layout mark index parts) h k = absurd h
-    both_within (coroutine prefix locals all conflicts) (tagged layout mark offset tag encoding arms) h k = absurd h
+    both_within (coroutine prefix locals all conflicts) (tagged layout mark offset tag encoding tagged_variants) h k = absurd h
     both_within (coroutine prefix locals all conflicts) (one_number layout s) h k = absurd h
     both_within (coroutine prefix locals all conflicts) (two layout parts) h k = absurd h
     both_within (coroutine prefix locals all conflicts) (elements layout count element) h k = absurd h
@@ -169,12 +169,12 @@ module _ (dl : TargetDataLayout) (P Q : Tree → Placed → Type 0) (one : (t : 
     both_of_variant (more_variants d ts others) (suc i) parts h k =
         ((h.0.0, h.0.1, both_of_each ts (parts_at_0 h.0.0) h.0.2 (of_same ts h.0 k.0)), both_of_variant others i parts h.1 k.1)
 
-    both_of_arms : (all : Variants) (arms : Arms) → OfArms dl P all arms → OfArms dl Q all arms → OfArms dl Both all arms
-    both_of_arms no_variants no_arms h k = tt
-    both_of_arms no_variants (arm number layout mark parts arms) h k = absurd h
-    both_of_arms (more_variants d ts others) no_arms h k = absurd h
-    both_of_arms (more_variants d ts others) (arm number layout mark parts arms) h k =
-        (both_of_each ts parts h.0 k.0, both_of_arms others arms h.1 k.1)
+    both_of_tagged_variants : (all : Variants) (tagged_variants : TaggedVariants) → OfTaggedVariants dl P all tagged_variants → OfTaggedVariants dl Q all tagged_variants → OfTaggedVariants dl Both all tagged_variants
+    both_of_tagged_variants no_variants no_tagged_variants h k = tt
+    both_of_tagged_variants no_variants (tagged_variant number layout mark parts tagged_variants) h k = absurd h
+    both_of_tagged_variants (more_variants d ts others) no_tagged_variants h k = absurd h
+    both_of_tagged_variants (more_variants d ts others) (tagged_variant number layout mark parts tagged_variants) h k =
+        (both_of_each ts parts h.0 k.0, both_of_tagged_variants others tagged_variants h.1 k.1)
 
   pub both : (t : Tree) (p : Placed) → Everywhere dl P t p → Everywhere dl Q t p → Everywhere dl Both t p
   both t p h k = ((h.0, k.0), both_within t p h.1 k.1)

@@ -13,8 +13,8 @@ use Rattle.abi_scalar.specs.Range.{numbers_of}
 use Rattle.abi_scalar.specs.Scalar.{IsNumberOf}
 use Rattle.abi_tree.specs.declared.mark.Mark.{Mark}
 use Rattle.abi_tree.specs.Bytes.{bytes_at, little, number_of}
-use Rattle.abi_tree.specs.Holding.{HoldArm, HoldParts, Holds}
-use Rattle.abi_tree.specs.Placed.{Placed, Arms, no_parts, part, layout_of, size_of, scalar as one_number, pair as two_numbers, elements, vector as lanes_of, fields, union as together, single, tagged, states as in_states}
+use Rattle.abi_tree.specs.Holding.{HoldTaggedVariant, HoldParts, Holds}
+use Rattle.abi_tree.specs.Placed.{Placed, TaggedVariants, no_parts, part, layout_of, size_of, scalar as one_number, pair as two_numbers, elements, vector as lanes_of, fields, union as together, single, tagged, states as in_states}
 use Rattle.abi_scalar.specs.Layout.{Layout}
 use Rattle.abi_tree.specs.Tag.{NamesByNiche}
 use Rattle.abi_tree.specs.Value.{Value, Values, no_values, more_values, number, two, list, variant, state, bytes}
@@ -31,8 +31,8 @@ held_length order (lanes_of layout lanes) b (list vs) h = h.0
 held_length order (fields layout mark parts) b (list vs) h = h.0
 held_length order (together layout mark parts) b (bytes content) h = h.0
 held_length order (single layout mark index parts) b (variant i vs) h = h.0
-held_length order (tagged layout mark offset tag encoding arms) b (variant i vs) h = h.0
-held_length order (in_states layout prefix offset tag arms) b (state i ps vs) h = h.0
+held_length order (tagged layout mark offset tag encoding tagged_variants) b (variant i vs) h = h.0
+held_length order (in_states layout prefix offset tag tagged_variants) b (state i ps vs) h = h.0
 held_length order p b v h = absurd h
 
 -- the bytes from the first to the last are all
@@ -68,16 +68,16 @@ pub record IsInNiche (dl : TargetDataLayout) (none some : ℕ) (inner whole : Pl
   pub offset : ℕ
   pub tag : Placed
   pub start : ℕ
-  pub arms : Arms
-  pub is : whole ≡ tagged layout mark offset tag (Niche some (record { start = none; last = none }) start) arms
+  pub tagged_variants : TaggedVariants
+  pub is : whole ≡ tagged layout mark offset tag (Niche some (record { start = none; last = none }) start) tagged_variants
   pub at : offset ≡ 0
   pub first : start ≡ 0
   pub wide : size_of tag ≡ size_of inner
   pub size : layout.size ≡ size_of inner
   pub align : layout.align.abi ≡ (layout_of inner).align.abi
   pub two : none ≡ some → ⊥
-  pub empty : (b : List ℕ) → HoldArm dl.endian arms none b no_values
-  pub full : (b : List ℕ) (vs : Values) → HoldArm dl.endian arms some b vs ↔ HoldParts dl.endian (part 0 inner no_parts) b vs
+  pub empty : (b : List ℕ) → HoldTaggedVariant dl.endian tagged_variants none b no_values
+  pub full : (b : List ℕ) (vs : Values) → HoldTaggedVariant dl.endian tagged_variants some b vs ↔ HoldParts dl.endian (part 0 inner no_parts) b vs
 
 -- what is promised of it
 module _ (dl : TargetDataLayout) (none some : ℕ) (inner whole : Placed) (h : IsInNiche dl none some inner whole) where

@@ -14,17 +14,17 @@ use Rattle.abi_scalar.specs.declared.error.LayoutCalculatorError.{LayoutCalculat
 use Rattle.abi_scalar.specs.declared.niche.Niche.{Niche}
 use Rattle.abi_scalar.specs.declared.repr.ReprOptions.{ReprOptions}
 use Rattle.abi_scalar.specs.Shape.{listed_offsets}
-use Rattle.abi_univariant.specs.declared.list_repr.ListRepr.{ListRepr}
+use Rattle.abi_univariant.specs.declared.fields_repr.FieldsRepr.{FieldsRepr}
 use Rattle.abi_univariant.specs.declared.order.NicheBias.{NicheBias}
 use Rattle.abi_univariant.specs.declared.order.NicheBias.TheVariants.{Start, End}
 use Rattle.abi_univariant.specs.declared.part.Part.{Part}
-use Rattle.abi_univariant.specs.declared.placing.ListFault.{ListFault}
+use Rattle.abi_univariant.specs.declared.placing.FieldsFault.{FieldsFault}
 use Rattle.abi_univariant.specs.Fault.{fault_in}
-use Rattle.abi_univariant.specs.List.{IsListAnswer, IsListError}
+use Rattle.abi_univariant.specs.List.{IsUnivariantAnswer, IsUnivariantError}
 use Rattle.abi_univariant.specs.ListNiche.{begins_after, greater_niche, niche_in, niche_of_part}
 use Rattle.abi_univariant.specs.Order.{IsNamedOrder, IsSortedBefore}
 use Rattle.abi_univariant.specs.Part.{part_of}
-use Rattle.abi_univariant.specs.Placement.{IsSized, cut, list_repr, own_align, place_of, prefix_align, start_of}
+use Rattle.abi_univariant.specs.Placement.{IsSized, cut, fields_repr, own_align, place_of, prefix_align, start_of}
 use Rattle.abi_univariant.specs.Run.{IsPlacedIn, IsRun, space_wanted}
 use Rattle.abi_tree.specs.Placed.{Placed, layout_of}
 use Rattle.abi_scalar.specs.Layout.{Layout}
@@ -48,23 +48,23 @@ one_order order h = by order (length_permutation (0 ∷ []) order h)
 
 module _ (dl : TargetDataLayout) (repr : ReprOptions) where
   -- the order that is named for a list of one field
-  named_alone : (kind : StructKind) → IsSized kind → (bias : NicheBias) (p : Part) (order : List ℕ) → IsNamedOrder (list_repr dl repr kind) bias (p ∷ []) order → order ≡ 0 ∷ []
+  named_alone : (kind : StructKind) → IsSized kind → (bias : NicheBias) (p : Part) (order : List ℕ) → IsNamedOrder (fields_repr dl repr kind) bias (p ∷ []) order → order ≡ 0 ∷ []
   named_alone AlwaysSized sized bias p order named =
-      either (order ≡ 0 ∷ []) (IsSortedBefore (list_repr dl repr AlwaysSized) bias (p ∷ []) order) (order ≡ 0 ∷ []) (list_repr dl repr AlwaysSized).reorderable
+      either (order ≡ 0 ∷ []) (IsSortedBefore (fields_repr dl repr AlwaysSized) bias (p ∷ []) order) (order ≡ 0 ∷ []) (fields_repr dl repr AlwaysSized).reorderable
       (λ h. h.2 ∙ ap (λ (f : List ℕ). f ++ []) (one_order h.0 h.1.permutes)) (λ e. e) named
   named_alone MaybeUnsized sized bias p order named = absurd sized
   named_alone (Prefixed size align) sized bias p order named =
-      either (order ≡ 0 ∷ []) (IsSortedBefore (list_repr dl repr (Prefixed size align)) bias (p ∷ []) order) (order ≡ 0 ∷ []) (list_repr dl repr (Prefixed size align)).reorderable
+      either (order ≡ 0 ∷ []) (IsSortedBefore (fields_repr dl repr (Prefixed size align)) bias (p ∷ []) order) (order ≡ 0 ∷ []) (fields_repr dl repr (Prefixed size align)).reorderable
       (λ h. h.2 ∙ ap (λ (f : List ℕ). f ++ []) (one_order h.0 h.1.permutes)) (λ e. e) named
 
   -- and for one of none
-  named_none : (bias : NicheBias) (order : List ℕ) → IsNamedOrder (list_repr dl repr AlwaysSized) bias [] order → order ≡ []
+  named_none : (bias : NicheBias) (order : List ℕ) → IsNamedOrder (fields_repr dl repr AlwaysSized) bias [] order → order ≡ []
   named_none bias order named =
-      either (order ≡ []) (IsSortedBefore (list_repr dl repr AlwaysSized) bias [] order) (order ≡ []) (list_repr dl repr AlwaysSized).reorderable
+      either (order ≡ []) (IsSortedBefore (fields_repr dl repr AlwaysSized) bias [] order) (order ≡ []) (fields_repr dl repr AlwaysSized).reorderable
       (λ h. h.2 ∙ ap (λ (f : List ℕ). f ++ []) (no_order h.0 h.1.permutes)) (λ e. e) named
 
 -- what the list has in the one order that is named for it
-named_run : (dl : TargetDataLayout) (repr : ListRepr) (parts : List Part) (only first order offsets : List ℕ) (size align : ℕ) (niche : Option Niche) (C : Type 0)
+named_run : (dl : TargetDataLayout) (repr : FieldsRepr) (parts : List Part) (only first order offsets : List ℕ) (size align : ℕ) (niche : Option Niche) (C : Type 0)
     → ((bias : NicheBias) (o : List ℕ) → IsNamedOrder repr bias parts o → o ≡ only) → IsNamedOrder repr Start parts first
     → ((bias : NicheBias) → IsPlacedIn dl repr bias parts only offsets size align niche → C)
     → IsRun dl repr parts first order offsets size align niche → C
@@ -116,12 +116,12 @@ pub record IsEmptyList (dl : TargetDataLayout) (repr : ReprOptions) (list : Layo
   pub align : list.align.abi ≡ max (max (own_align dl repr) (unwrap_or repr.align 0)) (prefix_align repr.pack AlwaysSized)
 
 module _ (dl : TargetDataLayout) (repr : ReprOptions) where
-  pub lone_list : (kind : StructKind) → IsSized kind → (p : Placed) (l : Layout) → IsListAnswer layout_of (λ i. i) 0 dl repr kind (p ∷ []) (Ok l)
+  pub lone_list : (kind : StructKind) → IsSized kind → (p : Placed) (l : Layout) → IsUnivariantAnswer layout_of (λ i. i) 0 dl repr kind (p ∷ []) (Ok l)
       → IsLoneList dl repr kind (layout_of p) l
   lone_list kind sized p l (order, offsets, h) =
       let asked : Part = part_of dl (layout_of p) in
       let place : ℕ = place_of repr.pack (start_of repr.pack kind) asked in
-      named_run dl (list_repr dl repr kind) (asked ∷ []) (0 ∷ []) h.named.0 order offsets l.size l.align.abi l.largest_niche
+      named_run dl (fields_repr dl repr kind) (asked ∷ []) (0 ∷ []) h.named.0 order offsets l.size l.align.abi l.largest_niche
       (IsLoneList dl repr kind (layout_of p) l)
       (λ bias o named. named_alone dl repr kind sized bias asked o named) h.named.1
       (λ bias placed.
@@ -135,9 +135,9 @@ module _ (dl : TargetDataLayout) (repr : ReprOptions) where
         niche = placed.largest ∙ greater_alone dl bias (niche_of_part place (layout_of p).largest_niche);
       }) h.named.3
 
-  pub empty_list : (l : Layout) → IsListAnswer {H = Placed} layout_of (λ i. i) 0 dl repr AlwaysSized [] (Ok l) → IsEmptyList dl repr l
+  pub empty_list : (l : Layout) → IsUnivariantAnswer {H = Placed} layout_of (λ i. i) 0 dl repr AlwaysSized [] (Ok l) → IsEmptyList dl repr l
   empty_list l (order, offsets, h) =
-      named_run dl (list_repr dl repr AlwaysSized) [] [] h.named.0 order offsets l.size l.align.abi l.largest_niche
+      named_run dl (fields_repr dl repr AlwaysSized) [] [] h.named.0 order offsets l.size l.align.abi l.largest_niche
       (IsEmptyList dl repr l) (λ bias o named. named_none dl repr bias o named) h.named.1
       (λ bias placed.
       let own : listed_offsets l.fields ≡ offsets = ap listed_offsets h.shape in
@@ -149,27 +149,27 @@ module _ (dl : TargetDataLayout) (repr : ReprOptions) where
 
 -- ---- they have no fault
 
-abbrev some_fault : ListFault → Option ListFault
+abbrev some_fault : FieldsFault → Option FieldsFault
 some_fault f = Some f
 
-no_fault : (o : Option ListFault) (f : ListFault) → o ≡ None → o ≡ Some f → ⊥
+no_fault : (o : Option FieldsFault) (f : FieldsFault) → o ≡ None → o ≡ Some f → ⊥
 no_fault o f none is = absurd (let bad : None ≡ some_fault f = sym none ∙ is in cc)
 
 module _ (dl : TargetDataLayout) (repr : ReprOptions) where
   pub no_lone_error : (p : Placed) (error : LayoutCalculatorError Placed)
-      → fault_in (list_repr dl repr AlwaysSized) (size_bound dl) (part_of dl (layout_of p) ∷ []) (0 ∷ []) ≡ None
-      → IsListError layout_of dl repr AlwaysSized (p ∷ []) error → ⊥
-  no_lone_error p error none (order, named, fault, is, told) =
+      → fault_in (fields_repr dl repr AlwaysSized) (size_bound dl) (part_of dl (layout_of p) ∷ []) (0 ∷ []) ≡ None
+      → IsUnivariantError layout_of dl repr AlwaysSized (p ∷ []) error → ⊥
+  no_lone_error p error none (order, named, fault, is, tag_distinguishes) =
       let asked : Part = part_of dl (layout_of p) in
       let one : order ≡ 0 ∷ [] = named_alone dl repr AlwaysSized tt Start asked order named in
-      no_fault (fault_in (list_repr dl repr AlwaysSized) (size_bound dl) (asked ∷ []) order) fault
-      (ap (fault_in (list_repr dl repr AlwaysSized) (size_bound dl) (asked ∷ [])) one ∙ none) is
+      no_fault (fault_in (fields_repr dl repr AlwaysSized) (size_bound dl) (asked ∷ []) order) fault
+      (ap (fault_in (fields_repr dl repr AlwaysSized) (size_bound dl) (asked ∷ [])) one ∙ none) is
 
-  pub no_empty_error : 0 < size_bound dl → (error : LayoutCalculatorError Placed) → IsListError {H = Placed} layout_of dl repr AlwaysSized [] error → ⊥
-  no_empty_error some error (order, named, fault, is, told) =
+  pub no_empty_error : 0 < size_bound dl → (error : LayoutCalculatorError Placed) → IsUnivariantError {H = Placed} layout_of dl repr AlwaysSized [] error → ⊥
+  no_empty_error some error (order, named, fault, is, tag_distinguishes) =
       let one : order ≡ [] = named_none dl repr Start order named in
-      let none : fault_in (list_repr dl repr AlwaysSized) (size_bound dl) [] [] ≡ None =
-      ap (λ n. if nat_lt n (size_bound dl) then None else Some ListFault.TooLarge) (round_multiple 0 _ (dvd-zero (2 ^ _)))
-      ∙ ap (λ b. if b then None else Some ListFault.TooLarge) (lt-ltb 0 (size_bound dl) some) in
-      no_fault (fault_in (list_repr dl repr AlwaysSized) (size_bound dl) [] order) fault
-      (ap (fault_in (list_repr dl repr AlwaysSized) (size_bound dl) []) one ∙ none) is
+      let none : fault_in (fields_repr dl repr AlwaysSized) (size_bound dl) [] [] ≡ None =
+      ap (λ n. if nat_lt n (size_bound dl) then None else Some FieldsFault.TooLarge) (round_multiple 0 _ (dvd-zero (2 ^ _)))
+      ∙ ap (λ b. if b then None else Some FieldsFault.TooLarge) (lt-ltb 0 (size_bound dl) some) in
+      no_fault (fault_in (fields_repr dl repr AlwaysSized) (size_bound dl) [] order) fault
+      (ap (fault_in (fields_repr dl repr AlwaysSized) (size_bound dl) []) one ∙ none) is

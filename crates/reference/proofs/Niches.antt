@@ -14,13 +14,13 @@ use Rattle.abi_base.specs.declared.struct_kind.StructKind.{StructKind}
 use Rattle.abi_base.specs.declared.struct_kind.StructKind.TheVariants.{AlwaysSized, MaybeUnsized, Prefixed}
 use Rattle.abi_scalar.specs.declared.niche.Niche.{Niche}
 use Rattle.abi_scalar.specs.declared.repr.ReprOptions.{ReprOptions}
-use Rattle.abi_univariant.specs.declared.list_repr.ListRepr.{ListRepr}
+use Rattle.abi_univariant.specs.declared.fields_repr.FieldsRepr.{FieldsRepr}
 use Rattle.abi_univariant.specs.declared.order.NicheBias.{NicheBias}
 use Rattle.abi_univariant.specs.declared.order.NicheBias.TheVariants.{Start, End}
 use Rattle.abi_univariant.specs.declared.part.Part.{Part}
 use Rattle.abi_univariant.specs.ListNiche.{begins_after, greater_niche, greatest_niche, niche_in, niche_of_part}
 use Rattle.abi_univariant.specs.Order.{IsNamedOrder, IsSortedBefore, rule_of, sort_key}
-use Rattle.abi_univariant.specs.Placement.{IsNonEmptyIfUnsized, in_order, list_repr, no_part, offsets_from, place_of, source_order}
+use Rattle.abi_univariant.specs.Placement.{IsNonEmptyIfUnsized, in_order, fields_repr, no_part, offsets_from, place_of, source_order}
 use Rattle.abi_univariant.specs.Run.{IsPlacedIn, IsRun, space_wanted}
 use Rattle.reference.proofs.Lists.{each_in_order}
 use Rattle.reference.proofs.Lone.{greater_alone}
@@ -38,28 +38,28 @@ module _ (dl : TargetDataLayout) (repr : ReprOptions) where
       ∙ ap (λ (is : List ℕ). is ++ (n - 1) ∷ []) (map-id (source_order (n - 1)))
 
   sorted_permutes : (kind : StructKind) (bias : NicheBias) (parts : List Part) (order : List ℕ) → IsNonEmptyIfUnsized kind (length parts)
-      → IsSortedBefore (list_repr dl repr kind) bias parts order → IsPermutation (source_order (length parts)) order
+      → IsSortedBefore (fields_repr dl repr kind) bias parts order → IsPermutation (source_order (length parts)) order
   sorted_permutes AlwaysSized bias parts order some (front, s, is) =
       subst (IsPermutation (source_order (length parts))) (sym (is ∙ append-nil front))
-      (subst (λ n. IsPermutation (source_order n) front) (length-map parts (sort_key (rule_of (list_repr dl repr AlwaysSized) bias parts))) s.permutes)
+      (subst (λ n. IsPermutation (source_order n) front) (length-map parts (sort_key (rule_of (fields_repr dl repr AlwaysSized) bias parts))) s.permutes)
   sorted_permutes (Prefixed size align) bias parts order some (front, s, is) =
       subst (IsPermutation (source_order (length parts))) (sym (is ∙ append-nil front))
-      (subst (λ n. IsPermutation (source_order n) front) (length-map parts (sort_key (rule_of (list_repr dl repr (Prefixed size align)) bias parts))) s.permutes)
+      (subst (λ n. IsPermutation (source_order n) front) (length-map parts (sort_key (rule_of (fields_repr dl repr (Prefixed size align)) bias parts))) s.permutes)
   sorted_permutes MaybeUnsized bias parts order some (front, s, is) =
       let n : ℕ = length parts in
       let front_parts : List Part = take (n - 1) parts in
-      let long : length (map (sort_key (rule_of (list_repr dl repr MaybeUnsized) bias front_parts)) front_parts) ≡ n - 1 =
-      length-map front_parts (sort_key (rule_of (list_repr dl repr MaybeUnsized) bias front_parts)) ∙ length-take-le (n - 1) parts (omega arith) in
+      let long : length (map (sort_key (rule_of (fields_repr dl repr MaybeUnsized) bias front_parts)) front_parts) ≡ n - 1 =
+      length-map front_parts (sort_key (rule_of (fields_repr dl repr MaybeUnsized) bias front_parts)) ∙ length-take-le (n - 1) parts (omega arith) in
       let moved : IsPermutation (source_order (n - 1)) front = subst (λ m. IsPermutation (source_order m) front) long s.permutes in
       subst (IsPermutation (source_order n)) (sym is)
       (subst (λ xs. IsPermutation xs (front ++ (n - 1) ∷ [])) (sym (last_apart n some))
       (IsPermutation-append_left ((n - 1) ∷ []) (source_order (n - 1)) front moved))
 
   named_permutes : (kind : StructKind) (bias : NicheBias) (parts : List Part) (order : List ℕ) → IsNonEmptyIfUnsized kind (length parts)
-      → IsNamedOrder (list_repr dl repr kind) bias parts order → IsPermutation (source_order (length parts)) order
+      → IsNamedOrder (fields_repr dl repr kind) bias parts order → IsPermutation (source_order (length parts)) order
   named_permutes kind bias parts order some named =
-      either (IsPermutation (source_order (length parts)) order) (IsSortedBefore (list_repr dl repr kind) bias parts order) (order ≡ source_order (length parts))
-      (list_repr dl repr kind).reorderable (λ h. sorted_permutes kind bias parts order some h)
+      either (IsPermutation (source_order (length parts)) order) (IsSortedBefore (fields_repr dl repr kind) bias parts order) (order ≡ source_order (length parts))
+      (fields_repr dl repr kind).reorderable (λ h. sorted_permutes kind bias parts order some h)
       (λ e. subst (IsPermutation (source_order (length parts))) (sym e) (IsPermutation-refl (source_order (length parts)))) named
 
   -- A list's niche: the greatest in an order that has each index once.
@@ -67,12 +67,12 @@ module _ (dl : TargetDataLayout) (repr : ReprOptions) where
     pub bias : NicheBias
     pub order : List ℕ
     pub permutes : IsPermutation (source_order (length parts)) order
-    pub is : niche ≡ niche_in dl (list_repr dl repr kind) bias parts order
+    pub is : niche ≡ niche_in dl (fields_repr dl repr kind) bias parts order
 
   pub run_niche : (kind : StructKind) (parts : List Part) (first order offsets : List ℕ) (size align : ℕ) (niche : Option Niche) → IsNonEmptyIfUnsized kind (length parts)
-      → IsNamedOrder (list_repr dl repr kind) Start parts first → IsRun dl (list_repr dl repr kind) parts first order offsets size align niche → HasNicheIn kind parts niche
+      → IsNamedOrder (fields_repr dl repr kind) Start parts first → IsRun dl (fields_repr dl repr kind) parts first order offsets size align niche → HasNicheIn kind parts niche
   run_niche kind parts first order offsets size align niche some named run =
-      let r : ListRepr = list_repr dl repr kind in
+      let r : FieldsRepr = fields_repr dl repr kind in
       let A : Type 0 = (order ≡ first) × IsPlacedIn dl r Start parts order offsets size align niche in
       let C : Type 0 = HasNicheIn kind parts niche in
       let found = λ (bias : NicheBias) (o : List ℕ) (is : order ≡ o) (n : IsNamedOrder r bias parts o) (h : IsPlacedIn dl r bias parts order offsets size align niche).
@@ -121,10 +121,10 @@ module _ (dl : TargetDataLayout) (bias : NicheBias) where
 
   at_start : (niche : Option Niche) (n : ℕ) → n ≡ 0 → niche_of_part n niche ≡ niche
   at_start None n e = refl
-  at_start (Some own) n e = (let same : n + own.offset ≡ own.offset = omega (arith, e) in ap (λ o. told (record own { offset = o })) same)
+  at_start (Some own) n e = (let same : n + own.offset ≡ own.offset = omega (arith, e) in ap (λ o. tag_distinguishes (record own { offset = o })) same)
     where
-      told : Niche → Option Niche
-      told x = Some x
+      tag_distinguishes : Niche → Option Niche
+      tag_distinguishes x = Some x
 
   none_niche : (from : ℕ) (qs : List Part) → count_by counts qs ≡ 0 → All HasNone qs → greatest_niche bias dl (offsets_from None from qs) qs ≡ None
   none_niche from [] none h = refl

@@ -12,7 +12,7 @@ use Rattle.std.proofs.lemmas.Nat.Gcd.{dvd-zero, dvd_of_mod-eq-zero}
 use Rattle.abi_scalar.specs.declared.repr.ReprOptions.{ReprOptions}
 use Rattle.abi_scalar.specs.Repr.{is_abi_fixed, is_c, is_simd}
 use Rattle.abi_univariant.specs.declared.part.Part.{Part}
-use Rattle.rustc_abi.specs.Laying.{randomized}
+use Rattle.rustc_abi.specs.Laying.{with_randomize_flag}
 use Rattle.reference.proofs.Rounding.{round_multiple}
 use Rattle.reference.proofs.Rows.{InARow, row_end}
 
@@ -139,7 +139,7 @@ free_flags f c v = by (bit_and f 3) (and_le_r f 3) (and_assoc 1 f 3) (and_assoc 
     by (suc (suc (suc zero))) le one two = absurd (eqb-false (bit_and f 1) 1 c (sym one))
     by (suc (suc (suc (suc n)))) le one two = absurd (omega (arith, le))
 
-pub passed_by : (repr by : ReprOptions) → (by ≡ repr) ⊎ (by ≡ randomized repr) → is_c repr ≡ false → is_simd repr ≡ false → is_abi_fixed by ≡ false
+pub passed_by : (repr by : ReprOptions) → (by ≡ repr) ⊎ (by ≡ with_randomize_flag repr) → is_c repr ≡ false → is_simd repr ≡ false → is_abi_fixed by ≡ false
 passed_by repr by (inl is) c v = ap is_abi_fixed is ∙ free_flags repr.flags.0 c v
 passed_by repr by (inr is) c v =
     ap is_abi_fixed is ∙ ap (λ n. not (n == 0)) (and_or_apart 3 repr.flags.0 16 refl) ∙ free_flags repr.flags.0 c v

@@ -19,28 +19,28 @@ use Rattle.abi_scalar.specs.Reserve.{reserved}
 use Rattle.abi_scalar.specs.Shape.{listed_offsets}
 use Rattle.abi_scalar.specs.Variant.{variant_of}
 use Rattle.abi_univariant.specs.declared.part.Part.{Part}
-use Rattle.abi_univariant.specs.declared.placing.ListFault.{ListFault}
-use Rattle.abi_univariant.specs.declared.placing.ListFault.TheVariants.{TooLarge, Unsized}
+use Rattle.abi_univariant.specs.declared.placing.FieldsFault.{FieldsFault}
+use Rattle.abi_univariant.specs.declared.placing.FieldsFault.TheVariants.{TooLarge, Unsized}
 use Rattle.abi_univariant.specs.Fault.{fault_in, fault_or_size}
-use Rattle.abi_univariant.specs.List.{IsListAnswer}
+use Rattle.abi_univariant.specs.List.{IsUnivariantAnswer}
 use Rattle.abi_univariant.specs.ListNiche.{niche_of_part}
 use Rattle.abi_univariant.specs.Part.{is_unsized, part_of}
-use Rattle.abi_univariant.specs.Placement.{cut, list_repr, own_align, place_of, size_in}
-use Rattle.abi_calc.specs.declared.enums.path.Path.{Path}
-use Rattle.abi_calc.specs.declared.enums.path.Path.TheVariants.{Several}
+use Rattle.abi_univariant.specs.Placement.{cut, fields_repr, own_align, place_of, size_in}
+use Rattle.abi_calc.specs.declared.enums.strategy.EnumStrategy.{EnumStrategy}
+use Rattle.abi_calc.specs.declared.enums.strategy.EnumStrategy.TheVariants.{Several}
 use Rattle.abi_calc.specs.Enums.Answer.{IsTypeAnswer}
-use Rattle.abi_calc.specs.Enums.Choice.{IsNicheAnswer, better}
+use Rattle.abi_calc.specs.Enums.Choice.{IsNicheAnswer, preferred_layout}
 use Rattle.abi_calc.specs.Enums.Lists.{AreListLayouts}
 use Rattle.abi_calc.specs.Enums.Niche.{beside_niche, if_niche, if_placed, if_span, layout_in_niche, needing_numbers, niche_layout, room_beside, span_of, untagged_of, variants_from, with_first, without_niche}
-use Rattle.abi_calc.specs.Enums.Path.{is_absent, is_free, path_among, path_of}
+use Rattle.abi_calc.specs.Enums.EnumStrategy.{is_absent, is_free, strategy_among, strategy_of}
 use Rattle.abi_calc.specs.Enums.Tagged.{lists_align, lists_size}
-use Rattle.abi_tree.specs.Holding.{HoldArm, HoldParts}
+use Rattle.abi_tree.specs.Holding.{HoldTaggedVariant, HoldParts}
 use Rattle.abi_tree.specs.Mark.{mark_of}
 use Rattle.abi_tree.specs.Nodes.{parts_at}
-use Rattle.abi_tree.specs.Placed.{Placed, Arms, no_parts, part, layout_of, size_of, tagged}
+use Rattle.abi_tree.specs.Placed.{Placed, TaggedVariants, no_parts, part, layout_of, size_of, tagged}
 use Rattle.abi_scalar.specs.Layout.{Layout}
 use Rattle.abi_tree.specs.Value.{Values, no_values}
-use Rattle.rustc_abi.specs.Enums.{IsEnumed, IsTagIntegerAnswer as IsAsking, arms_at, layouts_of, numbered_from}
+use Rattle.rustc_abi.specs.Enums.{IsEnumed, IsTagIntegerAnswer as IsAsking, tagged_variants_at, layouts_of, numbered_from}
 use Rattle.rustc_abi.specs.Laying.{one_scalar, placed_enum}
 use Rattle.reference.specs.Option.{IsPlainRust}
 use Rattle.reference.proofs.Lone.{empty_list, lone_list, no_empty_error, no_lone_error}
@@ -127,17 +127,17 @@ module _ (dl : TargetDataLayout) (repr : ReprOptions) (inner : Placed) (free : H
         layout_in_niche 0 (λ i. i) dl repr 0 (1, 1) (l ∷ e ∷ []) l free.niche (reserved dl free.niche 1) (variant_of l ∷ without_niche (variant_of e) ∷ [])
 
     -- beside the tag that the niche hands out, whose number names the one without fields
-    beside_tag : (none some : ℕ) (layout : Layout) (arms : Arms) → (none ≡ some → ⊥) → layout.size ≡ size_of inner → layout.align.abi ≡ (layout_of inner).align.abi
-        → ((b : List ℕ) → HoldArm dl.endian arms none b no_values) → ((b : List ℕ) (vs : Values) → HoldArm dl.endian arms some b vs ↔ HoldParts dl.endian (part 0 inner no_parts) b vs)
+    beside_tag : (none some : ℕ) (layout : Layout) (tagged_variants : TaggedVariants) → (none ≡ some → ⊥) → layout.size ≡ size_of inner → layout.align.abi ≡ (layout_of inner).align.abi
+        → ((b : List ℕ) → HoldTaggedVariant dl.endian tagged_variants none b no_values) → ((b : List ℕ) (vs : Values) → HoldTaggedVariant dl.endian tagged_variants some b vs ↔ HoldParts dl.endian (part 0 inner no_parts) b vs)
         → IsInNiche dl none some inner
-        (tagged layout (mark_of true repr) free.niche.offset (one_scalar dl (reserved dl free.niche 1).1) (Niche some (record { start = none; last = none }) (reserved dl free.niche 1).0) arms)
-    beside_tag none some layout arms apart size align empty full = record {
+        (tagged layout (mark_of true repr) free.niche.offset (one_scalar dl (reserved dl free.niche 1).1) (Niche some (record { start = none; last = none }) (reserved dl free.niche 1).0) tagged_variants)
+    beside_tag none some layout tagged_variants apart size align empty full = record {
       layout = layout;
       mark = mark_of true repr;
       offset = free.niche.offset;
       tag = one_scalar dl (reserved dl free.niche 1).1;
       start = (reserved dl free.niche 1).0;
-      arms = arms;
+      tagged_variants = tagged_variants;
       is = refl;
       at = free.offset;
       first = zero_handed dl (layout_of inner) free;
@@ -162,13 +162,13 @@ module _ (dl : TargetDataLayout) (repr : ReprOptions) (inner : Placed) (free : H
     none_first_in : (c d : ℕ) → IsInNiche dl 0 1 inner (placed_enum dl repr (c ∷ d ∷ []) ([] ∷ (inner ∷ []) ∷ []) none_first_layout)
     none_first_in c d =
         beside_tag 0 1 none_first_layout
-        (arms_at none_first_layout (mark_of true repr) 0 (without_niche (variant_of e) ∷ variant_of l ∷ []) (c ∷ d ∷ []) ([] ∷ (inner ∷ []) ∷ []))
+        (tagged_variants_at none_first_layout (mark_of true repr) 0 (without_niche (variant_of e) ∷ variant_of l ∷ []) (c ∷ d ∷ []) ([] ∷ (inner ∷ []) ∷ []))
         (λ same. absurd (omega (arith, same))) none_first_size none_first_align no_parts_there one_part_there
 
     some_first_in : (c d : ℕ) → IsInNiche dl 1 0 inner (placed_enum dl repr (c ∷ d ∷ []) ((inner ∷ []) ∷ [] ∷ []) some_first_layout)
     some_first_in c d =
         beside_tag 1 0 some_first_layout
-        (arms_at some_first_layout (mark_of true repr) 0 (variant_of l ∷ without_niche (variant_of e) ∷ []) (c ∷ d ∷ []) ((inner ∷ []) ∷ [] ∷ []))
+        (tagged_variants_at some_first_layout (mark_of true repr) 0 (variant_of l ∷ without_niche (variant_of e) ∷ []) (c ∷ d ∷ []) ((inner ∷ []) ∷ [] ∷ []))
         (λ same. absurd (omega (arith, same))) some_first_size some_first_align no_parts_there one_part_there
 
 -- ---- how it is answered
@@ -179,13 +179,13 @@ no_absent true false c = refl
 no_absent false b c = refl
 
 both_present : (free a b : Bool) → free ≡ true → a ≡ false → b ≡ false
-    → path_among free (cond (not free || not a) (0 ∷ cond (not free || not b) (1 ∷ []) []) (cond (not free || not b) (1 ∷ []) [])) ≡ Several
+    → strategy_among free (cond (not free || not a) (0 ∷ cond (not free || not b) (1 ∷ []) []) (cond (not free || not b) (1 ∷ []) [])) ≡ Several
 both_present true false false f e g = refl
 both_present true true b f e g = absurd (cc)
 both_present true false true f e g = absurd (cc)
 both_present false a b f e g = absurd (cc)
 
-abbrev fault_by : (unsized below : Bool) → Option ListFault
+abbrev fault_by : (unsized below : Bool) → Option FieldsFault
 fault_by unsized below =
     if unsized && not false then Some (Unsized 0)
     else (if not below then Some TooLarge else (if unsized && not true then Some (Unsized 0) else None))
@@ -230,7 +230,7 @@ module _ (dl : TargetDataLayout) (byte : dl.aggregate_align ≡ 0) (repr : ReprO
       ap (λ n. next_multiple_of n (2 ^ (layout_of inner).align.abi)) (let sum : place_of repr.pack 0 asked + size_of inner ≡ size_of inner = omega (arith, at_start) in sum)
       ∙ round_multiple (size_of inner) (layout_of inner).align.abi law.multiple
 
-  two_lists : (e l : Layout) → IsListAnswer {H = Placed} layout_of (λ i. i) 0 dl repr AlwaysSized [] (Ok e) → IsListAnswer layout_of (λ i. i) 0 dl repr AlwaysSized (inner ∷ []) (Ok l)
+  two_lists : (e l : Layout) → IsUnivariantAnswer {H = Placed} layout_of (λ i. i) 0 dl repr AlwaysSized [] (Ok e) → IsUnivariantAnswer layout_of (λ i. i) 0 dl repr AlwaysSized (inner ∷ []) (Ok l)
       → AreLists dl inner free e l
   two_lists e l h k =
       let none = empty_list dl repr e h in
@@ -251,13 +251,13 @@ module _ (dl : TargetDataLayout) (byte : dl.aggregate_align ≡ 0) (repr : ReprO
       some_niche : FreeNumbers → Option FreeNumbers
       some_niche n = Some n
 
-  no_error_alone : fault_in (list_repr dl repr AlwaysSized) (size_bound dl) (asked ∷ []) (0 ∷ []) ≡ None
+  no_error_alone : fault_in (fields_repr dl repr AlwaysSized) (size_bound dl) (asked ∷ []) (0 ∷ []) ≡ None
   no_error_alone =
       let parts : List Part = asked ∷ [] in
       let below : place_of repr.pack 0 asked + size_of inner < size_bound dl = omega (arith, at_start, law.bound) in
-      let small : size_in (list_repr dl repr AlwaysSized) parts (0 ∷ []) ≡ size_of inner =
+      let small : size_in (fields_repr dl repr AlwaysSized) parts (0 ∷ []) ≡ size_of inner =
       ap (λ a. next_multiple_of (place_of repr.pack 0 asked + size_of inner) (2 ^ a)) (no_least (layout_of inner).align.abi) ∙ sizes_up in
-      ap (fault_or_size (list_repr dl repr AlwaysSized) (size_bound dl) parts (0 ∷ []))
+      ap (fault_or_size (fields_repr dl repr AlwaysSized) (size_bound dl) parts (0 ∷ []))
       (no_fault_by (is_unsized (layout_of inner).backend_repr) (nat_lt (place_of repr.pack 0 asked + size_of inner) (size_bound dl)) (ap is_unsized view) (lt-ltb _ _ below))
       ∙ ap (λ n. if nat_lt n (size_bound dl) then None else Some TooLarge) small
       ∙ ap (λ b. if b then None else Some TooLarge) (lt-ltb (size_of inner) (size_bound dl) law.bound)
@@ -272,17 +272,17 @@ module _ (dl : TargetDataLayout) (byte : dl.aggregate_align ≡ 0) (repr : ReprO
       (ne_eqb (size_of inner) 0 (λ e. absurd (omega (arith, e, free.some))))
       ∙ no_absent (layout_of inner).uninhabited (not (is_unsized (layout_of inner).backend_repr)) ((layout_of inner).align.abi == 0)
 
-  abbrev IsAnswerOn : List ℕ → Path → List (List Placed) → Layout → Type 0
-  IsAnswerOn numbers path variants layout =
-      IsTypeAnswer layout_of (λ i. i) (λ i. i) (λ i. i) (λ i. i) dl repr variants true true Enabled (IsAsking dl repr) (λ items. items ≡ numbered_from 0 numbers) path (Ok layout)
+  abbrev IsAnswerOn : List ℕ → EnumStrategy → List (List Placed) → Layout → Type 0
+  IsAnswerOn numbers strategy variants layout =
+      IsTypeAnswer layout_of (λ i. i) (λ i. i) (λ i. i) (λ i. i) dl repr variants true true Enabled (IsAsking dl repr) (λ items. items ≡ numbered_from 0 numbers) strategy (Ok layout)
 
   -- the niche's layout is taken where it is smaller
-  better_is : (behind n : Layout) (niche : Option Layout) → niche ≡ Some n → n.size ≡ size_of inner → size_of inner < behind.size → better dl behind niche ≡ n
-  better_is behind n niche is size less = ap (better dl behind) is ∙ niche_taken dl behind n (omega (arith, size, less))
+  better_is : (behind n : Layout) (niche : Option Layout) → niche ≡ Some n → n.size ≡ size_of inner → size_of inner < behind.size → preferred_layout dl behind niche ≡ n
+  better_is behind n niche is size less = ap (preferred_layout dl behind) is ∙ niche_taken dl behind n (omega (arith, size, less))
 
   -- ---- `None` first
 
-  none_first_several : path_of true repr (layouts_of ([] ∷ (inner ∷ []) ∷ [])) ≡ Several
+  none_first_several : strategy_of true repr (layouts_of ([] ∷ (inner ∷ []) ∷ [])) ≡ Several
   none_first_several = both_present (is_free repr) false (is_absent (layout_of inner ∷ [])) is_rust refl not_absent
 
   none_first_niche : (found : Option Layout) → IsNicheAnswer AreListLayouts layout_of (λ i. i) (λ i. i) dl repr ([] ∷ (inner ∷ []) ∷ []) found
@@ -302,7 +302,7 @@ module _ (dl : TargetDataLayout) (byte : dl.aggregate_align ≡ 0) (repr : ReprO
       → IsInNiche dl 0 1 inner (placed_enum dl repr (c ∷ d ∷ []) ([] ∷ (inner ∷ []) ∷ []) layout)
   none_first_laid c d layout answer =
       let variants : List (List Placed) = [] ∷ (inner ∷ []) ∷ [] in
-      let b = several_is dl repr (c ∷ d ∷ []) variants layout (subst (λ path. IsAnswerOn (c ∷ d ∷ []) path variants layout) none_first_several answer) in
+      let b = several_is dl repr (c ∷ d ∷ []) variants layout (subst (λ strategy. IsAnswerOn (c ∷ d ∷ []) strategy variants layout) none_first_several answer) in
       let n = none_first_niche b.niche b.beside in
       let t = two_tagged dl repr _ [] (inner ∷ []) b.tagged b.asked in
       let behind : size_of inner < t.second.size = larger_behind dl repr t.asked (layouts_of variants) inner t.second t.second_is in
@@ -314,7 +314,7 @@ module _ (dl : TargetDataLayout) (byte : dl.aggregate_align ≡ 0) (repr : ReprO
 
   -- ---- `Some` first
 
-  some_first_several : path_of true repr (layouts_of ((inner ∷ []) ∷ [] ∷ [])) ≡ Several
+  some_first_several : strategy_of true repr (layouts_of ((inner ∷ []) ∷ [] ∷ [])) ≡ Several
   some_first_several = both_present (is_free repr) (is_absent (layout_of inner ∷ [])) false is_rust not_absent refl
 
   some_first_niche : (found : Option Layout) → IsNicheAnswer AreListLayouts layout_of (λ i. i) (λ i. i) dl repr ((inner ∷ []) ∷ [] ∷ []) found
@@ -334,7 +334,7 @@ module _ (dl : TargetDataLayout) (byte : dl.aggregate_align ≡ 0) (repr : ReprO
       → IsInNiche dl 1 0 inner (placed_enum dl repr (c ∷ d ∷ []) ((inner ∷ []) ∷ [] ∷ []) layout)
   some_first_laid c d layout answer =
       let variants : List (List Placed) = (inner ∷ []) ∷ [] ∷ [] in
-      let b = several_is dl repr (c ∷ d ∷ []) variants layout (subst (λ path. IsAnswerOn (c ∷ d ∷ []) path variants layout) some_first_several answer) in
+      let b = several_is dl repr (c ∷ d ∷ []) variants layout (subst (λ strategy. IsAnswerOn (c ∷ d ∷ []) strategy variants layout) some_first_several answer) in
       let n = some_first_niche b.niche b.beside in
       let t = two_tagged dl repr _ (inner ∷ []) [] b.tagged b.asked in
       let behind : size_of inner < t.first.size = larger_behind dl repr t.asked (layouts_of variants) inner t.first t.first_is in

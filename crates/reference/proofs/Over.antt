@@ -12,7 +12,7 @@ use Rattle.abi_base.specs.DataLayout.{IsLawfulDataLayout}
 use Rattle.abi_scalar.specs.declared.niche.Niche.{Niche}
 use Rattle.abi_scalar.specs.declared.repr.ReprOptions.{ReprOptions}
 use Rattle.abi_scalar.specs.Shape.{listed_offsets}
-use Rattle.abi_univariant.specs.declared.list_repr.ListRepr.{ListRepr}
+use Rattle.abi_univariant.specs.declared.fields_repr.FieldsRepr.{FieldsRepr}
 use Rattle.abi_univariant.specs.declared.order.NicheBias.{NicheBias}
 use Rattle.abi_univariant.specs.declared.order.NicheBias.TheVariants.{Start, End}
 use Rattle.abi_univariant.specs.declared.part.Part.{Part}
@@ -20,14 +20,14 @@ use Rattle.abi_univariant.specs.Fields.{greatest, greatest_align}
 use Rattle.abi_univariant.specs.ListNiche.{begins_after, niche_in}
 use Rattle.abi_univariant.specs.Order.{IsNamedOrder}
 use Rattle.abi_univariant.specs.Part.{part_of, parts_of as asked_of}
-use Rattle.abi_univariant.specs.Placement.{align_of as list_align, cut, list_repr, own_align, prefix_align}
+use Rattle.abi_univariant.specs.Placement.{align_of as list_align, cut, fields_repr, own_align, prefix_align}
 use Rattle.abi_univariant.specs.Run.{IsPlacedIn, IsRun, space_wanted}
 use Rattle.abi_univariant.specs.Union.{raised_to}
 use Rattle.abi_tree.specs.Nodes.{parts_at}
 use Rattle.abi_tree.specs.Placed.{Placed, layout_of, parts_in}
 use Rattle.abi_scalar.specs.Layout.{Layout}
 use Rattle.abi_tree.specs.Tree.{Trees, struct, union}
-use Rattle.rustc_abi.specs.Laying.{AreLaying, IsLaying, IsLaidList, IsListedInOrder, IsUnited, fields_fault, kind_of, ordered_fault, placed_fields, placed_together, randomized}
+use Rattle.rustc_abi.specs.Laying.{AreLaying, IsLaying, IsLaidList, IsListedInOrder, IsUnited, fields_fault, kind_of, ordered_fault, placed_fields, placed_together, with_randomize_flag}
 use Rattle.reference.specs.Words.{HasPartForEach, align_in_bytes, extent_of, most_aligned}
 use Rattle.reference.proofs.Answers.{laid_by}
 use Rattle.reference.proofs.Lists.{align_same, cut_to, extents_for, part_for_each, pow_max, pow_min}
@@ -43,7 +43,7 @@ perhaps C A P None f g h = f h
 perhaps C A P (Some s) f g h = g s h
 
 -- what the list has in each order that it may have been laid out in
-pub run_has : (dl : TargetDataLayout) (repr : ListRepr) (parts : List Part) (first order offsets : List ℕ) (size align : ℕ) (niche : Option Niche) (C : Type 0)
+pub run_has : (dl : TargetDataLayout) (repr : FieldsRepr) (parts : List Part) (first order offsets : List ℕ) (size align : ℕ) (niche : Option Niche) (C : Type 0)
     → ((bias : NicheBias) → IsPlacedIn dl repr bias parts order offsets size align niche → C)
     → IsRun dl repr parts first order offsets size align niche → C
 run_has dl repr parts first order offsets size align niche C each run =
@@ -105,7 +105,7 @@ module _ (dl : TargetDataLayout) where
 
   -- the alignment of a list without a prefix, in the words of the chapter
   list_aligned : (repr : ReprOptions) (always_sized : Bool) (ps : List Placed) (align : ℕ)
-      → align ≡ list_align (list_repr dl repr (kind_of always_sized ps)) (asked_of dl (map layout_of ps))
+      → align ≡ list_align (fields_repr dl repr (kind_of always_sized ps)) (asked_of dl (map layout_of ps))
       → 2 ^ align ≡ max (2 ^ least_align dl repr) (most_aligned (extents_for repr.pack ps))
   list_aligned repr always_sized ps align is =
       let begin : ℕ = least_align dl repr in
@@ -120,7 +120,7 @@ module _ (dl : TargetDataLayout) where
       let parts : List Part = asked_of dl (map layout_of ps) in
       let run = listed.2.named in
       ap length (ap listed_offsets listed.2.shape)
-      ∙ run_has dl (list_repr dl repr kind) parts run.0 listed.0 listed.1 layout.size layout.align.abi layout.largest_niche
+      ∙ run_has dl (fields_repr dl repr kind) parts run.0 listed.0 listed.1 layout.size layout.align.abi layout.largest_niche
       (length listed.1 ≡ length parts) (λ bias h. h.count) run.3 ∙ asked_count ps
 
   pub struct_laid : (repr : ReprOptions) (always_sized : Bool) (order : Option (List ℕ)) (all : Trees) (p : Placed)
@@ -133,9 +133,9 @@ module _ (dl : TargetDataLayout) where
       let listed = found.1 in
       let run = listed.2.named in
       let parts : List Part = asked_of dl (map layout_of ps) in
-      let high : layout.align.abi ≡ list_align (list_repr dl repr kind) parts =
-      run_has dl (list_repr dl repr kind) parts run.0 listed.0 listed.1 layout.size layout.align.abi layout.largest_niche
-      (layout.align.abi ≡ list_align (list_repr dl repr kind) parts) (λ bias h. h.alignment) run.3 in
+      let high : layout.align.abi ≡ list_align (fields_repr dl repr kind) parts =
+      run_has dl (fields_repr dl repr kind) parts run.0 listed.0 listed.1 layout.size layout.align.abi layout.largest_niche
+      (layout.align.abi ≡ list_align (fields_repr dl repr kind) parts) (λ bias h. h.alignment) run.3 in
       record {
         fields = ps;
         layout = layout;
@@ -146,7 +146,7 @@ module _ (dl : TargetDataLayout) where
       }
   struct_laid repr always_sized (Some order) all p (inr (ps, there, answer)) =
       let kind : StructKind = kind_of always_sized ps in
-      let found = laid_by (ordered_fault repr ps) (IsListedInOrder dl (randomized repr) kind order (map layout_of ps)) (placed_fields repr ps) p answer in
+      let found = laid_by (ordered_fault repr ps) (IsListedInOrder dl (with_randomize_flag repr) kind order (map layout_of ps)) (placed_fields repr ps) p answer in
       let layout : Layout = found.0 in
       let listed = found.1 in
       record {

@@ -19,15 +19,15 @@ use Rattle.abi_univariant.specs.Simd.{simd_answer}
 use Rattle.abi_univariant.specs.Fields.{greatest_size}
 use Rattle.abi_univariant.specs.Union.{CountsForView, HasView, KeepsView, union_align}
 use Rattle.abi_scalar.specs.Pair.{pair_size}
-use Rattle.abi_calc.specs.declared.enums.path.Path.{Path}
-use Rattle.abi_calc.specs.declared.enums.path.Path.TheVariants.{NoValue, OneList, Several}
+use Rattle.abi_calc.specs.declared.enums.strategy.EnumStrategy.{EnumStrategy}
+use Rattle.abi_calc.specs.declared.enums.strategy.EnumStrategy.TheVariants.{NoValue, OneList, Several}
 use Rattle.abi_calc.specs.declared.enums.payload.Payload.{Payload}
 use Rattle.abi_calc.specs.declared.enums.payload.Payload.TheVariants.{Nothing, One, Other}
 use Rattle.abi_calc.specs.Enums.Answer.{IsTypeAnswer}
 use Rattle.abi_calc.specs.Enums.Choice.{IsNicheAnswer}
 use Rattle.abi_calc.specs.Enums.Lists.{AreListLayouts}
 use Rattle.abi_calc.specs.Enums.Niche.{needing_numbers, span_of, untagged_of, view_with}
-use Rattle.abi_calc.specs.Enums.Path.{path_of, variant_at}
+use Rattle.abi_calc.specs.Enums.EnumStrategy.{strategy_of, variant_at}
 use Rattle.abi_calc.specs.Enums.Payload.{beside_tag, common_of, tagged_view}
 use Rattle.abi_calc.specs.Enums.Several.{IsAskedAnswer}
 use Rattle.abi_calc.specs.Enums.Growth.{grown_tag, start_align}
@@ -108,8 +108,8 @@ module _ (dl : TargetDataLayout) where
       (plain_tagged (Initialized (Int grown signed) by.ranged.0) (lists_size dl lists) (lists_align dl lists)
       (payloads_of dl (integer_size asked) (integer_size grown) (layouts_of variants) lists))
 
-  plain_path : (repr : ReprOptions) (numbers : List ℕ) (path : Path) (variants : List (List Placed)) (layout : Layout) → All (All IsSeenSized) variants
-      → IsTypeAnswer layout_of (λ i. i) (λ i. i) (λ i. i) (λ i. i) dl repr variants true true Enabled (IsAsking dl repr) (λ items. items ≡ numbered_from 0 numbers) path (Ok layout)
+  plain_path : (repr : ReprOptions) (numbers : List ℕ) (strategy : EnumStrategy) (variants : List (List Placed)) (layout : Layout) → All (All IsSeenSized) variants
+      → IsTypeAnswer layout_of (λ i. i) (λ i. i) (λ i. i) (λ i. i) dl repr variants true true Enabled (IsAsking dl repr) (λ items. items ≡ numbered_from 0 numbers) strategy (Ok layout)
       → IsPlain layout.backend_repr layout.size
   plain_path repr numbers NoValue variants layout all e =
       subst (λ (k : Layout). IsPlain k.backend_repr k.size) (sym (inj-answer layout (never_layout dl) e)) refl
@@ -180,7 +180,7 @@ module _ (dl : TargetDataLayout) where
         let found = laid_by (enum_fault dl repr numbers variants) (IsEnumed dl repr numbers variants) (placed_enum dl repr numbers variants) p answer in
         subst IsSeenPlain found.2
         (subst (λ (l : Layout). IsPlain l.backend_repr l.size) (sym (layout_there dl repr numbers variants found.0 found.0.variants))
-        (plain_path repr numbers (path_of true repr (layouts_of variants)) variants found.0 (variants_sized dl all variants there) found.1))
+        (plain_path repr numbers (strategy_of true repr (layouts_of variants)) variants found.0 (variants_sized dl all variants there) found.1))
     plain (coroutine prefix locals states conflicts) p (inl f) inside = absurd (cc f.2)
     plain (coroutine prefix locals states conflicts) p (inr (pres, there, inl f)) inside = absurd (cc f.2)
     plain (coroutine prefix locals states conflicts) p (inr (pres, there, inr (ps, here, answer))) inside =

@@ -20,13 +20,13 @@ use Rattle.abi_univariant.specs.Fields.{greatest, greatest_size}
 use Rattle.abi_univariant.specs.Placement.{cut, own_align, prefix_align, start_of}
 use Rattle.reference.proofs.Rounding.{round_multiple}
 use Rattle.abi_calc.specs.Enums.Lists.{align_with_all, behind_tag, tag_align}
-use Rattle.abi_calc.specs.Enums.Path.{is_free}
-use Rattle.abi_calc.specs.Enums.Tagged.{layout_seen_as, lists_align, lists_size}
+use Rattle.abi_calc.specs.Enums.EnumStrategy.{is_free}
+use Rattle.abi_calc.specs.Enums.Tagged.{layout_with_view, lists_align, lists_size}
 use Rattle.abi_tree.specs.Mark.{mark_of}
 use Rattle.abi_tree.specs.Placed.{Placed, scalar as one_number, pair as two, never as nowhere, elements, vector as lanes_of, fields, union as together, single, tagged, states}
 use Rattle.abi_scalar.specs.Layout.{Layout}
 use Rattle.abi_tree.specs.Tree.{Tree, Variants, scalar, pair, never, unit, array, vector, struct, union, enum, coroutine}
-use Rattle.rustc_abi.specs.Enums.{arms_at, discriminants_of, layouts_of}
+use Rattle.rustc_abi.specs.Enums.{tagged_variants_at, discriminants_of, layouts_of}
 use Rattle.rustc_abi.specs.Laying.{IsLaying, VariantsLaying, enum_fault, placed_enum}
 use Rattle.reference.proofs.Answers.{numbers_for}
 use Rattle.reference.specs.Words.{Extent, extent_of, largest, most_aligned, padding_needed_for, rounded_up}
@@ -35,7 +35,7 @@ use Rattle.reference.specs.CUnion.{c_union}
 use Rattle.reference.specs.Tags.{IsTagInteger, integer_extent}
 use Rattle.reference.specs.FieldEnums.{IsPlainPrimitive, IsPrimitiveEnum, LieBehindTag, primitive_enum, variant_fields, with_fields}
 use Rattle.reference.proofs.Lists.{extents_for, pow_max, rounded}
-use Rattle.reference.proofs.EnumLists.{AreListsFrom, IsTaggedBehind, LieFrom, arm_fields, arm_for_each, each_arm, lie_from, lists_are, of_tagged, seen_from}
+use Rattle.reference.proofs.EnumLists.{AreListsFrom, IsTaggedBehind, LieFrom, tagged_variant_fields, tagged_variant_for_each, each_tagged_variant, lie_from, lists_are, of_tagged, seen_from}
 
 -- ---- the C algorithm behind a tag
 
@@ -182,7 +182,7 @@ named_tag dl None numbers asked signed other some e = absurd (cc)
 -- ---- the rule
 
 not_plain : (dl : TargetDataLayout) (repr : ReprOptions) (all : Variants) → (IsPlainPrimitive repr → ⊥) → (p : Placed) → IsPrimitiveEnum dl (enum repr all) p
-not_plain dl repr all isnt (tagged layout mark offset number encoding arms) = λ plain. absurd (isnt plain)
+not_plain dl repr all isnt (tagged layout mark offset number encoding tagged_variants) = λ plain. absurd (isnt plain)
 not_plain dl repr all isnt (one_number layout s) = λ plain. absurd (isnt plain)
 not_plain dl repr all isnt (two layout parts) = λ plain. absurd (isnt plain)
 not_plain dl repr all isnt (nowhere layout mark) = λ plain. absurd (isnt plain)
@@ -191,7 +191,7 @@ not_plain dl repr all isnt (lanes_of layout lanes) = λ plain. absurd (isnt plai
 not_plain dl repr all isnt (fields layout mark parts) = λ plain. absurd (isnt plain)
 not_plain dl repr all isnt (together layout mark parts) = λ plain. absurd (isnt plain)
 not_plain dl repr all isnt (single layout mark index parts) = λ plain. absurd (isnt plain)
-not_plain dl repr all isnt (states layout prefix offset number arms) = λ plain. absurd (isnt plain)
+not_plain dl repr all isnt (states layout prefix offset number tagged_variants) = λ plain. absurd (isnt plain)
 
 module _ (dl : TargetDataLayout) (law : IsLawfulDataLayout dl) (byte : dl.aggregate_align ≡ 0) (repr : ReprOptions) (all : Variants) where
   abbrev numbers : List ℕ
@@ -215,21 +215,21 @@ module _ (dl : TargetDataLayout) (law : IsLawfulDataLayout dl) (byte : dl.aggreg
       let lists : AreListsFrom dl repr size align (v ∷ vs) b.lists =
       subst (λ k. AreListsFrom dl repr size k (v ∷ vs) b.lists) before
       (subst (λ k. AreListsFrom dl repr k (prefix_align repr.pack (behind_tag dl repr b.asked (layouts_of (v ∷ vs)))) (v ∷ vs) b.lists) start given) in
-      let whole : Layout = layout_seen_as 0 dl repr size (Initialized (Int b.asked b.signed) b.range) size b.lists b.view in
+      let whole : Layout = layout_with_view 0 dl repr size (Initialized (Int b.asked b.signed) b.range) size b.lists b.view in
       let layouts : List (VariantLayout ℕ) = map (seen_from size b.view (lists_size dl b.lists)) b.lists in
       let lie : LieFrom size layouts (v ∷ vs) = lie_from dl repr size align size b.view (lists_size dl b.lists) (v ∷ vs) b.lists plain.3 lists in
       let long : length numbers ≡ length (v ∷ vs) = numbers_for dl all (v ∷ vs) there in
-      let ess : variant_fields (arms_at whole (mark_of true repr) 0 layouts numbers (v ∷ vs)) ≡ map (map extent_of) (v ∷ vs) =
-      arm_fields dl whole (mark_of true repr) size 0 numbers (v ∷ vs) layouts long lie in (
+      let ess : variant_fields (tagged_variants_at whole (mark_of true repr) 0 layouts numbers (v ∷ vs)) ≡ map (map extent_of) (v ∷ vs) =
+      tagged_variant_fields dl whole (mark_of true repr) size 0 numbers (v ∷ vs) layouts long lie in (
         record {
-          each = arm_for_each dl whole (mark_of true repr) size 0 all (v ∷ vs) layouts there lie;
+          each = tagged_variant_for_each dl whole (mark_of true repr) size 0 all (v ∷ vs) layouts there lie;
           start = refl;
           direct = refl;
           number = (b.asked, b.signed, (refl, refl));
           named = λ some. (b.asked, b.signed, named_tag dl repr.int _ b.asked b.signed _ some b.for.3, (refl, refl));
         },
         union_of_made size align fits dl byte repr plain.3 begin v vs b.lists lists ∙ ap (primitive_enum (integer_extent dl b.asked)) (sym ess),
-        each_arm dl whole (mark_of true repr) size (LieBehindTag (integer_extent dl b.asked))
+        each_tagged_variant dl whole (mark_of true repr) size (LieBehindTag (integer_extent dl b.asked))
             (λ es. offsets_behind (integer_extent dl b.asked) es) 0 numbers (v ∷ vs) layouts long lie,
       ))
 

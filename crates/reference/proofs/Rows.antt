@@ -9,11 +9,11 @@ use Rattle.std.proofs.lemmas.List.Sorted.{All-permutation, IsPermutation-map, Is
 use Rattle.abi_base.specs.declared.data_layout.TargetDataLayout.{TargetDataLayout}
 use Rattle.abi_base.specs.declared.struct_kind.StructKind.{StructKind}
 use Rattle.abi_scalar.specs.declared.repr.ReprOptions.{ReprOptions}
-use Rattle.abi_univariant.specs.declared.list_repr.ListRepr.{ListRepr}
+use Rattle.abi_univariant.specs.declared.fields_repr.FieldsRepr.{FieldsRepr}
 use Rattle.abi_univariant.specs.declared.part.Part.{Part}
 use Rattle.abi_univariant.specs.Least.{IsPlacedBy}
 use Rattle.abi_univariant.specs.Part.{part_of, parts_of}
-use Rattle.abi_univariant.specs.Placement.{IsAllowed, KeepsTail, cut, end_from, in_order, list_repr, no_part, offsets_from, place_of, source_order, start_of}
+use Rattle.abi_univariant.specs.Placement.{IsAllowed, KeepsTail, cut, end_from, in_order, fields_repr, no_part, offsets_from, place_of, source_order, start_of}
 use Rattle.abi_tree.specs.Placed.{Parts, no_parts, part, layout_of}
 use Rattle.rustc_abi.specs.Lists.{offsets_of, types_of}
 use Rattle.reference.proofs.Rounding.{rounded_to}
@@ -34,7 +34,7 @@ allowed_cases true n P order h = h.0
 allowed_cases false n P order is = subst (λ o. IsPermutation (source_order n) o) (sym is) (IsPermutation-refl (source_order n))
 
 -- an allowed order has each index once
-pub permutes : (repr : ListRepr) (n : ℕ) (order : List ℕ) → IsAllowed repr n order → IsPermutation (source_order n) order
+pub permutes : (repr : FieldsRepr) (n : ℕ) (order : List ℕ) → IsAllowed repr n order → IsPermutation (source_order n) order
 permutes repr n order h = allowed_cases repr.reorderable n (KeepsTail repr.kind n order) order h
 
 module _ (dl : TargetDataLayout) where
@@ -101,7 +101,7 @@ module _ (dl : TargetDataLayout) where
         ordered = map (at_index parts) order;
         permuted = subst (λ xs. IsPermutation xs (map (at_index parts) order)) (in_source_order parts)
             (IsPermutation-map (at_index parts) (source_order (length (types_of parts))) order
-            (permutes (list_repr dl repr kind) (length (types_of parts)) order h.allowed));
+            (permutes (fields_repr dl repr kind) (length (types_of parts)) order h.allowed));
         row = row.0;
         extent = h.extent
             ∙ ap (λ a. next_multiple_of (end_from repr.pack (start_of repr.pack kind) (in_order (asked parts) order)) (2 ^ a)) (sym h.alignment)

@@ -19,7 +19,7 @@ use Rattle.abi_tree.specs.Nodes.{parts_at}
 use Rattle.abi_tree.specs.Placed.{Placed, Parts, no_parts, part, fields, layout_of}
 use Rattle.abi_scalar.specs.Layout.{Layout}
 use Rattle.abi_tree.specs.Tree.{Tree, Trees, scalar, pair, never, unit, array, vector, struct, union, enum, coroutine}
-use Rattle.rustc_abi.specs.Laying.{IsLaying, kind_of, randomized}
+use Rattle.rustc_abi.specs.Laying.{IsLaying, kind_of, with_randomize_flag}
 use Rattle.rustc_abi.specs.Least.{fields_of}
 use Rattle.rustc_abi.specs.Lists.{offsets_of, types_of}
 use Rattle.rustc_abi.specs.Orders.{LiesAsAsked}
@@ -119,7 +119,7 @@ struct_row dl repr always_sized None all layout mark parts h =
     row_of dl repr (kind_of always_sized (fields_of parts)) 0 parts h.0 layout.size layout.align.abi
     (nothing_before repr.pack always_sized (fields_of parts)) h.1
 struct_row dl repr always_sized (Some order) all layout mark parts h =
-    row_of dl (randomized repr) (kind_of always_sized (fields_of parts)) 0 parts order layout.size layout.align.abi
+    row_of dl (with_randomize_flag repr) (kind_of always_sized (fields_of parts)) 0 parts order layout.size layout.align.abi
     (nothing_before repr.pack always_sized (fields_of parts)) h
 
 pub struct_aligned : (dl : TargetDataLayout) (repr : ReprOptions) (always_sized : Bool) (order : Option (List ℕ)) (all : Trees) (layout : Layout) (mark : Mark) (parts : Parts)
@@ -128,7 +128,7 @@ struct_aligned dl repr always_sized None all layout mark parts h loose =
     aligned_by dl repr (kind_of always_sized (fields_of parts)) 0 parts h.0 layout.size layout.align.abi loose
     (nothing_before repr.pack always_sized (fields_of parts)) h.1
 struct_aligned dl repr always_sized (Some order) all layout mark parts h loose =
-    aligned_by dl (randomized repr) (kind_of always_sized (fields_of parts)) 0 parts order layout.size layout.align.abi loose
+    aligned_by dl (with_randomize_flag repr) (kind_of always_sized (fields_of parts)) 0 parts order layout.size layout.align.abi loose
     (nothing_before repr.pack always_sized (fields_of parts)) h
 
 -- fields at 0 are aligned, in a whole that is aligned as the greatest of them

@@ -7,10 +7,10 @@ use Rattle.abi_base.specs.declared.data_layout.TargetDataLayout.{TargetDataLayou
 use Rattle.abi_base.specs.declared.integer.Integer.{Integer}
 use Rattle.abi_base.specs.Integer.{integer_size}
 use Rattle.abi_scalar.specs.declared.repr.ReprOptions.{ReprOptions}
-use Rattle.abi_univariant.specs.List.{IsListAnswer}
+use Rattle.abi_univariant.specs.List.{IsUnivariantAnswer}
 use Rattle.abi_univariant.specs.Placement.{cut, start_of}
-use Rattle.abi_calc.specs.Enums.Choice.{IsNicheAnswer, better, takes_niche}
-use Rattle.abi_calc.specs.Enums.Discriminants.{counting_of}
+use Rattle.abi_calc.specs.Enums.Choice.{IsNicheAnswer, preferred_layout, takes_niche}
+use Rattle.abi_calc.specs.Enums.Discriminants.{counted_discriminants}
 use Rattle.abi_calc.specs.Enums.Lists.{AreListLayouts, behind_tag}
 use Rattle.abi_calc.specs.Enums.Several.{IsAskedAnswer, IsAskedFor, IsSeveralAnswer}
 use Rattle.abi_calc.specs.Enums.Tagged.{lists_align, lists_size}
@@ -31,8 +31,8 @@ pub record IsBetter (dl : TargetDataLayout) (repr : ReprOptions) (numbers : List
   pub items : List (ℕ × ℕ)
   pub are : items ≡ numbered_from 0 numbers
   pub tagged : Layout
-  pub asked : IsAskedAnswer layout_of (λ i. i) (λ i. i) 0 dl repr (IsAsking dl repr) (counting_of (λ v. v) repr (layouts_of variants) items) variants (Ok tagged)
-  pub is : layout ≡ better dl tagged niche
+  pub asked : IsAskedAnswer layout_of (λ i. i) (λ i. i) 0 dl repr (IsAsking dl repr) (counted_discriminants (λ v. v) repr (layouts_of variants) items) variants (Ok tagged)
+  pub is : layout ≡ preferred_layout dl tagged niche
 
 pub several_is : (dl : TargetDataLayout) (repr : ReprOptions) (numbers : List ℕ) (variants : List (List Placed)) (layout : Layout)
     → IsSeveralAnswer layout_of (λ i. i) (λ i. i) (λ i. i) (λ i. i) dl repr (IsAsking dl repr) variants (λ items. items ≡ numbered_from 0 numbers) (Ok layout)
@@ -53,8 +53,8 @@ pub record AreTwoTagged (dl : TargetDataLayout) (repr : ReprOptions) (values : L
   pub for : IsAskedFor dl repr (IsAsking dl repr) values asked signed
   pub first : Layout
   pub second : Layout
-  pub first_is : IsListAnswer layout_of (λ i. i) 0 dl repr (behind_tag dl repr asked (layouts_of (v ∷ w ∷ []))) v (Ok first)
-  pub second_is : IsListAnswer layout_of (λ i. i) 0 dl repr (behind_tag dl repr asked (layouts_of (v ∷ w ∷ []))) w (Ok second)
+  pub first_is : IsUnivariantAnswer layout_of (λ i. i) 0 dl repr (behind_tag dl repr asked (layouts_of (v ∷ w ∷ []))) v (Ok first)
+  pub second_is : IsUnivariantAnswer layout_of (λ i. i) 0 dl repr (behind_tag dl repr asked (layouts_of (v ∷ w ∷ []))) w (Ok second)
   pub above : max first.size second.size ≤ layout.size
   pub align : layout.align.abi ≡ lists_align dl (first ∷ second ∷ [])
 
@@ -83,7 +83,7 @@ two_tagged dl repr values v w layout (asked, signed, for, (a ∷ b ∷ [], are, 
 
 -- a field behind a tag ends behind its own size
 pub larger_behind : (dl : TargetDataLayout) (repr : ReprOptions) (asked : Integer) (layouts : List (List Layout)) (p : Placed) (list : Layout)
-    → IsListAnswer layout_of (λ i. i) 0 dl repr (behind_tag dl repr asked layouts) (p ∷ []) (Ok list) → size_of p < list.size
+    → IsUnivariantAnswer layout_of (λ i. i) 0 dl repr (behind_tag dl repr asked layouts) (p ∷ []) (Ok list) → size_of p < list.size
 larger_behind dl repr asked layouts p list h =
     let l = lone_list dl repr (behind_tag dl repr asked layouts) tt p list h in
     let begin : ℕ = start_of repr.pack (behind_tag dl repr asked layouts) in
@@ -104,5 +104,5 @@ chosen true x y e = refl
 chosen false x y e = absurd (cc)
 
 -- the layout with a niche is taken where it is smaller
-pub niche_taken : (dl : TargetDataLayout) (tagged n : Layout) → n.size < tagged.size → better dl tagged (Some n) ≡ n
+pub niche_taken : (dl : TargetDataLayout) (tagged n : Layout) → n.size < tagged.size → preferred_layout dl tagged (Some n) ≡ n
 niche_taken dl tagged n less = chosen (takes_niche dl tagged n) n tagged (or_true (nat_lt n.size tagged.size) _ (lt-ltb n.size tagged.size less))

@@ -24,15 +24,15 @@ use Rattle.abi_scalar.specs.Repr.{is_abi_fixed, is_c, is_simd}
 use Rattle.abi_scalar.specs.Shape.{listed_offsets}
 use Rattle.abi_scalar.specs.Simple.{never_layout}
 use Rattle.abi_univariant.specs.declared.part.Part.{Part}
-use Rattle.abi_univariant.specs.List.{IsListAnswer}
+use Rattle.abi_univariant.specs.List.{IsUnivariantAnswer}
 use Rattle.abi_univariant.specs.ListView.{any_unsized, list_view}
 use Rattle.abi_univariant.specs.Part.{part_of, parts_of as asked_of}
 use Rattle.abi_univariant.specs.ListNiche.{greatest_niche}
 use Rattle.abi_univariant.specs.Placement.{in_order, offsets_from, own_align, prefix_align, start_of}
-use Rattle.abi_calc.specs.declared.enums.path.Path.{Path}
-use Rattle.abi_calc.specs.declared.enums.path.Path.TheVariants.{NoValue, OneList, Several}
+use Rattle.abi_calc.specs.declared.enums.strategy.EnumStrategy.{EnumStrategy}
+use Rattle.abi_calc.specs.declared.enums.strategy.EnumStrategy.TheVariants.{NoValue, OneList, Several}
 use Rattle.abi_calc.specs.Enums.Answer.{IsTypeAnswer}
-use Rattle.abi_calc.specs.Enums.Path.{is_free, is_present, path_among, path_of, variant_at}
+use Rattle.abi_calc.specs.Enums.EnumStrategy.{is_free, is_present, strategy_among, strategy_of, variant_at}
 use Rattle.abi_tree.specs.Mark.{mark_of}
 use Rattle.abi_tree.specs.Nodes.{parts_at}
 use Rattle.abi_tree.specs.Placed.{Placed, Parts, no_parts, part, layout_of, niche_of, parts_in, size_of, never as nowhere}
@@ -40,7 +40,7 @@ use Rattle.abi_scalar.specs.Layout.{Layout}
 use Rattle.abi_tree.specs.Tree.{Tree, Trees, no_trees, more_trees, Variants, no_variants, more_variants, scalar, pair, never, unit, array, vector, struct, union, enum, coroutine}
 use Rattle.rustc_abi.specs.Enums.{IsEnumed, IsTagIntegerAnswer as IsAsking, discriminants_of, layouts_of, numbered_from}
 use Rattle.rustc_abi.specs.Everywhere.{OfEach, Within}
-use Rattle.rustc_abi.specs.Laying.{AreLaying, IsLaying, VariantsLaying, enum_fault, placed_enum, placed_fields, placed_variants, randomized}
+use Rattle.rustc_abi.specs.Laying.{AreLaying, IsLaying, VariantsLaying, enum_fault, placed_enum, placed_fields, placed_variants, with_randomize_flag}
 use Rattle.rustc_abi.specs.Least.{fields_of}
 use Rattle.rustc_abi.specs.Lists.{offsets_of}
 use Rattle.rustc_abi.specs.Orders.{LiesAsAsked}
@@ -273,7 +273,7 @@ module _ (dl : TargetDataLayout) where
       (subst (All (λ p. niche_of p ≡ niche_of field)) (sym is) (All-cons (λ p. niche_of p ≡ niche_of field) field [] refl (All-nil (λ p. niche_of p ≡ niche_of field)))))
   as_niche by kind parts (f ∷ g ∷ more) loose start is settled whole h = tt
 
-  pack_alike : (repr by : ReprOptions) → (by ≡ repr) ⊎ (by ≡ randomized repr) → by.pack ≡ repr.pack
+  pack_alike : (repr by : ReprOptions) → (by ≡ repr) ⊎ (by ≡ with_randomize_flag repr) → by.pack ≡ repr.pack
   pack_alike repr by (inl e) = ap (λ (r : ReprOptions). r.pack) e
   pack_alike repr by (inr e) = ap (λ (r : ReprOptions). r.pack) e
 
@@ -326,17 +326,17 @@ module _ (dl : TargetDataLayout) where
 
   -- ---- enums of one variant
 
-  abbrev IsAnswerOn : ReprOptions → List ℕ → Path → List (List Placed) → Layout → Type 0
-  IsAnswerOn repr numbers path variants layout =
-      IsTypeAnswer layout_of (λ i. i) (λ i. i) (λ i. i) (λ i. i) dl repr variants true true Enabled (IsAsking dl repr) (λ items. items ≡ numbered_from 0 numbers) path (Ok layout)
+  abbrev IsAnswerOn : ReprOptions → List ℕ → EnumStrategy → List (List Placed) → Layout → Type 0
+  IsAnswerOn repr numbers strategy variants layout =
+      IsTypeAnswer layout_of (λ i. i) (λ i. i) (λ i. i) (λ i. i) dl repr variants true true Enabled (IsAsking dl repr) (λ items. items ≡ numbered_from 0 numbers) strategy (Ok layout)
 
   lone_path : (repr : ReprOptions) (v : List Placed) → is_free repr ≡ true
-      → (path_of true repr (layouts_of (v ∷ [])) ≡ NoValue) ⊎ (path_of true repr (layouts_of (v ∷ [])) ≡ OneList 0)
+      → (strategy_of true repr (layouts_of (v ∷ [])) ≡ NoValue) ⊎ (strategy_of true repr (layouts_of (v ∷ [])) ≡ OneList 0)
   lone_path repr v free = by (is_present repr (variant_at (layouts_of (v ∷ [])) 0))
     where
-      by : (b : Bool) → (path_among (is_free repr) (if b then 0 ∷ [] else []) ≡ NoValue) ⊎ (path_among (is_free repr) (if b then 0 ∷ [] else []) ≡ OneList 0)
-      by true = inr (ap (λ f. path_among f (0 ∷ [])) free)
-      by false = inl (ap (λ f. path_among f []) free)
+      by : (b : Bool) → (strategy_among (is_free repr) (if b then 0 ∷ [] else []) ≡ NoValue) ⊎ (strategy_among (is_free repr) (if b then 0 ∷ [] else []) ≡ OneList 0)
+      by true = inr (ap (λ f. strategy_among f (0 ∷ [])) free)
+      by false = inl (ap (λ f. strategy_among f []) free)
 
   -- it has no value, or is that variant's list
   abbrev IsLone : ReprOptions → List Placed → Layout → Type 0
@@ -346,8 +346,8 @@ module _ (dl : TargetDataLayout) where
       × (layout.backend_repr ≡ list_view dl (is_abi_fixed repr) layout.size layout.align.abi (asked_of dl (map layout_of v)) (listed_offsets layout.fields))
       × HasNicheIn dl repr AlwaysSized (asked_of dl (map layout_of v)) layout.largest_niche)
 
-  lone_answer : (repr : ReprOptions) (numbers : List ℕ) (path : Path) (v : List Placed) (layout : Layout) → (path ≡ NoValue) ⊎ (path ≡ OneList 0)
-      → IsAnswerOn repr numbers path (v ∷ []) layout → IsLone repr v layout
+  lone_answer : (repr : ReprOptions) (numbers : List ℕ) (strategy : EnumStrategy) (v : List Placed) (layout : Layout) → (strategy ≡ NoValue) ⊎ (strategy ≡ OneList 0)
+      → IsAnswerOn repr numbers strategy (v ∷ []) layout → IsLone repr v layout
   lone_answer repr numbers NoValue v layout at e = inl (inj-answer layout (never_layout dl) e)
   lone_answer repr numbers (OneList zero) v layout at e =
       inr (subst (λ (l : Layout). (l.variants ≡ Single 0) × (length (listed_offsets l.fields) ≡ length v)
@@ -355,11 +355,11 @@ module _ (dl : TargetDataLayout) where
       × HasNicheIn dl repr AlwaysSized (asked_of dl (map layout_of v)) l.largest_niche) (sym e.2)
       (refl, list_count dl repr AlwaysSized v e.0 e.1, lone_view e.0 e.1, lone_niche e.0 e.1))
     where
-      lone_niche : (l : Layout) → IsListAnswer layout_of (λ i. i) 0 dl repr AlwaysSized v (Ok l) → HasNicheIn dl repr AlwaysSized (asked_of dl (map layout_of v)) l.largest_niche
+      lone_niche : (l : Layout) → IsUnivariantAnswer layout_of (λ i. i) 0 dl repr AlwaysSized v (Ok l) → HasNicheIn dl repr AlwaysSized (asked_of dl (map layout_of v)) l.largest_niche
       lone_niche l (order, offsets, h) =
           run_niche dl repr AlwaysSized (asked_of dl (map layout_of v)) h.named.0 order offsets l.size l.align.abi l.largest_niche tt h.named.1 h.named.3
 
-      lone_view : (l : Layout) → IsListAnswer layout_of (λ i. i) 0 dl repr AlwaysSized v (Ok l)
+      lone_view : (l : Layout) → IsUnivariantAnswer layout_of (λ i. i) 0 dl repr AlwaysSized v (Ok l)
           → l.backend_repr ≡ list_view dl (is_abi_fixed repr) l.size l.align.abi (asked_of dl (map layout_of v)) (listed_offsets l.fields)
       lone_view l (order, offsets, h) =
           h.view ∙ ap (list_view dl (is_abi_fixed repr) l.size l.align.abi (asked_of dl (map layout_of v))) (sym (ap listed_offsets h.shape))
@@ -471,7 +471,7 @@ module _ (dl : TargetDataLayout) where
         let answer : IsEnumed dl repr numbers (ps ∷ []) (Ok layout) = subst (λ vs. IsEnumed dl repr numbers vs (Ok layout)) same h in
         subst (λ vs. Holds (placed_enum dl repr numbers vs layout)) (sym same)
         (given ps layout layout.variants refl here (λ alone.
-        lone_answer repr numbers (path_of true repr (layouts_of (ps ∷ []))) ps layout (lone_path repr ps (free_alone alone)) answer))
+        lone_answer repr numbers (strategy_of true repr (layouts_of (ps ∷ []))) ps layout (lone_path repr ps (free_alone alone)) answer))
 
     lone_transparent : (p : Placed) → IsLaying dl (enum repr lone) (Ok p) → Holds p
     lone_transparent p (inl f) = absurd (cc f.2)

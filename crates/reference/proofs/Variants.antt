@@ -29,17 +29,17 @@ use Rattle.abi_scalar.specs.Simple.{never_layout}
 use Rattle.abi_univariant.specs.declared.part.Part.{Part}
 use Rattle.abi_univariant.specs.Fields.{greatest}
 use Rattle.abi_univariant.specs.Least.{IsPlacedBy, align_by}
-use Rattle.abi_univariant.specs.List.{IsListAnswer}
+use Rattle.abi_univariant.specs.List.{IsUnivariantAnswer}
 use Rattle.abi_univariant.specs.Part.{part_of, parts_of as asked_of}
-use Rattle.abi_univariant.specs.Placement.{align_of as list_align, list_repr, own_align, prefix_align, start_of}
-use Rattle.abi_calc.specs.declared.enums.path.Path.{Path}
-use Rattle.abi_calc.specs.declared.enums.path.Path.TheVariants.{NoValue, OneList, Several}
+use Rattle.abi_univariant.specs.Placement.{align_of as list_align, fields_repr, own_align, prefix_align, start_of}
+use Rattle.abi_calc.specs.declared.enums.strategy.EnumStrategy.{EnumStrategy}
+use Rattle.abi_calc.specs.declared.enums.strategy.EnumStrategy.TheVariants.{NoValue, OneList, Several}
 use Rattle.abi_calc.specs.Enums.Answer.{IsTypeAnswer}
-use Rattle.abi_calc.specs.Enums.Choice.{IsNicheAnswer, better, takes_niche}
+use Rattle.abi_calc.specs.Enums.Choice.{IsNicheAnswer, preferred_layout, takes_niche}
 use Rattle.abi_calc.specs.Enums.Growth.{moved}
 use Rattle.abi_calc.specs.Enums.Lists.{AreListLayouts, behind_tag}
 use Rattle.abi_calc.specs.Enums.Niche.{if_list, if_niche, if_placed, if_span, needing_numbers, layout_in_niche, niche_layout, room_beside, span_count, span_of, untagged_of, variants_from}
-use Rattle.abi_calc.specs.Enums.Path.{path_of}
+use Rattle.abi_calc.specs.Enums.EnumStrategy.{strategy_of}
 use Rattle.abi_calc.specs.Enums.Several.{IsAskedAnswer, IsSeveralAnswer}
 use Rattle.abi_calc.specs.Enums.Tagged.{lists_align}
 use Rattle.abi_scalar.specs.Niche.{available_in}
@@ -47,10 +47,10 @@ use Rattle.abi_scalar.specs.Reserve.{reserved}
 use Rattle.abi_tree.specs.declared.mark.Mark.{Mark}
 use Rattle.abi_tree.specs.Mark.{mark_of}
 use Rattle.abi_tree.specs.Nodes.{parts_at}
-use Rattle.abi_tree.specs.Placed.{Placed, Parts, no_parts, part, Arms, no_arms, arm, layout_of, size_of, scalar as one_number, pair as two, never as nowhere, elements, vector as lanes_of, fields, union as together, single, tagged, states as in_states}
+use Rattle.abi_tree.specs.Placed.{Placed, Parts, no_parts, part, TaggedVariants, no_tagged_variants, tagged_variant, layout_of, size_of, scalar as one_number, pair as two, never as nowhere, elements, vector as lanes_of, fields, union as together, single, tagged, states as in_states}
 use Rattle.abi_scalar.specs.Layout.{Layout}
 use Rattle.abi_tree.specs.Tree.{Tree, Variants, scalar, pair, never, unit, array, vector, struct, union, enum, coroutine}
-use Rattle.rustc_abi.specs.Enums.{IsEnumed, IsTagIntegerAnswer as IsAsking, arms_at, discriminants_of, layouts_of, numbered_from}
+use Rattle.rustc_abi.specs.Enums.{IsEnumed, IsTagIntegerAnswer as IsAsking, tagged_variants_at, discriminants_of, layouts_of, numbered_from}
 use Rattle.rustc_abi.specs.Laying.{IsLaying, enum_fault, one_scalar, placed_enum, placed_together, placed_variants}
 use Rattle.rustc_abi.specs.Orders.{LiesAsAsked}
 use Rattle.rustc_abi.specs.Least.{fields_of}
@@ -96,14 +96,14 @@ AreBelow whole [] = ⊤
 AreBelow whole (ps ∷ variants) = (most_aligned (map extent_of ps) ≤ whole) × AreBelow whole variants
 
 module _ (dl : TargetDataLayout) (repr : ReprOptions) (loose : repr.pack ≡ None) where
-  list_above : (kind : StructKind) (ps : List Placed) (l : Layout) → IsListAnswer layout_of (λ i. i) 0 dl repr kind ps (Ok l)
+  list_above : (kind : StructKind) (ps : List Placed) (l : Layout) → IsUnivariantAnswer layout_of (λ i. i) 0 dl repr kind ps (Ok l)
       → most_aligned (map extent_of ps) ≤ 2 ^ l.align.abi
   list_above kind ps l (order, offsets, h) =
       let parts : List Part = asked_of dl (map layout_of ps) in
       let run = h.named in
-      let high : l.align.abi ≡ list_align (list_repr dl repr kind) parts =
-      run_has dl (list_repr dl repr kind) parts run.0 order offsets l.size l.align.abi l.largest_niche
-      (l.align.abi ≡ list_align (list_repr dl repr kind) parts) (λ bias own. own.alignment) run.3 in
+      let high : l.align.abi ≡ list_align (fields_repr dl repr kind) parts =
+      run_has dl (fields_repr dl repr kind) parts run.0 order offsets l.size l.align.abi l.largest_niche
+      (l.align.abi ≡ list_align (fields_repr dl repr kind) parts) (λ bias own. own.alignment) run.3 in
       let begin : ℕ = max (max (own_align dl repr) (unwrap_or repr.align 0)) (prefix_align repr.pack kind) in
       let is : 2 ^ l.align.abi ≡ max (2 ^ begin) (most_aligned (extents_for repr.pack ps)) =
       ap (λ a. 2 ^ a) high ∙ align_same dl repr.pack begin ps in
@@ -197,7 +197,7 @@ niche_above dl repr variants found n loose is (inr (inl h)) = absurd (no_layout 
 niche_above dl repr variants found n loose is (inr (inr (free, lists, are, e))) =
     above_by dl repr AlwaysSized variants lists n loose are (beside_niche dl repr variants lists n (sym e ∙ is))
 
-pub better_has : (dl : TargetDataLayout) (P : Layout → Type 0) (l : Layout) (niche : Option Layout) → P l → ((n : Layout) → niche ≡ Some n → P n) → P (better dl l niche)
+pub better_has : (dl : TargetDataLayout) (P : Layout → Type 0) (l : Layout) (niche : Option Layout) → P l → ((n : Layout) → niche ≡ Some n → P n) → P (preferred_layout dl l niche)
 better_has dl P l None own other = own
 better_has dl P l (Some n) own other = by (takes_niche dl l n)
   where
@@ -235,22 +235,22 @@ module _ (dl : TargetDataLayout) (repr : ReprOptions) (numbers : List ℕ) (vari
 
 -- ---- the arms
 
-abbrev ArmsBelow : (whole : ℕ) → Arms → Type 0
-ArmsBelow whole no_arms = ⊤
-ArmsBelow whole (arm number layout mark parts arms) = (most_aligned (map extent_of (fields_of parts)) ≤ whole) × ArmsBelow whole arms
+abbrev TaggedVariantsBelow : (whole : ℕ) → TaggedVariants → Type 0
+TaggedVariantsBelow whole no_tagged_variants = ⊤
+TaggedVariantsBelow whole (tagged_variant number layout mark parts tagged_variants) = (most_aligned (map extent_of (fields_of parts)) ≤ whole) × TaggedVariantsBelow whole tagged_variants
 
 some_of : (os : List ℕ) (ps : List Placed) → most_aligned (map extent_of (fields_of (parts_at os ps))) ≤ most_aligned (map extent_of ps)
 some_of [] ps = aligned_some (map extent_of ps)
 some_of (o ∷ os) [] = omega arith
 some_of (o ∷ os) (p ∷ ps) = omega (arith, some_of os ps)
 
-arms_below : (bound : ℕ) (whole : Layout) (mark : Mark) (i : ℕ) (layouts : List (VariantLayout ℕ)) (numbers : List ℕ) (variants : List (List Placed))
-    → AreBelow bound variants → ArmsBelow bound (arms_at whole mark i layouts numbers variants)
-arms_below bound whole mark i [] numbers variants h = tt
-arms_below bound whole mark i (l ∷ layouts) [] variants h = tt
-arms_below bound whole mark i (l ∷ layouts) (n ∷ numbers) [] h = tt
-arms_below bound whole mark i (l ∷ layouts) (n ∷ numbers) (ps ∷ variants) h =
-    (omega (arith, h.0, some_of l.field_offsets ps), arms_below bound whole mark (i + 1) layouts numbers variants h.1)
+tagged_variants_below : (bound : ℕ) (whole : Layout) (mark : Mark) (i : ℕ) (layouts : List (VariantLayout ℕ)) (numbers : List ℕ) (variants : List (List Placed))
+    → AreBelow bound variants → TaggedVariantsBelow bound (tagged_variants_at whole mark i layouts numbers variants)
+tagged_variants_below bound whole mark i [] numbers variants h = tt
+tagged_variants_below bound whole mark i (l ∷ layouts) [] variants h = tt
+tagged_variants_below bound whole mark i (l ∷ layouts) (n ∷ numbers) [] h = tt
+tagged_variants_below bound whole mark i (l ∷ layouts) (n ∷ numbers) (ps ∷ variants) h =
+    (omega (arith, h.0, some_of l.field_offsets ps), tagged_variants_below bound whole mark (i + 1) layouts numbers variants h.1)
 
 -- ---- offsets that were moved
 
@@ -322,14 +322,14 @@ module _ (dl : TargetDataLayout) where
       let same : o ≡ old = eqb-true o old is in dvd_trans (2 ^ a) (subst (λ n. 2 ^ a ∣ n) same fits) divides
   moved_by old new a o false is divides fits = fits
 
-  behind_aligned : (repr : ReprOptions) (kind : StructKind) (old new whole : ℕ) → repr.pack ≡ None → old ∣ new → (arms : Arms)
-      → AreMovedLists dl repr kind (moved old new) arms → ArmsBelow whole arms → AreAlignedIn whole arms
-  behind_aligned repr kind old new whole loose divides no_arms h below = tt
-  behind_aligned repr kind old new whole loose divides (arm number layout mark parts arms) h below = (
+  behind_aligned : (repr : ReprOptions) (kind : StructKind) (old new whole : ℕ) → repr.pack ≡ None → old ∣ new → (tagged_variants : TaggedVariants)
+      → AreMovedLists dl repr kind (moved old new) tagged_variants → TaggedVariantsBelow whole tagged_variants → AreAlignedIn whole tagged_variants
+  behind_aligned repr kind old new whole loose divides no_tagged_variants h below = tt
+  behind_aligned repr kind old new whole loose divides (tagged_variant number layout mark parts tagged_variants) h below = (
     each_aligned dl whole parts
         (moved_fit (moved old new) whole (λ a o le fits. moved_by old new a o (o == old) refl divides fits) parts h.0.0 h.0.3 below.0
         (list_fits repr kind parts h.0.0 h.0.1 loose h.0.2)) below.0,
-    behind_aligned repr kind old new whole loose divides arms h.1 below.1,
+    behind_aligned repr kind old new whole loose divides tagged_variants h.1 below.1,
   )
 
   -- ---- beside a niche
@@ -339,24 +339,24 @@ module _ (dl : TargetDataLayout) where
   multiple_by false place width whole size align by (inl h) = subst (λ n. 2 ^ align ∣ n) (sym h.0) (dvd-zero (2 ^ align))
   multiple_by false place width whole size align by (inr h) = subst (λ n. 2 ^ align ∣ n) (sym h.0) (rounded_to (place + width) align).multiple
 
-  beside_aligned : (repr : ReprOptions) (place width size untagged from whole : ℕ) → repr.pack ≡ None → (arms : Arms)
-      → AreListsBeside dl repr place width size untagged from arms → ArmsBelow whole arms → AreAlignedIn whole arms
-  beside_aligned repr place width size untagged from whole loose no_arms h below = tt
-  beside_aligned repr place width size untagged from whole loose (arm number layout mark parts arms) h below =
+  beside_aligned : (repr : ReprOptions) (place width size untagged from whole : ℕ) → repr.pack ≡ None → (tagged_variants : TaggedVariants)
+      → AreListsBeside dl repr place width size untagged from tagged_variants → TaggedVariantsBelow whole tagged_variants → AreAlignedIn whole tagged_variants
+  beside_aligned repr place width size untagged from whole loose no_tagged_variants h below = tt
+  beside_aligned repr place width size untagged from whole loose (tagged_variant number layout mark parts tagged_variants) h below =
       let align : ℕ = align_by dl repr AlwaysSized (types_of parts) in
       let step : 2 ^ align ∣ h.0.0 = multiple_by (from == untagged) place width size h.0.2 align h.0.0 h.0.5 in (
         each_aligned dl whole parts
             (moved_fit (λ o. h.0.0 + o) (2 ^ align)
             (λ a o le fits. dvd-add (2 ^ a) (dvd_trans (2 ^ a) (power_divides a align le) step) fits) parts h.0.1 h.0.4
             (list_aligned repr AlwaysSized parts loose) (list_fits repr AlwaysSized parts h.0.1 h.0.2 loose h.0.3)) below.0,
-        beside_aligned repr place width size untagged (from + 1) whole loose arms h.1 below.1,
+        beside_aligned repr place width size untagged (from + 1) whole loose tagged_variants h.1 below.1,
       )
 
   -- ---- of each enum
 
   -- the variants beside a tag, or beside a niche
   abbrev AreAlignedBeside : Placed → Type 0
-  AreAlignedBeside (tagged layout mark offset tag encoding arms) = AreAlignedIn (2 ^ layout.align.abi) arms
+  AreAlignedBeside (tagged layout mark offset tag encoding tagged_variants) = AreAlignedIn (2 ^ layout.align.abi) tagged_variants
   AreAlignedBeside _ = ⊤
 
   module _ (repr : ReprOptions) (all : Variants) (variants : List (List Placed)) where
@@ -369,13 +369,13 @@ module _ (dl : TargetDataLayout) where
         let most : integer_size h.0 ≤ integer_size tag.0 = omega (arith, h.3, tag.1) in
         let divides : integer_size h.0 ∣ size_of (one_scalar dl s) = subst (λ n. integer_size h.0 ∣ n) (sym tag.1) (integer_divides h.0 tag.0 most) in
         behind_aligned repr _ (integer_size h.0) (size_of (one_scalar dl s)) (2 ^ layout.align.abi) loose divides _ h.4
-        (arms_below (2 ^ layout.align.abi) layout (mark_of true repr) 0 layouts (discriminants_of all) variants below)
+        (tagged_variants_below (2 ^ layout.align.abi) layout (mark_of true repr) 0 layouts (discriminants_of all) variants below)
     of_variants layout (Multiple s (Niche untagged span start) field layouts) loose below tag h =
         beside_aligned repr _ _ _ untagged 0 (2 ^ layout.align.abi) loose _ h
-        (arms_below (2 ^ layout.align.abi) layout (mark_of true repr) 0 layouts (discriminants_of all) variants below)
+        (tagged_variants_below (2 ^ layout.align.abi) layout (mark_of true repr) 0 layouts (discriminants_of all) variants below)
 
-    by_path : (path : Path) (layout : Layout)
-        → IsTypeAnswer layout_of (λ i. i) (λ i. i) (λ i. i) (λ i. i) dl repr variants true true Enabled (IsAsking dl repr) (λ items. items ≡ numbered_from 0 (discriminants_of all)) path (Ok layout)
+    by_path : (strategy : EnumStrategy) (layout : Layout)
+        → IsTypeAnswer layout_of (λ i. i) (λ i. i) (λ i. i) (λ i. i) dl repr variants true true Enabled (IsAsking dl repr) (λ items. items ≡ numbered_from 0 (discriminants_of all)) strategy (Ok layout)
         → HasLeastLists dl (enum repr all) (placed_enum dl repr (discriminants_of all) variants layout)
         → AreAlignedBeside (placed_enum dl repr (discriminants_of all) variants layout)
     by_path NoValue layout e h =
@@ -391,7 +391,7 @@ module _ (dl : TargetDataLayout) where
       let numbers = discriminants_of all in
       let found = laid_by (enum_fault dl repr numbers variants) (IsEnumed dl repr numbers variants) (placed_enum dl repr numbers variants) p answer in
       subst (λ q. HasLeastLists dl (enum repr all) q → AreAlignedBeside q) found.2
-      (λ own. by_path repr all variants (path_of true repr (layouts_of variants)) found.0 found.1 own) h
+      (λ own. by_path repr all variants (strategy_of true repr (layouts_of variants)) found.0 found.1 own) h
 
 -- ---- of each type
 
@@ -405,8 +405,8 @@ enum_aligned dl repr all (elements layout count element) h beside = tt
 enum_aligned dl repr all (lanes_of layout lanes) h beside = tt
 enum_aligned dl repr all (together layout mark parts) h beside = tt
 enum_aligned dl repr all (fields layout mark parts) h beside = tt
-enum_aligned dl repr all (tagged layout mark offset tag encoding arms) h beside = λ loose. beside
-enum_aligned dl repr all (in_states layout prefix offset tag arms) h beside = tt
+enum_aligned dl repr all (tagged layout mark offset tag encoding tagged_variants) h beside = λ loose. beside
+enum_aligned dl repr all (in_states layout prefix offset tag tagged_variants) h beside = tt
 
 pub known_aligned : (dl : TargetDataLayout) → IsLawfulDataLayout dl → (t : Tree) (p : Placed) → IsLaying dl t (Ok p) → LiesAsAsked dl t p → HasLeastLists dl t p → IsAligned t p
 known_aligned dl law (struct repr always_sized order all) p h asked lists =

@@ -24,24 +24,24 @@ use Rattle.abi_scalar.specs.Simple.{never_layout}
 use Rattle.abi_scalar.specs.View.{union_view}
 use Rattle.abi_univariant.specs.declared.part.Part.{Part}
 use Rattle.abi_univariant.specs.Array.{elements_layout}
-use Rattle.abi_univariant.specs.List.{IsListAnswer}
+use Rattle.abi_univariant.specs.List.{IsUnivariantAnswer}
 use Rattle.abi_univariant.specs.ListView.{any_unsized, bulky_parts, bulky_view, kept_view, list_view, pair_view, part_at, two_view}
 use Rattle.abi_univariant.specs.declared.order.NicheBias.TheVariants.{Start}
 use Rattle.abi_univariant.specs.Part.{is_unsized, part_of, parts_of as asked_of}
-use Rattle.abi_univariant.specs.Placement.{IsAllowed, IsNonEmptyIfUnsized, list_repr, start_of}
+use Rattle.abi_univariant.specs.Placement.{IsAllowed, IsNonEmptyIfUnsized, fields_repr, start_of}
 use Rattle.abi_univariant.specs.Simd.{after, element_scalar, if_below, is_tight, lanes_answer, simd_align, simd_answer, simd_view, vector_layout}
 use Rattle.abi_univariant.specs.Union.{CountsForView, HasView, KeepsView}
 use Rattle.abi_scalar.specs.Pair.{pair_size}
 use Rattle.abi_calc.specs.Coroutine.Layout.{IsStateTag}
-use Rattle.abi_calc.specs.declared.enums.path.Path.{Path}
-use Rattle.abi_calc.specs.declared.enums.path.Path.TheVariants.{NoValue, OneList, Several}
+use Rattle.abi_calc.specs.declared.enums.strategy.EnumStrategy.{EnumStrategy}
+use Rattle.abi_calc.specs.declared.enums.strategy.EnumStrategy.TheVariants.{NoValue, OneList, Several}
 use Rattle.abi_calc.specs.declared.enums.payload.Payload.{Payload}
 use Rattle.abi_calc.specs.declared.enums.payload.Payload.TheVariants.{Nothing, One, Other}
 use Rattle.abi_calc.specs.Enums.Answer.{IsTypeAnswer}
 use Rattle.abi_calc.specs.Enums.Choice.{IsNicheAnswer}
 use Rattle.abi_calc.specs.Enums.Lists.{AreListLayouts}
 use Rattle.abi_calc.specs.Enums.Niche.{needing_numbers, span_of, untagged_of, view_with}
-use Rattle.abi_calc.specs.Enums.Path.{path_of, variant_at}
+use Rattle.abi_calc.specs.Enums.EnumStrategy.{strategy_of, variant_at}
 use Rattle.abi_calc.specs.Enums.Payload.{beside_tag, common_of, tagged_view}
 use Rattle.abi_calc.specs.Enums.Several.{IsAskedAnswer}
 use Rattle.abi_calc.specs.Enums.Growth.{grown_tag, start_align}
@@ -55,7 +55,7 @@ use Rattle.abi_tree.specs.Placed.{Placed, layout_of, size_of, vector as placed_v
 use Rattle.abi_scalar.specs.Layout.{Layout}
 use Rattle.abi_tree.specs.Tree.{Tree, Trees, no_trees, more_trees, Variants, no_variants, more_variants, scalar, pair, never, unit, array, vector, struct, union, enum, coroutine}
 use Rattle.rustc_abi.specs.Enums.{IsEnumed, IsTagIntegerAnswer as IsAsking, discriminants_of, layouts_of, numbered_from}
-use Rattle.rustc_abi.specs.Laying.{AreLaying, IsLaying, IsLaidList, IsListedInOrder, IsUnited, VariantsLaying, enum_fault, fields_fault, kind_of, one_scalar, ordered_fault, placed_enum, placed_fields, placed_together, placed_variants, randomized, IsCoroutineOf, coroutine_fault, lanes_of, placed_by, placed_coroutine, vector_answer}
+use Rattle.rustc_abi.specs.Laying.{AreLaying, IsLaying, IsLaidList, IsListedInOrder, IsUnited, VariantsLaying, enum_fault, fields_fault, kind_of, one_scalar, ordered_fault, placed_enum, placed_fields, placed_together, placed_variants, with_randomize_flag, IsCoroutineOf, coroutine_fault, lanes_of, placed_by, placed_coroutine, vector_answer}
 use Rattle.rustc_abi.specs.Coroutines.{IsCoroutined}
 use Rattle.rustc_abi.specs.Error.{Follows, lay_error, named}
 use Rattle.rustc_abi.specs.declared.error.LayError.{LayError}
@@ -171,13 +171,13 @@ module _ (dl : TargetDataLayout) where
   all_sized [] h = refl
   all_sized (p ∷ ps) h = ap₂ (λ a b. a || b) (All-head IsSeenSized p ps h) (all_sized ps (All-tail IsSeenSized p ps h))
 
-  pub plain_answer : (repr : ReprOptions) (kind : StructKind) (ps : List Placed) (l : Layout) → All IsSeenSized ps → IsListAnswer layout_of (λ i. i) 0 dl repr kind ps (Ok l)
+  pub plain_answer : (repr : ReprOptions) (kind : StructKind) (ps : List Placed) (l : Layout) → All IsSeenSized ps → IsUnivariantAnswer layout_of (λ i. i) 0 dl repr kind ps (Ok l)
       → IsPlain l.backend_repr l.size
   plain_answer repr kind ps l all (order, offsets, h) =
       subst (λ v. IsPlain v l.size) (sym h.view)
       (plain_list dl (is_abi_fixed repr) l.size l.align.abi (asked_of dl (map layout_of ps)) offsets (all_sized ps all))
 
-  list_sized : (repr : ReprOptions) (kind : StructKind) (ps : List Placed) (l : Layout) → All IsSeenSized ps → IsListAnswer layout_of (λ i. i) 0 dl repr kind ps (Ok l)
+  list_sized : (repr : ReprOptions) (kind : StructKind) (ps : List Placed) (l : Layout) → All IsSeenSized ps → IsUnivariantAnswer layout_of (λ i. i) 0 dl repr kind ps (Ok l)
       → is_unsized l.backend_repr ≡ false
   list_sized repr kind ps l all h = plain_sized l.backend_repr l.size (plain_answer repr kind ps l all h)
 
@@ -200,7 +200,7 @@ module _ (dl : TargetDataLayout) where
     pub layout : Layout
     pub are : AreLaying dl all (Ok fields)
     pub by : ReprOptions
-    pub alike : (by ≡ repr) ⊎ (by ≡ randomized repr)
+    pub alike : (by ≡ repr) ⊎ (by ≡ with_randomize_flag repr)
     pub offsets : List ℕ
     pub at : listed_offsets layout.fields ≡ offsets
     pub count : length (listed_offsets layout.fields) ≡ length fields
@@ -233,13 +233,13 @@ module _ (dl : TargetDataLayout) where
         is = found.2;
       }
   struct_seen repr always_sized (Some order) all p (inr (ps, there, answer)) =
-      let found = laid_by (ordered_fault repr ps) (IsListedInOrder dl (randomized repr) (kind_of always_sized ps) order (map layout_of ps)) (placed_fields repr ps) p answer in
+      let found = laid_by (ordered_fault repr ps) (IsListedInOrder dl (with_randomize_flag repr) (kind_of always_sized ps) order (map layout_of ps)) (placed_fields repr ps) p answer in
       let l = found.1.1 in
       record {
         fields = ps;
         layout = found.0;
         are = there;
-        by = randomized repr;
+        by = with_randomize_flag repr;
         alike = inr refl;
         offsets = found.1.0;
         at = ap listed_offsets l.shape;
@@ -250,8 +250,8 @@ module _ (dl : TargetDataLayout) where
         niche = record {
           bias = Start;
           order = order;
-          permutes = permutes (list_repr dl (randomized repr) (kind_of always_sized ps)) (length (asked_of dl (map layout_of ps))) order
-              (subst (λ n. IsAllowed (list_repr dl (randomized repr) (kind_of always_sized ps)) n order) (sym (length-map (map layout_of ps) (λ f. part_of dl f))) l.named.0);
+          permutes = permutes (fields_repr dl (with_randomize_flag repr) (kind_of always_sized ps)) (length (asked_of dl (map layout_of ps))) order
+              (subst (λ n. IsAllowed (fields_repr dl (with_randomize_flag repr) (kind_of always_sized ps)) n order) (sym (length-map (map layout_of ps) (λ f. part_of dl f))) l.named.0);
           is = l.named.1.largest;
         };
         is = found.2;
@@ -329,8 +329,8 @@ module _ (dl : TargetDataLayout) where
   at_index (v ∷ vs) zero all = All-head (All IsSeenSized) v vs all
   at_index (v ∷ vs) (suc i) all = at_index vs i (All-tail (All IsSeenSized) v vs all)
 
-  on_path : (repr : ReprOptions) (numbers : List ℕ) (path : Path) (variants : List (List Placed)) (layout : Layout) → All (All IsSeenSized) variants
-      → IsTypeAnswer layout_of (λ i. i) (λ i. i) (λ i. i) (λ i. i) dl repr variants true true Enabled (IsAsking dl repr) (λ items. items ≡ numbered_from 0 numbers) path (Ok layout)
+  on_path : (repr : ReprOptions) (numbers : List ℕ) (strategy : EnumStrategy) (variants : List (List Placed)) (layout : Layout) → All (All IsSeenSized) variants
+      → IsTypeAnswer layout_of (λ i. i) (λ i. i) (λ i. i) (λ i. i) dl repr variants true true Enabled (IsAsking dl repr) (λ items. items ≡ numbered_from 0 numbers) strategy (Ok layout)
       → is_unsized layout.backend_repr ≡ false
   on_path repr numbers NoValue variants layout all e = ap seen (inj-answer layout (never_layout dl) e)
   on_path repr numbers (OneList i) variants layout all e =
@@ -433,7 +433,7 @@ module _ (dl : TargetDataLayout) where
         let numbers = discriminants_of all in
         let found = laid_by (enum_fault dl repr numbers variants) (IsEnumed dl repr numbers variants) (placed_enum dl repr numbers variants) p answer in
         ap (λ q. seen (layout_of q)) (sym found.2) ∙ ap seen (layout_there dl repr numbers variants found.0 found.0.variants)
-        ∙ on_path repr numbers (path_of true repr (layouts_of variants)) variants found.0 (variants_sized all variants there) found.1
+        ∙ on_path repr numbers (strategy_of true repr (layouts_of variants)) variants found.0 (variants_sized all variants there) found.1
     sized (coroutine prefix locals states conflicts) p (inl f) = absurd (cc f.2)
     sized (coroutine prefix locals states conflicts) p (inr (pres, there, inl f)) = absurd (cc f.2)
     sized (coroutine prefix locals states conflicts) p (inr (pres, there, inr (ps, here, answer))) = ap is_unsized (coroutine_there pres ps states conflicts p answer)

@@ -18,12 +18,12 @@ use Rattle.abi_scalar.specs.Range.{full_range}
 use Rattle.abi_scalar.specs.Variant.{variant_of}
 use Rattle.abi_univariant.specs.Array.{elements_layout}
 use Rattle.abi_univariant.specs.Fields.{greatest}
-use Rattle.abi_univariant.specs.List.{IsListAnswer}
+use Rattle.abi_univariant.specs.List.{IsUnivariantAnswer}
 use Rattle.abi_univariant.specs.ListNiche.{niche_of_part}
 use Rattle.abi_univariant.specs.Placement.{cut, own_align, prefix_align}
 use Rattle.abi_calc.specs.Coroutine.Lists.{default_repr}
-use Rattle.abi_calc.specs.Enums.Choice.{IsNicheAnswer, better}
-use Rattle.abi_calc.specs.Enums.Discriminants.{IsAskedWith, counting_of}
+use Rattle.abi_calc.specs.Enums.Choice.{IsNicheAnswer, preferred_layout}
+use Rattle.abi_calc.specs.Enums.Discriminants.{IsAskedWith, counted_discriminants}
 use Rattle.abi_calc.specs.Enums.Lists.{AreListLayouts, behind_tag}
 use Rattle.abi_calc.specs.Enums.Niche.{beside_niche, if_niche, if_placed, if_span, needing_numbers, niche_layout, room_beside, span_of, untagged_of, with_first}
 use Rattle.abi_calc.specs.Enums.Several.{IsAskedFor}
@@ -96,7 +96,7 @@ pub record AreTwoLists (repr : ReprOptions) (first second align : ℕ) (a b : La
   pub niche : b.largest_niche ≡ Some free_numbers
 
 abbrev IsListOf : ReprOptions → Placed → Layout → Type 0
-IsListOf repr p l = IsListAnswer layout_of (λ i. i) 0 default_data_layout repr AlwaysSized (p ∷ []) (Ok l)
+IsListOf repr p l = IsUnivariantAnswer layout_of (λ i. i) 0 default_data_layout repr AlwaysSized (p ∷ []) (Ok l)
 
 -- the alignment of a list of fields that are aligned to a byte
 abbrev list_exponent : ReprOptions → ℕ
@@ -219,9 +219,9 @@ wide_integer least greatest with =
 
 -- the tag has four bytes, since 65536 is no number of two
 four_asked : (items : List (ℕ × ℕ)) (asked : Integer) (signed : Bool) → items ≡ numbered_from 0 wide_numbers
-    → IsAskedFor default_data_layout halved (IsAsking default_data_layout halved) (counting_of (λ v. v) halved (layouts_of beside_byte) items) asked signed → asked ≡ I32
+    → IsAskedFor default_data_layout halved (IsAsking default_data_layout halved) (counted_discriminants (λ v. v) halved (layouts_of beside_byte) items) asked signed → asked ≡ I32
 four_asked items asked signed are for =
-    let own = subst (λ its. IsAskedFor default_data_layout halved (IsAsking default_data_layout halved) (counting_of (λ v. v) halved (layouts_of beside_byte) its) asked signed) are for in
+    let own = subst (λ its. IsAskedFor default_data_layout halved (IsAsking default_data_layout halved) (counted_discriminants (λ v. v) halved (layouts_of beside_byte) its) asked signed) are for in
     ap (λ (x : Integer × Bool). x.0) own.3 ∙ wide_integer own.0 own.1 own.2
 
 abbrev IsSeveralOf : ReprOptions → Layout → Type 0
@@ -232,7 +232,7 @@ pub halved_align : (layout : Layout) → IsSeveralOf halved layout → 2 ≤ lay
 halved_align layout h =
     let b = several_is default_data_layout halved wide_numbers beside_byte layout h in
     let t = two_tagged default_data_layout halved _ (a_byte ∷ []) (flags ∷ []) b.tagged b.asked in
-    let is : layout ≡ b.tagged = b.is ∙ ap (better default_data_layout b.tagged) (halved_niche b.niche b.beside) in
+    let is : layout ≡ b.tagged = b.is ∙ ap (preferred_layout default_data_layout b.tagged) (halved_niche b.niche b.beside) in
     let asked : t.asked ≡ I32 = four_asked b.items t.asked t.signed b.are t.for in
     let second = lone_list default_data_layout halved (behind_tag default_data_layout halved t.asked (layouts_of beside_byte)) tt flags t.second t.second_is in
     let tag : integer_align default_data_layout t.asked ≡ 2 = ap (integer_align default_data_layout) asked in
@@ -248,7 +248,7 @@ plain_align layout h =
     let n = plain_niche b.niche b.beside in
     let behind : 2 < t.second.size = larger_behind default_data_layout default_repr t.asked (layouts_of beside_byte) flags t.second t.second_is in
     let less : n.0.size < b.tagged.size = omega (arith, behind, t.above, n.2) in
-    let is : layout ≡ n.0 = b.is ∙ ap (better default_data_layout b.tagged) n.1 ∙ niche_taken default_data_layout b.tagged n.0 less in
+    let is : layout ≡ n.0 = b.is ∙ ap (preferred_layout default_data_layout b.tagged) n.1 ∙ niche_taken default_data_layout b.tagged n.0 less in
     ap (λ (l : Layout). l.align.abi) is ∙ n.3
 
 pub wide_has : (repr : ReprOptions) (P : ℕ → Type 0) → ((layout : Layout) → IsSeveralOf repr layout → P layout.align.abi)

@@ -63,7 +63,7 @@ IsForeign repr = (is_c repr ≡ true) ⊎ IsSome repr.int
 -- some variant is left: the enum isn't laid out as a type without values
 abbrev pub HasVariant : Placed → Type 0
 HasVariant (single layout mark index parts) = ⊤
-HasVariant (tagged layout mark offset tag encoding arms) = ⊤
+HasVariant (tagged layout mark offset tag encoding tagged_variants) = ⊤
 HasVariant _ = ⊥
 
 -- such a representation; or Rust's own, a variant that is left, and discriminants of a byte

@@ -2,7 +2,7 @@
 use Rattle.std.specs.Prelude.{◌≡◌, ℕ, ◌+◌, ◌≤◌, ⊤, List, [], ◌∷◌, None, IsPermutation}
 use Rattle.std.specs.Int.{◌∣◌}
 use Rattle.abi_tree.specs.Tree.{Tree, struct, union, enum}
-use Rattle.abi_tree.specs.Placed.{Placed, Parts, no_parts, part, Arms, no_arms, arm, fields, single, tagged, parts_in, size_of}
+use Rattle.abi_tree.specs.Placed.{Placed, Parts, no_parts, part, TaggedVariants, no_tagged_variants, tagged_variant, fields, single, tagged, parts_in, size_of}
 use Rattle.reference.specs.Words.{HasPartForEach, align_in_bytes}
 
 -- each offset is a multiple of the field's alignment, and the type's alignment is at least the field's
@@ -12,9 +12,9 @@ ArePartsAligned whole (part offset placed parts) =
     (align_in_bytes placed ∣ offset) × (align_in_bytes placed ≤ whole) × ArePartsAligned whole parts
 
 -- the same of each variant's fields
-abbrev pub AreAlignedIn : (whole : ℕ) → Arms → Type 0
-AreAlignedIn whole no_arms = ⊤
-AreAlignedIn whole (arm number layout mark parts arms) = ArePartsAligned whole parts × AreAlignedIn whole arms
+abbrev pub AreAlignedIn : (whole : ℕ) → TaggedVariants → Type 0
+AreAlignedIn whole no_tagged_variants = ⊤
+AreAlignedIn whole (tagged_variant number layout mark parts tagged_variants) = ArePartsAligned whole parts × AreAlignedIn whole tagged_variants
 
 -- of structs, unions and enums that aren't packed
 abbrev pub IsAligned : Tree → Placed → Type 0
@@ -22,8 +22,8 @@ IsAligned (struct repr always_sized order all) placed = repr.pack ≡ None → A
 IsAligned (union repr all) placed = repr.pack ≡ None → ArePartsAligned (align_in_bytes placed) (parts_in placed)
 IsAligned (enum repr all) (single layout mark index parts) =
     repr.pack ≡ None → ArePartsAligned (align_in_bytes (single layout mark index parts)) parts
-IsAligned (enum repr all) (tagged layout mark offset tag encoding arms) =
-    repr.pack ≡ None → AreAlignedIn (align_in_bytes (tagged layout mark offset tag encoding arms)) arms
+IsAligned (enum repr all) (tagged layout mark offset tag encoding tagged_variants) =
+    repr.pack ≡ None → AreAlignedIn (align_in_bytes (tagged layout mark offset tag encoding tagged_variants)) tagged_variants
 IsAligned _ placed = ⊤
 
 -- where each field begins and how many bytes it has

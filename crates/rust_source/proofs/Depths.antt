@@ -10,7 +10,7 @@ use Rattle.rust_source.specs.Cursor.{comma_passed, fault, is_done, is_next, is_k
 use Rattle.rust_source.specs.Operators.{next_operator}
 use Rattle.rust_source.specs.Reading.{read_on}
 use Rattle.rust_source.specs.Syntax.{ArgumentRead, ExprRead, SegmentRead, TypeRead, cast, tuple, type_list}
-use Rattle.rust_source.specs.Terms.{Readers, Known, argument_more, arguments_from, arguments_on, cast_from, choice_read, choice_with, done, expr_from, expr_on, expr_read, expr_with, readers, operand, path_from, path_on, fault_next, segment_read, tuple_behind, tuple_on, type_read, type_next, values_from}
+use Rattle.rust_source.specs.Terms.{Readers, Known, argument_more, arguments_from, arguments_on, cast_from, choice_read, choice_with, done, expr_from, expr_on, expr_read, expr_with, readers, operand, parameter_type, parameter_types_from, path_from, path_on, fault_next, segment_read, tuple_behind, tuple_on, type_read, type_next, values_from}
 use Rattle.rust_source.proofs.Turns.{none_left, turns}
 
 pub type_less : (depth_left left : ℕ) (c : Cursor) (names : Known) → left + 1 ≡ depth_left → type_read depth_left c names ≡ type_next (readers left) c names
@@ -49,6 +49,12 @@ module _ (R : Readers) (n i : ℕ) where
 
   pub tuple_done : (all : List TypeRead) (c : Cursor) (names : Known) → n ≤ i → tuple_behind R (n - i) all c names ≡ done (tuple (type_list all)) names
   tuple_done all c names past = ap (λ k. tuple_behind R k all c names) (none_left n i past)
+
+  pub parameters_more : (all : List TypeRead) (c : Cursor) (names : Known) → i < n → parameter_types_from R (n - i) all c names ≡ (if is_done c then done all names else read_on (λ (a : List TypeRead × Cursor) ns. read_on (λ d ms. parameter_types_from R (n - (i + 1)) a.0 d ms) (comma_passed a.1, ns)) (parameter_type R all c names))
+  parameters_more all c names more = ap (λ k. parameter_types_from R k all c names) (turns n i more)
+
+  pub parameters_done : (all : List TypeRead) (c : Cursor) (names : Known) → n ≤ i → parameter_types_from R (n - i) all c names ≡ done all names
+  parameters_done all c names past = ap (λ k. parameter_types_from R k all c names) (none_left n i past)
 
   pub values_more : (all : List ExprRead) (c : Cursor) (names : Known) → i < n → values_from R (n - i) all c names ≡ (if is_done c then done all names else read_on (λ (e : ExprRead × Cursor) ns. read_on (λ d ms. values_from R (n - (i + 1)) (all ++ e.0 ∷ []) d ms) (comma_passed e.1, ns)) (R.expr_in c names))
   values_more all c names more = ap (λ k. values_from R k all c names) (turns n i more)

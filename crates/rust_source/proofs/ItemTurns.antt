@@ -1,5 +1,5 @@
 -- A turn of the loops over attributes and items, and what stands at their ends.
-use Rattle.std.proofs.Common.{◌≡◌, ℕ, zero, suc, ◌+◌, ◌-◌, ◌<◌, ◌≤◌, Bool, false, true, List, Ok, Err, refl, ap, arith}
+use Rattle.std.proofs.Common.{◌≡◌, ℕ, zero, suc, ◌+◌, ◌-◌, ◌<◌, ◌≤◌, Bool, codes, false, true, List, Ok, Err, refl, ap, arith}
 use Rattle.std.specs.Prelude.{if◌then◌else◌}
 use Rattle.rust_source.specs.declared.item.Repr.{Repr}
 use Rattle.rust_source.specs.declared.reader.attributes.Attributes.{Attributes}
@@ -12,7 +12,8 @@ use Rattle.rust_source.specs.Cfg.{Noted, count_from, counting, predicate_read, p
 use Rattle.rust_source.specs.Cursor.{comma_passed, fault, is_done, is_next, passed}
 use Rattle.rust_source.specs.Fields.{field_more, fields_from, variant_more, variants_behind}
 use Rattle.rust_source.specs.Items.{FieldRead, VariantRead}
-use Rattle.rust_source.specs.KnownAttributes.{is_other_trait, other_trait_from}
+use Rattle.std.specs.Str.{bytes_eq}
+use Rattle.rust_source.specs.KnownAttributes.{copy_from, is_other_trait, other_trait_from}
 use Rattle.rust_source.specs.Reading.{read_on, then_read, word_text}
 use Rattle.rust_source.specs.Repr.{word_more, words_from}
 use Rattle.rust_source.specs.Terms.{done}
@@ -30,6 +31,12 @@ traits_more n i c more = ap (λ k. other_trait_from k c) (turns n i more)
 
 pub traits_done : (n i : ℕ) (c : Cursor) → n ≤ i → other_trait_from (n - i) c ≡ false
 traits_done n i c past = ap (λ k. other_trait_from k c) (none_left n i past)
+
+pub copy_more : (n i : ℕ) (c : Cursor) → i < n → copy_from (n - i) c ≡ (if bytes_eq (word_text c) (codes "Copy") then true else copy_from (n - (i + 1)) (passed c 1))
+copy_more n i c more = ap (λ k. copy_from k c) (turns n i more)
+
+pub copy_done : (n i : ℕ) (c : Cursor) → n ≤ i → copy_from (n - i) c ≡ false
+copy_done n i c done = ap (λ k. copy_from k c) (none_left n i done)
 
 module _ (t : CfgTarget) where
   pub predicate_less : (depth_left left : ℕ) (c : Cursor) (known : Noted) → left + 1 ≡ depth_left → predicate_read t depth_left c known ≡ predicate_with t (predicate_read t left) c known

@@ -13,7 +13,7 @@ use Rattle.rust_source.specs.declared.reader.literals.Number.TheVariants as numb
 use Rattle.rust_source.specs.declared.tokens.token.Bracket.TheVariants as bracket
 use Rattle.rust_source.specs.Cfg.{Noted, predicate_read}
 use Rattle.rust_source.specs.Cursor.{behind_group, comma_passed, expected, fault, inside, is_done, is_next, passed, place}
-use Rattle.rust_source.specs.KnownAttributes.{is_among, known_names, names_other_trait}
+use Rattle.rust_source.specs.KnownAttributes.{is_among, known_names, names_copy, names_other_trait}
 use Rattle.rust_source.specs.Reading.{read_on, read_as, then_read, word_text}
 use Rattle.rust_source.specs.Repr.{asks, misplaced, next_number, with_repr}
 use Rattle.rust_source.specs.Simple.{most_nested}
@@ -52,6 +52,7 @@ none_said = record {
   };
   valid_range = None;
   fault = None;
+  derives_copy = false;
   has_helpers = false;
   unknown = None;
 }
@@ -91,7 +92,9 @@ simple_said rules said name i =
     if bytes_eq name (codes "repr") then Ok (repr_said said (with_repr said.repr i))
     else (if bytes_eq name (codes "rustc_layout_scalar_valid_range") && rules.is_trusted
     then read_as (λ r. record said { valid_range = Some r }) (range_read i)
-    else Ok (record said { has_helpers = said.has_helpers || (bytes_eq name (codes "derive") && names_other_trait i) }))
+    else (if bytes_eq name (codes "derive")
+    then Ok (record said { derives_copy = said.derives_copy || names_copy i; has_helpers = said.has_helpers || names_other_trait i })
+    else Ok said))
 
 -- where the first attribute stands that isn't known and that no `derive` before it may have brought in, with the one
 -- that is next

@@ -38,6 +38,7 @@ item_of_module standing said w = record {
   repr = said.repr;
   valid_range = said.valid_range;
   unknown_attribute = said.unknown;
+  derives_copy = said.derives_copy;
   kind = w.kind;
 }
 

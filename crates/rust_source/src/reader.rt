@@ -20,6 +20,7 @@ mod passing;
 mod paths;
 mod repeated;
 mod repr;
+mod signatures;
 mod types;
 mod uses;
 mod visibility;

@@ -2,9 +2,9 @@
 
 -- the layouts that the calculator gives keep the laws of nodes: of lists, unions, elements, vectors, pairs and variants; of enums; of the prefix fields and the tag of a coroutine
 pub mod StateLawsLemmas
--- a coroutine keeps its values: its states' arms; the whole
-pub mod StateArmsLemmas
--- a coroutine keeps its values: its states' arms; the whole
+-- a coroutine keeps its values: its states' tagged variants; the whole
+pub mod StateTaggedVariantsLemmas
+-- a coroutine keeps its values: its states' tagged variants; the whole
 pub mod StatesLemmas
 -- states whose parts lie apart fit together; when a coroutine is flagged
 pub mod StatePlacesLemmas

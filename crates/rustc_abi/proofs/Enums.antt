@@ -4,14 +4,14 @@
 pub mod DiscriminantLemmas
 -- the layouts that the calculator gives keep the laws of nodes: of lists, unions, elements, vectors, pairs and variants; of enums; of the prefix fields and the tag of a coroutine
 pub mod EnumPlacesLemmas
--- an enum told apart by a tag keeps its values
+-- an enum distinguished by a tag keeps its values
 pub mod TaggedLemmas
--- an enum told apart by a niche of its untagged variant keeps its values
+-- an enum distinguished by a niche of its untagged variant keeps its values
 pub mod InNicheLemmas
 -- views and niches of tags are true of bytes
 pub mod TagViewLemmas
--- the arms of an enum: fields that the calculator lays apart fit together, beside the tag and inside the whole
-pub mod ArmsLemmas
+-- the tagged variants of an enum: fields that the calculator lays apart fit together, beside the tag and inside the whole
+pub mod TaggedVariantsLemmas
 -- the layout of an enum keeps its variants' values: beside a tag, in a niche, and where one variant is left or none
 pub mod EnumLemmas
 -- the layout of an enum keeps its variants' values: beside a tag, in a niche, and where one variant is left or none
@@ -25,7 +25,7 @@ pub mod PresentLemmas
 -- what the calculator's answer to an enum keeps, whichever way it is laid out
 pub mod CalculatedLemmas
 -- nodes for variants beside a tag
-pub mod ArmNodesLemmas
+pub mod TaggedVariantNodesLemmas
 -- how enums are laid out, once the fields of their variants are
 pub mod AddedEnumLemmas
 -- how the fields of variants are laid out, variant by variant

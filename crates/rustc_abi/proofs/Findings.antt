@@ -1,5 +1,5 @@
 -- Findings: small inputs for which what the Rust crate answers breaks what it promises, or what its callers assume. docs/FINDINGS.md
--- tells each in words, and how the crate's answer was seen.
+-- says each in words, and how the crate's answer was seen.
 use Rattle.std.proofs.Common.{◌≡◌, ◌≢◌, ℕ, ◌<◌, ◌≤◌, ◌&&◌, if◌then◌else◌, List, [], ◌∷◌, true, false, nat_le, nat_lt, Option, Some, None, Result, Ok, Err, arith, refl, ap, ⊎_elim}
 use Rattle.std.proofs.Math.Pow.{pow_mono}
 use Rattle.std.proofs.lemmas.Bool.{cases_lt}

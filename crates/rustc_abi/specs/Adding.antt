@@ -6,18 +6,18 @@ use Rattle.abi_scalar.specs.declared.variants.Variants.{Variants as LayoutVarian
 use Rattle.abi_scalar.specs.declared.variants.Variants.TheVariants.{Empty, Single as OneVariant, Multiple}
 use Rattle.abi_scalar.specs.declared.repr.ReprOptions.{ReprOptions}
 use Rattle.abi_scalar.specs.Lawful.{IsLawfulLayout}
-use Rattle.abi_scalar.specs.Scalar.{IsReadable}
+use Rattle.abi_scalar.specs.Scalar.{IsWellFormed}
 use Rattle.rustc_abi.specs.declared.error.LayError.{LayError}
 use Rattle.rustc_abi.specs.declared.error.LayError.TheVariants.{OutOfMemory}
 use Rattle.abi_tree.specs.declared.node.Node.{Node}
 use Rattle.abi_tree.specs.Tree.{Tree, array, vector, struct, union, enum, coroutine, Trees, no_trees, more_trees, trees, Variants, no_variants, more_variants}
-use Rattle.abi_tree.specs.Placed.{Placed, layout_of, size_of, Arms}
+use Rattle.abi_tree.specs.Placed.{Placed, layout_of, size_of, TaggedVariants}
 use Rattle.abi_scalar.specs.Layout.{Layout}
 use Rattle.abi_tree.specs.Fits.{Fits}
-use Rattle.abi_tree.specs.Nodes.{types_in, placed_at, arms_in, Keeps}
+use Rattle.abi_tree.specs.Nodes.{types_in, placed_at, tagged_variants_in, Keeps}
 use Rattle.abi_tree.specs.Well.{AreWell, all_at}
 use Rattle.rustc_abi.specs.Inside.{VariantsInside}
-use Rattle.abi_calc.specs.Enums.Path.{variant_at}
+use Rattle.abi_calc.specs.Enums.EnumStrategy.{variant_at}
 use Rattle.abi_tree.specs.Laws.{have_lists, have_places, sizes_at}
 use Rattle.rustc_abi.specs.Enums.{discriminants_of}
 use Rattle.rustc_abi.specs.Laying.{one_scalar, IsLaying, AreLaying, VariantsLaying}
@@ -98,17 +98,17 @@ pub record AreVariantsAdded (dl : TargetDataLayout) (old new : List Node) (child
   pub exact : VariantsLaying dl all (Ok (variants_in new children))
   pub fits : VariantsFit dl all (variants_in new children)
 
--- A node for each variant beside a tag was put, and each node that was there kept: these variants are the arms, with
+-- A node for each variant beside a tag was put, and each node that was there kept: these variants are the tagged variants, with
 -- their layouts and marks, and their nodes have these sizes and list their fields one by one.
-pub record AreArms (old new : List Node) (sizes : List ℕ) (variants : List (ℕ × ℕ)) (arms : Arms) : Type 0 where
+pub record AreTaggedVariants (old new : List Node) (sizes : List ℕ) (variants : List (ℕ × ℕ)) (tagged_variants : TaggedVariants) : Type 0 where
   pub kept : Keeps (types_in old) (types_in new)
   pub well : AreWell old → AreWell new
   pub there : All (λ v. v.1 < length new) variants
-  pub meant : arms_in (types_in new) variants ≡ arms
+  pub meant : tagged_variants_in (types_in new) variants ≡ tagged_variants
   pub sized : sizes_at (types_in new) (map (λ v. v.1) variants) ≡ sizes
   pub listed : have_lists (types_in new) (map (λ v. v.1) variants) ≡ true
 
--- the whole's own fields have their places, and so have those of each variant that a tag tells apart
+-- the whole's own fields have their places, and so have those of each variant that a tag distinguishes
 abbrev pub HavePlaces : TargetDataLayout → Layout → List (List Placed) → LayoutVariants ℕ ℕ → Type 0
 HavePlaces dl layout variants Empty = have_places layout.size layout.fields [] ≡ true
 HavePlaces dl layout variants (OneVariant i) = have_places layout.size layout.fields (map size_of (variant_at variants i)) ≡ true
@@ -122,9 +122,9 @@ HasVariants count (OneVariant i) = i < count
 HasVariants count (Multiple tag encoding field layouts) = length layouts ≡ count
 
 -- the tag, where there is one, can be asked for its numbers
-abbrev pub HasReadableTag : TargetDataLayout → LayoutVariants ℕ ℕ → Type 0
-HasReadableTag dl (Multiple tag encoding field layouts) = IsReadable dl tag
-HasReadableTag dl _ = ⊤
+abbrev pub HasWellFormedTag : TargetDataLayout → LayoutVariants ℕ ℕ → Type 0
+HasWellFormedTag dl (Multiple tag encoding field layouts) = IsWellFormed dl tag
+HasWellFormedTag dl _ = ⊤
 
 abbrev mutual
   -- how many nodes a tree has

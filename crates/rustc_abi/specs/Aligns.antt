@@ -24,8 +24,8 @@ use Rattle.abi_tree.specs.Placed.{union as together, single, tagged, states as p
 use Rattle.abi_tree.specs.Placed.{element_of, layout_of, size_of}
 use Rattle.rustc_abi.specs.Coroutines.{conflicts_of}
 use Rattle.rustc_abi.specs.Enums.{IsTagIntegerAnswer, counted, discriminants_of, layouts_of}
-use Rattle.rustc_abi.specs.Laying.{AreLaying, kind_of, randomized}
-use Rattle.rustc_abi.specs.Least.{fields_of, fields_of_arms}
+use Rattle.rustc_abi.specs.Laying.{AreLaying, kind_of, with_randomize_flag}
+use Rattle.rustc_abi.specs.Least.{fields_of, fields_of_tagged_variants}
 use Rattle.rustc_abi.specs.Lists.{types_of}
 
 -- how its type is aligned, as an exponent of two
@@ -35,7 +35,7 @@ abi_align_of placed = (layout_of placed).align.abi
 -- the repr of a struct's list: where an order is handed in, one under which fields may lie in any order
 abbrev pub repr_with : (order : Option (List ℕ)) → ReprOptions → ReprOptions
 repr_with None repr = repr
-repr_with (Some order) repr = randomized repr
+repr_with (Some order) repr = with_randomize_flag repr
 
 -- several variants with these discriminants are lists of this kind: behind the integer that is asked for, where they
 -- have a tag of their own, or always sized beside a niche
@@ -53,7 +53,7 @@ variants_align dl repr kind variants =
     max dl.aggregate_align (greatest (map (align_by dl repr kind) (layouts_of variants)))
 
 module _ (dl : TargetDataLayout) where
-  -- Each type has its alignment: scalars, pairs, vectors and unions the one that their rule tells, an array that of its
+  -- Each type has its alignment: scalars, pairs, vectors and unions the one that their rule gives, an array that of its
   -- element, a struct and an enum of which one variant is left that of the list, other enums and coroutines the
   -- greatest of their lists'; types without values or without fields that of a byte.
   abbrev pub HasAlignOfParts : Tree → Placed → Type 0
@@ -70,10 +70,10 @@ module _ (dl : TargetDataLayout) where
   HasAlignOfParts (enum repr all) (nowhere layout mark) = layout.align.abi ≡ dl.i8_align
   HasAlignOfParts (enum repr all) (single layout mark index parts) =
       layout.align.abi ≡ align_by dl repr AlwaysSized (types_of parts)
-  HasAlignOfParts (enum repr all) (tagged layout mark offset tag encoding arms) =
-      (kind : StructKind) × IsKindOfVariants dl repr (discriminants_of all) (fields_of_arms arms) encoding kind
-      × (layout.align.abi ≡ variants_align dl repr kind (fields_of_arms arms))
-  HasAlignOfParts (coroutine prefix locals all conflicts) (placed_states layout pre offset tag arms) =
+  HasAlignOfParts (enum repr all) (tagged layout mark offset tag encoding tagged_variants) =
+      (kind : StructKind) × IsKindOfVariants dl repr (discriminants_of all) (fields_of_tagged_variants tagged_variants) encoding kind
+      × (layout.align.abi ≡ variants_align dl repr kind (fields_of_tagged_variants tagged_variants))
+  HasAlignOfParts (coroutine prefix locals all conflicts) (placed_states layout pre offset tag tagged_variants) =
       (ps : List Placed) × AreLaying dl locals (Ok ps)
       × (layout.align.abi ≡ align_of_all dl
       (first_list (types_of pre) (layout_of tag) (map layout_of ps) (promoted_of all (conflicts_of (length ps) conflicts)))

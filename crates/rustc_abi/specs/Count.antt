@@ -7,24 +7,24 @@ use Rattle.abi_tree.specs.declared.node.Node.{Node}
 use Rattle.abi_tree.specs.Tree.{Tree, array, vector, struct, union, enum, coroutine}
 use Rattle.abi_tree.specs.Tree.{Trees, no_trees, more_trees, Variants, no_variants, more_variants}
 use Rattle.abi_tree.specs.Placed.{Placed, pair as two, vector as lanes_of_vector, tagged, states as placed_states}
-use Rattle.abi_tree.specs.Placed.{Arms, no_arms, arm, layout_of}
+use Rattle.abi_tree.specs.Placed.{TaggedVariants, no_tagged_variants, tagged_variant, layout_of}
 use Rattle.abi_tree.specs.Deciding.{are_inhabited}
 use Rattle.abi_tree.specs.Nodes.{placed_at}
 use Rattle.rustc_abi.specs.Inhabited.{AreInhabited, EachInhabited, VariantsInhabited}
 use Rattle.rustc_abi.specs.Laying.{IsLaying}
 
 -- how many variants or states stand beside a tag
-abbrev pub arm_count : Arms → ℕ
-arm_count no_arms = 0
-arm_count (arm number layout mark parts arms) = arm_count arms + 1
+abbrev pub tagged_variant_count : TaggedVariants → ℕ
+tagged_variant_count no_tagged_variants = 0
+tagged_variant_count (tagged_variant number layout mark parts tagged_variants) = tagged_variant_count tagged_variants + 1
 
 -- the nodes that a laid-out type has beside those of the types in it: one, two for a vector, three for a pair, and with a
 -- tag two and one for each variant or state
 abbrev pub own_nodes : Placed → ℕ
 own_nodes (two layout parts) = 3
 own_nodes (lanes_of_vector layout lanes) = 2
-own_nodes (tagged layout mark offset tag encoding arms) = arm_count arms + 2
-own_nodes (placed_states layout prefix offset tag arms) = arm_count arms + 2
+own_nodes (tagged layout mark offset tag encoding tagged_variants) = tagged_variant_count tagged_variants + 2
+own_nodes (placed_states layout prefix offset tag tagged_variants) = tagged_variant_count tagged_variants + 2
 own_nodes _ = 1
 
 module _ (dl : TargetDataLayout) where

@@ -16,12 +16,12 @@ use Rattle.abi_scalar.specs.declared.variants.VariantLayout.{VariantLayout}
 use Rattle.abi_scalar.specs.Repr.{discr_type_of, is_c}
 use Rattle.abi_scalar.specs.Variant.{variant_layout}
 use Rattle.abi_calc.specs.Enums.Answer.{IsTypeAnswer}
-use Rattle.abi_calc.specs.Enums.Discriminants.{counting_of, discr_bits}
-use Rattle.abi_calc.specs.Enums.Path.{path_of}
+use Rattle.abi_calc.specs.Enums.Discriminants.{counted_discriminants, discr_bits}
+use Rattle.abi_calc.specs.Enums.EnumStrategy.{strategy_of}
 use Rattle.rustc_abi.specs.declared.error.LayError.{LayError}
 use Rattle.abi_tree.specs.Tree.{Variants, no_variants, more_variants}
 use Rattle.abi_tree.specs.declared.mark.Mark.{Mark}
-use Rattle.abi_tree.specs.Placed.{Placed, layout_of, Arms, no_arms, arm}
+use Rattle.abi_tree.specs.Placed.{Placed, layout_of, TaggedVariants, no_tagged_variants, tagged_variant}
 use Rattle.abi_scalar.specs.Layout.{Layout}
 use Rattle.abi_tree.specs.Nodes.{parts_at}
 use Rattle.rustc_abi.specs.Error.{lay_error}
@@ -89,13 +89,13 @@ layouts_of variants = map (map layout_of) variants
 
 -- the discriminants that count for the tag
 abbrev pub counted : ReprOptions → (numbers : List ℕ) → List (List Placed) → List ℕ
-counted repr numbers variants = counting_of (λ i. i) repr (layouts_of variants) (numbered_from 0 numbers)
+counted repr numbers variants = counted_discriminants (λ i. i) repr (layouts_of variants) (numbered_from 0 numbers)
 
 -- the calculator's answer to these variants with these discriminants
 abbrev pub IsCalculated : TargetDataLayout → ReprOptions → (numbers : List ℕ) → List (List Placed) → Result Layout (LayoutCalculatorError Placed) → Type 0
 IsCalculated dl repr numbers variants =
     IsTypeAnswer layout_of (λ i. i) (λ i. i) (λ i. i) (λ i. i) dl repr variants true true Enabled (IsTagIntegerAnswer dl repr)
-    (λ items. items ≡ numbered_from 0 numbers) (path_of true repr (layouts_of variants))
+    (λ items. items ≡ numbered_from 0 numbers) (strategy_of true repr (layouts_of variants))
 
 -- the same, memory aside, with its refusal by the name that a tree's layout has for it
 abbrev pub IsEnumed : TargetDataLayout → ReprOptions → (numbers : List ℕ) → List (List Placed) → Result Layout LayError → Type 0
@@ -107,9 +107,9 @@ IsEnumed dl repr numbers variants (Err e) =
 
 -- the variants or states beside a tag, from this index on: each has its number, the layout that it has as a type of its
 -- own, as one of this whole, the mark, and its fields at the offsets of its layout
-abbrev pub arms_at : (whole : Layout) → Mark → (index : ℕ) → List (VariantLayout ℕ) → (numbers : List ℕ)
-    → List (List Placed) → Arms
-arms_at whole mark i (layout ∷ layouts) (n ∷ numbers) (fields ∷ variants) =
-    arm n (variant_layout whole i layout) mark (parts_at layout.field_offsets fields)
-    (arms_at whole mark (i + 1) layouts numbers variants)
-arms_at whole mark i _ _ _ = no_arms
+abbrev pub tagged_variants_at : (whole : Layout) → Mark → (index : ℕ) → List (VariantLayout ℕ) → (numbers : List ℕ)
+    → List (List Placed) → TaggedVariants
+tagged_variants_at whole mark i (layout ∷ layouts) (n ∷ numbers) (fields ∷ variants) =
+    tagged_variant n (variant_layout whole i layout) mark (parts_at layout.field_offsets fields)
+    (tagged_variants_at whole mark (i + 1) layouts numbers variants)
+tagged_variants_at whole mark i _ _ _ = no_tagged_variants

@@ -26,6 +26,6 @@ named (Err e) = Err (lay_error e)
 abbrev pub Follows : {A B : Type 0} → (Result A LayError → Type 0) → (A → Result B LayError → Type 0) → Result B LayError → Type 0
 Follows {A} P next r = ((e : LayError) × P (Err e) × (r ≡ Err e)) ⊎ ((a : A) × P (Ok a) × next a r)
 
--- want of memory, or the refusal that is answered
+-- that memory ran out, or the refusal that is answered
 abbrev pub IsRefused : {A : Type 0} → (Result A LayError → Type 0) → LayError → Type 0
 IsRefused P e = (e ≡ OutOfMemory) ⊎ P (Err e)

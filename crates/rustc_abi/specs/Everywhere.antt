@@ -5,8 +5,8 @@ use Rattle.abi_tree.specs.declared.laid.Laid.{Laid}
 use Rattle.abi_tree.specs.Laid.{placed_of}
 use Rattle.abi_tree.specs.Tree.{Tree, scalar, pair, never, unit, array, vector, struct, union, enum, coroutine}
 use Rattle.abi_tree.specs.Tree.{Trees, no_trees, more_trees, Variants, no_variants, more_variants}
-use Rattle.abi_tree.specs.Placed.{Placed, never as nowhere, single, tagged, states as placed_states, Parts, Arms}
-use Rattle.abi_tree.specs.Placed.{no_arms, arm}
+use Rattle.abi_tree.specs.Placed.{Placed, never as nowhere, single, tagged, states as placed_states, Parts, TaggedVariants}
+use Rattle.abi_tree.specs.Placed.{no_tagged_variants, tagged_variant}
 use Rattle.abi_tree.specs.Placed.{element_of, parts_in, first_part, more_parts}
 use Rattle.abi_tree.specs.Nodes.{parts_at_0, placed_in}
 use Rattle.rustc_abi.specs.Laying.{AreLaying}
@@ -17,10 +17,10 @@ abbrev pub ByThemselves : TargetDataLayout → Trees → (Parts → Type 0) → 
 ByThemselves dl ts each = (ps : List Placed) × AreLaying dl ts (Ok ps) × each (parts_at_0 ps)
 
 -- each state has those of these locals that it holds, and no other
-abbrev pub HaveLocals : (locals : List Placed) → (states : List (List ℕ)) → Arms → Type 0
-HaveLocals locals [] no_arms = ⊤
-HaveLocals locals (state ∷ states) (arm number layout mark parts arms) =
-    (fields_of parts ≡ map (placed_in locals) state) × HaveLocals locals states arms
+abbrev pub HaveLocals : (locals : List Placed) → (states : List (List ℕ)) → TaggedVariants → Type 0
+HaveLocals locals [] no_tagged_variants = ⊤
+HaveLocals locals (state ∷ states) (tagged_variant number layout mark parts tagged_variants) =
+    (fields_of parts ≡ map (placed_in locals) state) × HaveLocals locals states tagged_variants
 HaveLocals locals _ _ = ⊥
 
 module _ (dl : TargetDataLayout) (P : Tree → Placed → Type 0) where
@@ -38,11 +38,11 @@ module _ (dl : TargetDataLayout) (P : Tree → Placed → Type 0) where
     Within (union repr all) placed = OfEach all (parts_in placed)
     Within (enum repr all) (nowhere layout mark) = OfAbsent all
     Within (enum repr all) (single layout mark index parts) = OfVariant all index parts
-    Within (enum repr all) (tagged layout mark offset tag encoding arms) = OfArms all arms
+    Within (enum repr all) (tagged layout mark offset tag encoding tagged_variants) = OfTaggedVariants all tagged_variants
     Within (enum repr all) _ = ⊥
-    Within (coroutine prefix locals states conflicts) (placed_states layout pre offset tag arms) =
+    Within (coroutine prefix locals states conflicts) (placed_states layout pre offset tag tagged_variants) =
         OfEach prefix pre
-        × ((ps : List Placed) × AreLaying dl locals (Ok ps) × OfEach locals (parts_at_0 ps) × HaveLocals ps states arms)
+        × ((ps : List Placed) × AreLaying dl locals (Ok ps) × OfEach locals (parts_at_0 ps) × HaveLocals ps states tagged_variants)
     Within (coroutine prefix locals states conflicts) _ = ⊥
 
     -- of each of these types, and of each in it
@@ -63,11 +63,11 @@ module _ (dl : TargetDataLayout) (P : Tree → Placed → Type 0) where
         ByThemselves dl ts (OfEach ts) × OfVariant others i parts
 
     -- of each field of each variant beside a tag
-    pub OfArms : Variants → Arms → Type 0
-    OfArms no_variants no_arms = ⊤
-    OfArms (more_variants discriminant ts others) (arm number layout mark parts arms) =
-        OfEach ts parts × OfArms others arms
-    OfArms _ _ = ⊥
+    pub OfTaggedVariants : Variants → TaggedVariants → Type 0
+    OfTaggedVariants no_variants no_tagged_variants = ⊤
+    OfTaggedVariants (more_variants discriminant ts others) (tagged_variant number layout mark parts tagged_variants) =
+        OfEach ts parts × OfTaggedVariants others tagged_variants
+    OfTaggedVariants _ _ = ⊥
 
   -- the fact holds of the type, and of each in it
   abbrev pub Everywhere : Tree → Placed → Type 0

@@ -18,12 +18,12 @@ use Rattle.abi_scalar.specs.Shape.{listed_offsets}
 use Rattle.abi_scalar.specs.Variant.{variants_of}
 use Rattle.abi_univariant.specs.Array.{array_answer, elements_layout}
 use Rattle.abi_univariant.specs.InOrder.{IsOrderedError, IsOrderedLayout}
-use Rattle.abi_univariant.specs.List.{IsListError, IsListLayout}
+use Rattle.abi_univariant.specs.List.{IsUnivariantError, IsUnivariantLayout}
 use Rattle.abi_univariant.specs.Placement.{source_order}
 use Rattle.abi_univariant.specs.Simd.{simd_answer}
 use Rattle.abi_univariant.specs.Union.{IsUnionAnswer}
 use Rattle.abi_calc.specs.Coroutine.Layout.{IsStateTag}
-use Rattle.abi_calc.specs.Enums.Path.{variant_at}
+use Rattle.abi_calc.specs.Enums.EnumStrategy.{variant_at}
 use Rattle.rustc_abi.specs.declared.error.LayError.{LayError}
 use Rattle.rustc_abi.specs.declared.error.LayError.TheVariants.{BadIndex, BadAlign, BadOrder, DuplicateDiscriminant, DiscriminantTooWide, NoState, LocalTwice, SizeOverflow}
 use Rattle.abi_tree.specs.Tree.{Tree, scalar, pair, never, unit, array, vector, struct, union, enum, coroutine, Trees, no_trees, more_trees, Variants, no_variants, more_variants}
@@ -35,7 +35,7 @@ use Rattle.abi_tree.specs.Nodes.{parts_at, parts_at_0, placed_in, state_tag_offs
 use Rattle.rustc_abi.specs.Error.{named, lay_error, Follows}
 use Rattle.rustc_abi.specs.ScalarFault.{scalar_fault}
 use Rattle.rustc_abi.specs.Coroutines.{IsCoroutined, names_unknown}
-use Rattle.rustc_abi.specs.Enums.{IsEnumed, arms_at, discriminants_of, has_equal, is_discriminant}
+use Rattle.rustc_abi.specs.Enums.{IsEnumed, tagged_variants_at, discriminants_of, has_equal, is_discriminant}
 
 -- the type with the layout that was answered
 abbrev pub placed_by : (Layout → Placed) → Result Layout LayError → Result Placed LayError
@@ -93,9 +93,9 @@ has_bad_align repr = is_above_limit repr.align || is_above_limit repr.pack
 -- the calculator's answer to a list of layouts, with its refusal by that name
 abbrev pub IsLaidList : TargetDataLayout → ReprOptions → StructKind → List Layout → Result Layout LayError → Type 0
 IsLaidList dl repr kind layouts (Ok layout) =
-    (order : List ℕ) × (offsets : List ℕ) × IsListLayout (λ i. i) 0 dl repr kind layouts order offsets layout
+    (order : List ℕ) × (offsets : List ℕ) × IsUnivariantLayout (λ i. i) 0 dl repr kind layouts order offsets layout
 IsLaidList dl repr kind layouts (Err e) =
-    (error : LayoutCalculatorError Layout) × IsListError (λ l. l) dl repr kind layouts error × (e ≡ lay_error error)
+    (error : LayoutCalculatorError Layout) × IsUnivariantError (λ l. l) dl repr kind layouts error × (e ≡ lay_error error)
 
 -- fields as parts of a struct with this layout
 abbrev pub placed_fields : ReprOptions → List Placed → Layout → Placed
@@ -114,8 +114,8 @@ IsFieldsAnswer dl repr always_sized ps r =
     (λ e. r ≡ Err e)
 
 -- the same repr, under which fields may lie in any order
-abbrev pub randomized : ReprOptions → ReprOptions
-randomized repr = record {
+abbrev pub with_randomize_flag : ReprOptions → ReprOptions
+with_randomize_flag repr = record {
   int = repr.int;
   align = repr.align;
   pack = repr.pack;
@@ -142,7 +142,7 @@ ordered_fault repr ps =
 abbrev pub IsOrderedFieldsAnswer : TargetDataLayout → ReprOptions → (always_sized : Bool) → (order : List ℕ) → List Placed → Result Placed LayError → Type 0
 IsOrderedFieldsAnswer dl repr always_sized order ps r =
     MatchOption (ordered_fault repr ps)
-    (Follows (IsListedInOrder dl (randomized repr) (kind_of always_sized ps) order (map layout_of ps)) (λ layout r. r ≡ Ok (placed_fields repr ps layout)) r)
+    (Follows (IsListedInOrder dl (with_randomize_flag repr) (kind_of always_sized ps) order (map layout_of ps)) (λ layout r. r ≡ Ok (placed_fields repr ps layout)) r)
     (λ e. r ≡ Err e)
 
 -- the answer to a struct, in the order that is handed in, if one is
@@ -179,14 +179,14 @@ enum_fault dl repr numbers variants =
     else (if has_equal numbers then Some DuplicateDiscriminant
     else (if not (list_all (is_discriminant dl repr) numbers) then Some DiscriminantTooWide else None)))
 
--- variants with this layout: no value, the parts of one variant, or those of each beside a tag; each of these tells of
+-- variants with this layout: no value, the parts of one variant, or those of each beside a tag; each of these says of
 -- itself what the whole does
 abbrev pub placed_variants : TargetDataLayout → ReprOptions → (numbers : List ℕ) → List (List Placed) → Layout → LayoutVariants ℕ ℕ → Placed
 placed_variants dl repr numbers variants layout Empty = placed_never layout (mark_of true repr)
 placed_variants dl repr numbers variants layout (Single i) = placed_single layout (mark_of true repr) i (parts_at (listed_offsets layout.fields) (variant_at variants i))
 placed_variants dl repr numbers variants layout (Multiple tag encoding field layouts) =
     placed_tagged layout (mark_of true repr) (tag_offset layout) (one_scalar dl tag) encoding
-    (arms_at layout (mark_of true repr) 0 layouts numbers variants)
+    (tagged_variants_at layout (mark_of true repr) 0 layouts numbers variants)
 
 -- an enum with this layout
 abbrev pub placed_enum : TargetDataLayout → ReprOptions → (numbers : List ℕ) → List (List Placed) → Layout → Placed
@@ -217,11 +217,11 @@ coroutine_fault prefix locals states conflicts =
     else (if list_any has_equal states then Some LocalTwice else None)))
 
 -- a coroutine with this layout and this tag: the prefix fields, the tag behind them, and beside it each state, with the locals that it
--- names and with its index as number; a state tells nothing of itself
+-- names and with its index as number; a state says nothing of itself
 abbrev pub placed_coroutine : TargetDataLayout → (prefix : List Placed) → (tag : Scalar) → (locals : List Placed) → (states : List (List ℕ)) → Layout → Placed
 placed_coroutine dl prefix tag locals states layout =
     placed_states layout (parts_at (listed_offsets layout.fields) prefix) (state_tag_offset layout (length prefix)) (one_scalar dl tag)
-    (arms_at layout Plain 0 (variants_of layout.variants) (source_order (length states))
+    (tagged_variants_at layout Plain 0 (variants_of layout.variants) (source_order (length states))
     (map (map (placed_in locals)) states))
 
 -- the answer to a coroutine: its own fault, else the calculator's answer to its prefix fields, its tag and its locals

@@ -11,9 +11,9 @@ use Rattle.abi_scalar.specs.Scalar.{scalar_size}
 use Rattle.abi_calc.specs.Coroutine.Layout.{IsStateTag}
 use Rattle.abi_calc.specs.Coroutine.Promotion.{promoted_of}
 use Rattle.abi_calc.specs.Coroutine.Sizes.{IsOverlapSize, IsSizeWith, IsTooLargeWith, MayOverlap}
-use Rattle.abi_calc.specs.declared.enums.path.Path.{Path}
-use Rattle.abi_calc.specs.declared.enums.path.Path.TheVariants.{NoValue, OneList, Several}
-use Rattle.abi_calc.specs.Enums.Path.{path_of, variant_at}
+use Rattle.abi_calc.specs.declared.enums.strategy.EnumStrategy.{EnumStrategy}
+use Rattle.abi_calc.specs.declared.enums.strategy.EnumStrategy.TheVariants.{NoValue, OneList, Several}
+use Rattle.abi_calc.specs.Enums.EnumStrategy.{strategy_of, variant_at}
 use Rattle.abi_calc.specs.Enums.Several.{HasEnumSize, IsAskedTooLarge}
 use Rattle.abi_univariant.specs.Least.{IsEachOrderTooLarge, IsLeastSize, IsOrderOf, size_by}
 use Rattle.abi_univariant.specs.Simd.{IsVectorTooLarge, vector_size}
@@ -23,12 +23,12 @@ use Rattle.abi_tree.specs.Tree.{no_trees, more_trees, Variants, no_variants, mor
 use Rattle.abi_tree.specs.Placed.{Placed, scalar as one_number, pair as two, never as nowhere, elements}
 use Rattle.abi_tree.specs.Placed.{vector as lanes_of_vector, fields, union as together, single, tagged}
 use Rattle.abi_tree.specs.Placed.{states as placed_states}
-use Rattle.abi_tree.specs.Placed.{Parts, no_parts, part, Arms, no_arms, arm, element_of, layout_of, size_of}
+use Rattle.abi_tree.specs.Placed.{Parts, no_parts, part, TaggedVariants, no_tagged_variants, tagged_variant, element_of, layout_of, size_of}
 use Rattle.rustc_abi.specs.ScalarFault.{scalar_fault}
 use Rattle.rustc_abi.specs.Coroutines.{conflicts_of}
 use Rattle.rustc_abi.specs.Enums.{IsTagIntegerAnswer, counted, discriminants_of, layouts_of}
 use Rattle.rustc_abi.specs.Laying.{IsLaying, AreLaying, VariantsLaying, coroutine_fault, enum_fault, fields_fault, kind_of, one_scalar}
-use Rattle.rustc_abi.specs.Laying.{ordered_fault, randomized}
+use Rattle.rustc_abi.specs.Laying.{ordered_fault, with_randomize_flag}
 
 -- the laid-out fields, as a list
 abbrev pub fields_of : Parts → List Placed
@@ -36,9 +36,9 @@ fields_of no_parts = []
 fields_of (part offset placed parts) = placed ∷ fields_of parts
 
 -- the laid-out fields of variants beside a tag
-abbrev pub fields_of_arms : Arms → List (List Placed)
-fields_of_arms no_arms = []
-fields_of_arms (arm number layout mark parts arms) = fields_of parts ∷ fields_of_arms arms
+abbrev pub fields_of_tagged_variants : TaggedVariants → List (List Placed)
+fields_of_tagged_variants no_tagged_variants = []
+fields_of_tagged_variants (tagged_variant number layout mark parts tagged_variants) = fields_of parts ∷ fields_of_tagged_variants tagged_variants
 
 -- several variants with these discriminants have the size that their lists allow: with a niche, where these leave room for one, else
 -- behind a tag
@@ -48,7 +48,7 @@ IsEnumSized dl repr numbers variants size =
 
 -- variants with these discriminants are too large: the one that is left is in each order of its list, and of several one's list behind
 -- the tag is in each order, or the tagged size is
-abbrev pub IsTooLargeBy : TargetDataLayout → ReprOptions → (numbers : List ℕ) → List (List Placed) → Path → Type 0
+abbrev pub IsTooLargeBy : TargetDataLayout → ReprOptions → (numbers : List ℕ) → List (List Placed) → EnumStrategy → Type 0
 IsTooLargeBy dl repr numbers variants NoValue = ⊥
 IsTooLargeBy dl repr numbers variants (OneList i) = IsEachOrderTooLarge dl repr AlwaysSized (map layout_of (variant_at variants i))
 IsTooLargeBy dl repr numbers variants Several =
@@ -56,7 +56,7 @@ IsTooLargeBy dl repr numbers variants Several =
 
 -- an enum is too large, by the way in which it is laid out
 abbrev pub IsEnumTooLarge : TargetDataLayout → ReprOptions → (numbers : List ℕ) → List (List Placed) → Type 0
-IsEnumTooLarge dl repr numbers variants = IsTooLargeBy dl repr numbers variants (path_of true repr (layouts_of variants))
+IsEnumTooLarge dl repr numbers variants = IsTooLargeBy dl repr numbers variants (strategy_of true repr (layouts_of variants))
 
 -- a struct of these fields has the least size of its list
 abbrev pub IsLeastStruct : TargetDataLayout → ReprOptions → (always_sized : Bool) → List Placed → (size : ℕ) → Type 0
@@ -68,14 +68,14 @@ IsStructTooLarge dl repr always_sized ps = IsEachOrderTooLarge dl repr (kind_of 
 
 -- the size of a struct of these fields in an order that is handed in
 abbrev pub ordered_size : TargetDataLayout → ReprOptions → (always_sized : Bool) → (order : List ℕ) → List Placed → ℕ
-ordered_size dl repr always_sized order ps = size_by dl (randomized repr) (kind_of always_sized ps) (map layout_of ps) order
+ordered_size dl repr always_sized order ps = size_by dl (with_randomize_flag repr) (kind_of always_sized ps) (map layout_of ps) order
 
 -- the order may be handed in for these fields
 abbrev pub IsOrderOfFields : TargetDataLayout → ReprOptions → (always_sized : Bool) → (order : List ℕ) → List Placed → Type 0
-IsOrderOfFields dl repr always_sized order ps = IsOrderOf dl (randomized repr) (kind_of always_sized ps) (length ps) order
+IsOrderOfFields dl repr always_sized order ps = IsOrderOf dl (with_randomize_flag repr) (kind_of always_sized ps) (length ps) order
 
 -- a coroutine of these prefix fields, locals, states and conflicts has the size that its lists allow, with those of its
--- locals promoted that its states and conflicts tell: the list of prefix fields, tag and these has its least size, and
+-- locals promoted that its states and conflicts demand: the list of prefix fields, tag and these has its least size, and
 -- so has the list of each state's others behind it; the size is the greatest of them, rounded up to the greatest
 -- alignment
 abbrev pub IsCoroutineSized : TargetDataLayout → (prefix locals : List Placed) → (states : List (List ℕ))
@@ -93,7 +93,7 @@ IsOverlapSized dl prefix locals states conflicts size =
     → (tag : Scalar) × IsStateTag (length states) tag
     × IsOverlapSize dl (map layout_of prefix) (layout_of (one_scalar dl tag)) (map layout_of locals) states size
 
--- a coroutine of these is too large, with those of its locals promoted that its states and conflicts tell: a list is in each order, or
+-- a coroutine of these is too large, with those of its locals promoted that its states and conflicts demand: a list is in each order, or
 -- the greatest of them is
 abbrev pub IsCoroutineTooLarge : TargetDataLayout → (prefix locals : List Placed) → (states : List (List ℕ)) → (conflicts : List (ℕ × ℕ)) → Type 0
 IsCoroutineTooLarge dl prefix locals states conflicts =
@@ -103,18 +103,18 @@ IsCoroutineTooLarge dl prefix locals states conflicts =
 -- An enum of variants with these discriminants and fields has its size, by the way in which it is laid out: without a
 -- value it has no bytes, the one that is left has the least size of its list, and several have the size that their
 -- lists allow.
-abbrev pub IsLeastEnum : TargetDataLayout → ReprOptions → (numbers : List ℕ) → (variants : List (List Placed)) → Path
+abbrev pub IsLeastEnum : TargetDataLayout → ReprOptions → (numbers : List ℕ) → (variants : List (List Placed)) → EnumStrategy
     → Placed → Type 0
 IsLeastEnum dl repr numbers variants NoValue (nowhere layout mark) = layout.size ≡ 0
 IsLeastEnum dl repr numbers variants (OneList i) (single layout mark index parts) =
     (index ≡ i) × (fields_of parts ≡ variant_at variants i)
     × IsLeastSize dl repr AlwaysSized (map layout_of (variant_at variants i)) layout.size
-IsLeastEnum dl repr numbers variants Several (tagged layout mark offset tag encoding arms) =
-    (fields_of_arms arms ≡ variants) × IsEnumSized dl repr numbers variants layout.size
+IsLeastEnum dl repr numbers variants Several (tagged layout mark offset tag encoding tagged_variants) =
+    (fields_of_tagged_variants tagged_variants ≡ variants) × IsEnumSized dl repr numbers variants layout.size
 IsLeastEnum dl repr numbers variants _ _ = ⊥
 
 module _ (dl : TargetDataLayout) where
-  -- Each type has its size: scalars, pairs, elements, vectors and unions the one that their rule tells, a struct the
+  -- Each type has its size: scalars, pairs, elements, vectors and unions the one that their rule gives, a struct the
   -- least of its list, or that of the order that is handed in; an enum and a coroutine the one that their lists allow.
   -- A type laid out as one of another kind has none.
   abbrev pub IsLeast : Tree → Placed → Type 0
@@ -133,15 +133,15 @@ module _ (dl : TargetDataLayout) where
       layout.size ≡ union_size dl repr (map layout_of (fields_of parts))
   IsLeast (enum repr all) placed =
       (variants : List (List Placed)) × VariantsLaying dl all (Ok variants)
-      × IsLeastEnum dl repr (discriminants_of all) variants (path_of true repr (layouts_of variants)) placed
-  IsLeast (coroutine prefix locals all conflicts) (placed_states layout pre offset tag arms) =
+      × IsLeastEnum dl repr (discriminants_of all) variants (strategy_of true repr (layouts_of variants)) placed
+  IsLeast (coroutine prefix locals all conflicts) (placed_states layout pre offset tag tagged_variants) =
       (ps : List Placed) × AreLaying dl locals (Ok ps)
       × IsCoroutineSized dl (fields_of pre) ps all conflicts layout.size
   IsLeast _ _ = ⊥
 
   -- a coroutine whose states may share all their bytes has the size that this allows; of other types nothing is said
   abbrev pub HasOverlapSize : Tree → Placed → Type 0
-  HasOverlapSize (coroutine prefix locals all conflicts) (placed_states layout pre offset tag arms) =
+  HasOverlapSize (coroutine prefix locals all conflicts) (placed_states layout pre offset tag tagged_variants) =
       (ps : List Placed) × AreLaying dl locals (Ok ps) × IsOverlapSized dl (fields_of pre) ps all conflicts layout.size
   HasOverlapSize _ placed = ⊤
 

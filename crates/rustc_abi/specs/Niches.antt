@@ -32,8 +32,8 @@ module _ (dl : TargetDataLayout) where
   HasNicheOfParts (union repr all) (together layout mark parts) = layout.largest_niche ≡ None
   HasNicheOfParts (enum repr all) (single layout mark index parts) =
       IsBestNiche dl (offsets_of parts) (types_of parts) layout.largest_niche
-  HasNicheOfParts (enum repr all) (tagged layout mark offset tag encoding arms) =
+  HasNicheOfParts (enum repr all) (tagged layout mark offset tag encoding tagged_variants) =
       (scalar : Scalar) × (tag ≡ one_scalar dl scalar) × (layout.largest_niche ≡ niche_at dl offset scalar)
-  HasNicheOfParts (coroutine prefix locals all conflicts) (placed_states layout pre offset tag arms) =
+  HasNicheOfParts (coroutine prefix locals all conflicts) (placed_states layout pre offset tag tagged_variants) =
       layout.largest_niche ≡ None
   HasNicheOfParts _ placed = ⊤

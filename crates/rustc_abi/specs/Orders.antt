@@ -8,7 +8,7 @@ use Rattle.abi_univariant.specs.Least.{IsPlacedBy}
 use Rattle.abi_tree.specs.Tree.{Tree, struct, enum}
 use Rattle.abi_tree.specs.Placed.{Placed, Parts, fields, single}
 use Rattle.abi_scalar.specs.Layout.{Layout}
-use Rattle.rustc_abi.specs.Laying.{kind_of, randomized}
+use Rattle.rustc_abi.specs.Laying.{kind_of, with_randomize_flag}
 use Rattle.rustc_abi.specs.Least.{fields_of}
 use Rattle.rustc_abi.specs.Lists.{offsets_of, types_of}
 
@@ -23,7 +23,7 @@ module _ (dl : TargetDataLayout) where
   LiesAsAsked (struct repr always_sized None all) (fields layout mark parts) =
       (order : List ℕ) × LieIn dl repr (kind_of always_sized (fields_of parts)) order parts layout
   LiesAsAsked (struct repr always_sized (Some order) all) (fields layout mark parts) =
-      LieIn dl (randomized repr) (kind_of always_sized (fields_of parts)) order parts layout
+      LieIn dl (with_randomize_flag repr) (kind_of always_sized (fields_of parts)) order parts layout
   LiesAsAsked (enum repr all) (single layout mark index parts) =
       (order : List ℕ) × LieIn dl repr AlwaysSized order parts layout
   LiesAsAsked _ placed = ⊤

@@ -9,7 +9,7 @@ use abi_index::{BitMatrix, FieldIdx, IndexVec};
 use std::alloc::{AllocError, Global};
 
 /// The locals that a state names.
-fn named(alloc: Global, indices: &[u64]) -> Result<IndexVec<FieldIdx, u32>, AllocError>
+fn state_locals(alloc: Global, indices: &[u64]) -> Result<IndexVec<FieldIdx, u32>, AllocError>
     requires few { length indices.now ≤ most_fields }
     requires known { All (λ k. k < most_fields) indices.now }
     ensures { IfOk result (λ named. named ≡ indices.now) }
@@ -22,7 +22,7 @@ fn named(alloc: Global, indices: &[u64]) -> Result<IndexVec<FieldIdx, u32>, Allo
 }
 
 /// The locals that each state names.
-pub(crate) fn named_each(
+pub(crate) fn each_state_locals(
     alloc: Global,
     states: &[Vec<u64>],
 ) -> Result<Vec<IndexVec<FieldIdx, u32>>, AllocError>
@@ -32,7 +32,7 @@ pub(crate) fn named_each(
 {
     let mut each = Vec::with_capacity(alloc, states.len())?;
     for state in states {
-        each.push(named(alloc, state)?)?;
+        each.push(state_locals(alloc, state)?)?;
     }
     Ok(each)
 }

@@ -30,7 +30,7 @@ pub(crate) fn discriminants(
 }
 
 /// Each discriminant with the index of its variant.
-pub(crate) fn numbered(
+pub(crate) fn number_variants(
     alloc: Global,
     numbers: &[u128],
 ) -> Result<Vec<(VariantIdx, u128)>, AllocError>
@@ -45,7 +45,7 @@ pub(crate) fn numbered(
 }
 
 /// These numbers, ascending.
-fn ascending(alloc: Global, numbers: &[u128]) -> Result<Vec<u128>, AllocError>
+fn sort_numbers(alloc: Global, numbers: &[u128]) -> Result<Vec<u128>, AllocError>
     ensures same { IfOk result (λ sorted. IsPermutation numbers.now sorted.items) }
     ensures ascends { IfOk result (λ sorted. IsSortedByKey (λ n. n) nat_cmp sorted.items) }
 {
@@ -58,7 +58,7 @@ fn ascending(alloc: Global, numbers: &[u128]) -> Result<Vec<u128>, AllocError>
 pub(crate) fn has_equal(alloc: Global, numbers: &[u128]) -> Result<bool, AllocError>
     ensures { IfOk result (λ b. b ≡ has_equal numbers.now) }
 {
-    let sorted = ascending(alloc, numbers)?;
+    let sorted = sort_numbers(alloc, numbers)?;
     for at in 1..sorted.len() {
         if sorted[at - 1] == sorted[at] {
             return Ok(true);

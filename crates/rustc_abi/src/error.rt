@@ -6,7 +6,7 @@ use std::error::Error;
 use std::fmt;
 use std::fmt::Display;
 
-/// Why `lay_out` answers no layout: the first fault of the tree, children first, or a want of memory.
+/// Why `lay_out` answers no layout: the first fault of the tree, children first, or a that memory ran out.
 #[derive(Clone, Copy, PartialEq, Eq, Debug)]
 pub enum LayError {
     /// The data layout isn't lawful, so that no type has a layout under it.

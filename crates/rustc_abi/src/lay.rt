@@ -32,6 +32,7 @@ ghost use Rattle.rustc_abi.specs.Fault.{IsRefusedFor};
 
 use crate::error::LayError;
 use crate::lay_tree::lay_tree;
+use crate::layout_cx::LayoutCx;
 use abi_base::TargetDataLayout;
 use abi_tree::{Laid, Nodes, TypeTree};
 use std::alloc::Global;
@@ -40,7 +41,7 @@ use std::alloc::Global;
 fn refuse_unlawful(dl: &TargetDataLayout) -> Result<(), LayError>
     ensures lawful { IfOk result (λ _. IsLawfulDataLayout dl.now) }
     ensures unlawful { IfErr result (λ e. e ≡ LayError.UnlawfulDataLayout) }
-    ensures told { IfErr result (λ _. IsLawfulDataLayout dl.now → ⊥) }
+    ensures only_unlawful { IfErr result (λ _. IsLawfulDataLayout dl.now → ⊥) }
 {
     if dl.is_lawful() {
         Ok(())
@@ -92,7 +93,7 @@ pub fn lay_out(alloc: Global, dl: &TargetDataLayout, tree: &TypeTree) -> Result<
     ensures too_large { IsLawfulDataLayout dl.now → IsTooLarge dl.now (tree_of tree.now) →
         IsErrAnd result (λ e. (e ≡ LayError.SizeOverflow) ⊎ (e ≡ LayError.OutOfMemory)) }
 
-    // Which niche each type in it has, how it is aligned, and what it tells of itself, from its parts.
+    // Which niche each type in it has, how it is aligned, and what it says of itself, from its parts.
     ensures best_niche { IfOk result (EachIn dl.now (tree_of tree.now) (HasNicheOfParts dl.now)) }
     ensures alignment { IfOk result (EachIn dl.now (tree_of tree.now) (HasAlignOfParts dl.now)) }
     ensures marks { IfOk result (EachIn dl.now (tree_of tree.now) (HasMarksOfParts dl.now)) }
@@ -129,6 +130,6 @@ pub fn lay_out(alloc: Global, dl: &TargetDataLayout, tree: &TypeTree) -> Result<
 {
     refuse_unlawful(dl)?;
     let mut nodes = Nodes::new(alloc);
-    let _root = lay_tree(alloc, dl, &mut nodes, tree)?;
+    let _root = lay_tree(LayoutCx { alloc, dl }, &mut nodes, tree)?;
     Ok(Laid::new(nodes, dl.endian))
 }

@@ -5,7 +5,7 @@ ghost use Rattle.std.specs.List.{AllPairs};
 ghost use Rattle.abi_base.specs.DataLayout.{IsLawfulDataLayout};
 ghost use Rattle.abi_index.specs.Relation.{column_count, row_count};
 ghost use Rattle.abi_scalar.specs.Lawful.{IsLawfulLayout};
-ghost use Rattle.abi_scalar.specs.Scalar.{IsReadable};
+ghost use Rattle.abi_scalar.specs.Scalar.{IsWellFormed};
 ghost use Rattle.abi_scalar.specs.Variant.{variants_of};
 ghost use Rattle.abi_univariant.specs.Placement.{source_order};
 ghost use Rattle.abi_calc.specs.Coroutine.Layout.{IsStateTag};
@@ -17,16 +17,16 @@ ghost use Rattle.rustc_abi.specs.Coroutines.{IsCoroutined, IsCoroutinedAs};
 ghost use Rattle.rustc_abi.specs.Laying.{IsCoroutineOf, coroutine_fault, most_fields, one_scalar, placed_coroutine};
 ghost use Rattle.rustc_abi.specs.Error.{IsRefused};
 ghost use Rattle.abi_tree.specs.Well.{IsPut, all_at};
-ghost use Rattle.rustc_abi.specs.Adding.{AreArms, AreEachThere, AreStillThere, AreThere, HaveLawfulLayouts, IsCoroutineAdded, variants_in};
-ghost use Rattle.rustc_abi.specs.Enums.{arms_at};
+ghost use Rattle.rustc_abi.specs.Adding.{AreTaggedVariants, AreEachThere, AreStillThere, AreThere, HaveLawfulLayouts, IsCoroutineAdded, variants_in};
+ghost use Rattle.rustc_abi.specs.Enums.{tagged_variants_at};
 ghost use Rattle.rustc_abi.specs.Count.{HasMore, IsOwnPut};
 
-use crate::conflicts::{conflicts, named_each};
+use crate::conflicts::{conflicts, each_state_locals};
 use crate::coroutine_fault::coroutine_fault;
 use crate::error::LayError;
 use crate::lay_enum::add_variants;
+use crate::layout_cx::LayoutCx;
 use crate::node::{add, layouts_at};
-use abi_base::TargetDataLayout;
 use abi_calc::{LayoutCalculator, state_tag};
 use abi_index::{BitMatrix, FieldIdx, IndexSlice, IndexVec, VariantIdx};
 use abi_scalar::{LayoutData, Scalar};
@@ -45,15 +45,16 @@ fn indices(alloc: Global, count: usize) -> Result<Vec<u128>, AllocError>
     Ok(indices)
 }
 
-/// The nodes of a coroutine's locals, and the indices of those that each state has.
+/// The nodes of a coroutine's locals, the indices of those that each state has, and those of each two that conflict.
 #[derive(Clone, Copy)]
-struct Saved<'a> {
-    locals: &'a [usize],
-    states: &'a [Vec<u64>],
+pub(crate) struct StateNodes<'a> {
+    pub(crate) locals: &'a [usize],
+    pub(crate) states: &'a [Vec<u64>],
+    pub(crate) pairs: &'a [(u64, u64)],
 }
 
 /// The nodes of the locals with these indices.
-fn picked(alloc: Global, locals: &[usize], indices: &[u64]) -> Result<Vec<usize>, AllocError>
+fn local_nodes(alloc: Global, locals: &[usize], indices: &[u64]) -> Result<Vec<usize>, AllocError>
     requires { All (λ k. k < length locals.now) indices.now }
     ensures { IfOk result (λ nodes. nodes.items ≡ map (λ k. get_or locals.now k 0) indices.now) }
 {
@@ -65,7 +66,7 @@ fn picked(alloc: Global, locals: &[usize], indices: &[u64]) -> Result<Vec<usize>
 }
 
 /// The nodes of each state's locals, which its indices name.
-fn picked_each(
+fn each_state_nodes(
     alloc: Global,
     locals: &[usize],
     states: &[Vec<u64>],
@@ -76,13 +77,13 @@ fn picked_each(
 {
     let mut children = Vec::with_capacity(alloc, states.len())?;
     for indices in states {
-        children.push(picked(alloc, locals, indices)?)?;
+        children.push(local_nodes(alloc, locals, indices)?)?;
     }
     Ok(children)
 }
 
 /// A node for each state beside the tag, with its locals and with its index as number. A state is no struct, union or
-/// enum, and tells nothing of itself.
+/// enum, and says nothing of itself.
 fn add_each_state(
     alloc: Global,
     nodes: &mut Nodes,
@@ -95,9 +96,9 @@ fn add_each_state(
     requires there { AreEachThere (length nodes.old) children.items }
     requires inside { VariantsInside layout.now.size (variants_of layout.now.variants)
         (variants_in nodes.old children.items) }
-    ensures ok { IfOk result (λ states. AreArms nodes.old nodes.new
+    ensures ok { IfOk result (λ states. AreTaggedVariants nodes.old nodes.new
         (map (λ l. l.size) (variants_of layout.now.variants)) states.items
-        (arms_at layout.now Mark.Plain 0 (variants_of layout.now.variants)
+        (tagged_variants_at layout.now Mark.Plain 0 (variants_of layout.now.variants)
         (source_order (length children.items)) (variants_in nodes.old children.items))) }
     ensures count { IfOk result (λ states.
         HasMore (length states.items) false nodes.old nodes.new) }
@@ -111,36 +112,35 @@ fn add_each_state(
 /// A node for a coroutine with this layout and this tag, behind one for the tag and one for each state: each state has
 /// the locals that its indices name, and its own index as number.
 fn add_states(
-    alloc: Global,
-    dl: &TargetDataLayout,
+    cx: LayoutCx<'_>,
     nodes: &mut Nodes,
     layout: LayoutData<FieldIdx, VariantIdx>,
     tag: Scalar,
     prefix: Vec<usize>,
-    saved: Saved<'_>,
+    state_nodes: StateNodes<'_>,
 ) -> Result<usize, LayError>
-    requires tag { IsReadable dl.now tag }
-    requires each { length (variants_of layout.variants) ≡ length saved.states.now }
-    requires few { length saved.states.now ≤ most_fields }
-    requires few_each { All (λ ks. length ks.items ≤ most_fields) saved.states.now }
+    requires tag { IsWellFormed cx.dl.now tag }
+    requires each { length (variants_of layout.variants) ≡ length state_nodes.states.now }
+    requires few { length state_nodes.states.now ≤ most_fields }
+    requires few_each { All (λ ks. length ks.items ≤ most_fields) state_nodes.states.now }
     requires prefix { AreThere (length nodes.old) prefix.items }
-    requires there { AreThere (length nodes.old) saved.locals.now }
-    requires known { All (λ ks. All (λ k. k < length saved.locals.now) ks.items) saved.states.now }
+    requires there { AreThere (length nodes.old) state_nodes.locals.now }
+    requires known { All (λ ks. All (λ k. k < length state_nodes.locals.now) ks.items) state_nodes.states.now }
     requires places { have_places layout.size layout.fields
-        (map size_of (all_at nodes.old prefix.items) ++ size_of (one_scalar dl.now tag) ∷ [])
+        (map size_of (all_at nodes.old prefix.items) ++ size_of (one_scalar cx.dl.now tag) ∷ [])
         ≡ true }
     requires inside { VariantsInside layout.size (variants_of layout.variants) (map (λ ks.
-        map (placed_in (all_at nodes.old saved.locals.now)) ks.items) saved.states.now) }
-    ensures ok { IfOk result (λ i. IsPut nodes.old nodes.new i (placed_coroutine dl.now
-        (all_at nodes.old prefix.items) tag (all_at nodes.old saved.entry.locals.now)
-        (map (λ state. state.items) saved.entry.states.now) layout)) }
+        map (placed_in (all_at nodes.old state_nodes.locals.now)) ks.items) state_nodes.states.now) }
+    ensures ok { IfOk result (λ i. IsPut nodes.old nodes.new i (placed_coroutine cx.entry.dl.now
+        (all_at nodes.old prefix.items) tag (all_at nodes.old state_nodes.entry.locals.now)
+        (map (λ state. state.items) state_nodes.entry.states.now) layout)) }
     ensures own { IfOk result (IsOwnPut nodes.old nodes.new) }
     ensures err { IfErr result (λ e. e ≡ LayError.OutOfMemory) }
     ensures behind { AreStillThere nodes.old nodes.new }
 {
-    let children = picked_each(alloc, saved.locals, saved.states)?;
-    let tag = add(nodes, LayoutData::scalar(&dl, tag), Shape::Scalar(tag))?;
-    let states = add_each_state(alloc, nodes, &layout, children)?;
+    let children = each_state_nodes(cx.alloc, state_nodes.locals, state_nodes.states)?;
+    let tag = add(nodes, LayoutData::scalar(&cx.dl, tag), Shape::Scalar(tag))?;
+    let states = add_each_state(cx.alloc, nodes, &layout, children)?;
     add(
         nodes,
         layout,
@@ -153,18 +153,17 @@ fn add_states(
 }
 
 /// The calculator's answer to a coroutine of these states and conflicts, whose tag lies in this field.
-fn calculated(
-    alloc: Global,
-    dl: &TargetDataLayout,
+fn calculator_answer(
+    cx: LayoutCx<'_>,
     prefix: IndexVec<FieldIdx, &LayoutData<FieldIdx, VariantIdx>>,
     tag: Scalar,
     locals: &[&LayoutData<FieldIdx, VariantIdx>],
     states: &[IndexVec<FieldIdx, u32>],
     conflicts: &BitMatrix<u32, u32>,
 ) -> Result<LayoutData<FieldIdx, VariantIdx>, LayError>
-    requires data_layout { IsLawfulDataLayout dl.now }
-    requires prefix { All (λ lent. IsLawfulLayout dl.now lent.now) prefix }
-    requires locals { All (λ lent. IsLawfulLayout dl.now lent.now) locals.now }
+    requires data_layout { IsLawfulDataLayout cx.dl.now }
+    requires prefix { All (λ lent. IsLawfulLayout cx.dl.now lent.now) prefix }
+    requires locals { All (λ lent. IsLawfulLayout cx.dl.now lent.now) locals.now }
     requires tag { IsStateTag (length states.now) tag }
     requires some { 0 < length states.now }
     requires few { length states.now ≤ most_fields }
@@ -173,16 +172,16 @@ fn calculated(
     requires once { All (AllPairs (λ a b. a ≢ b)) states.now }
     requires rows { row_count conflicts.now ≡ length locals.now }
     requires columns { column_count conflicts.now ≡ length locals.now }
-    ensures ok { IfOk result (λ l. IsCoroutinedAs dl.now (map (λ lent. lent.now) prefix.entry)
-        tag (one_scalar dl.now tag) (map (λ lent. lent.now) locals.now) states.now
+    ensures ok { IfOk result (λ l. IsCoroutinedAs cx.entry.dl.now (map (λ lent. lent.now) prefix.entry)
+        tag (one_scalar cx.entry.dl.now tag) (map (λ lent. lent.now) locals.now) states.now
         conflicts.now (λ answers. answers (Ok l))) }
-    ensures err { IfErr result (λ e. IsCoroutinedAs dl.now (map (λ lent. lent.now) prefix.entry)
-        tag (one_scalar dl.now tag) (map (λ lent. lent.now) locals.now) states.now
+    ensures err { IfErr result (λ e. IsCoroutinedAs cx.entry.dl.now (map (λ lent. lent.now) prefix.entry)
+        tag (one_scalar cx.entry.dl.now tag) (map (λ lent. lent.now) locals.now) states.now
         conflicts.now (λ answers. IsRefused answers e)) }
 {
-    let field = LayoutData::scalar(&dl, tag);
-    let answer = LayoutCalculator::new(dl).layout_of_coroutine(
-        alloc,
+    let field = LayoutData::scalar(&cx.dl, tag);
+    let answer = LayoutCalculator::new(cx.dl).layout_of_coroutine(
+        cx.alloc,
         IndexSlice::new(locals),
         prefix,
         IndexSlice::new(states),
@@ -195,36 +194,33 @@ fn calculated(
 /// The layout of a coroutine without a fault of its own, from its prefix fields and its locals, each as one of the
 /// nodes.
 fn coroutine_layout(
-    alloc: Global,
-    dl: &TargetDataLayout,
+    cx: LayoutCx<'_>,
     nodes: &Nodes,
     prefix: &[usize],
     tag: Scalar,
-    saved: Saved<'_>,
-    pairs: &[(u64, u64)],
+    state_nodes: StateNodes<'_>,
 ) -> Result<LayoutData<FieldIdx, VariantIdx>, LayError>
-    requires data_layout { IsLawfulDataLayout dl.now }
-    requires faultless { coroutine_fault (length prefix.now) (length saved.locals.now)
-        (map (λ state. state.items) saved.states.now) pairs.now ≡ None }
-    requires tag { IsStateTag (length saved.states.now) tag }
+    requires data_layout { IsLawfulDataLayout cx.dl.now }
+    requires faultless { coroutine_fault (length prefix.now) (length state_nodes.locals.now)
+        (map (λ state. state.items) state_nodes.states.now) state_nodes.pairs.now ≡ None }
+    requires tag { IsStateTag (length state_nodes.states.now) tag }
     requires before { AreThere (length nodes.now) prefix.now }
-    requires there { AreThere (length nodes.now) saved.locals.now }
-    requires prefix { HaveLawfulLayouts dl.now (all_at nodes.now prefix.now) }
-    requires locals { HaveLawfulLayouts dl.now (all_at nodes.now saved.locals.now) }
-    ensures ok { IfOk result (λ l. IsCoroutined dl.now (all_at nodes.now prefix.now) tag
-        (one_scalar dl.now tag) (all_at nodes.now saved.entry.locals.now)
-        (map (λ state. state.items) saved.entry.states.now) pairs.now (Ok l)) }
-    ensures err { IfErr result (IsRefused (IsCoroutined dl.now (all_at nodes.now prefix.now) tag
-        (one_scalar dl.now tag) (all_at nodes.now saved.entry.locals.now)
-        (map (λ state. state.items) saved.entry.states.now) pairs.now)) }
+    requires there { AreThere (length nodes.now) state_nodes.locals.now }
+    requires prefix { HaveLawfulLayouts cx.dl.now (all_at nodes.now prefix.now) }
+    requires locals { HaveLawfulLayouts cx.dl.now (all_at nodes.now state_nodes.locals.now) }
+    ensures ok { IfOk result (λ l. IsCoroutined cx.entry.dl.now (all_at nodes.now prefix.now) tag
+        (one_scalar cx.entry.dl.now tag) (all_at nodes.now state_nodes.entry.locals.now)
+        (map (λ state. state.items) state_nodes.entry.states.now) state_nodes.entry.pairs.now (Ok l)) }
+    ensures err { IfErr result (IsRefused (IsCoroutined cx.entry.dl.now (all_at nodes.now prefix.now) tag
+        (one_scalar cx.entry.dl.now tag) (all_at nodes.now state_nodes.entry.locals.now)
+        (map (λ state. state.items) state_nodes.entry.states.now) state_nodes.entry.pairs.now)) }
 {
-    let relation = conflicts(alloc, saved.locals.len(), pairs)?;
-    let states = named_each(alloc, saved.states)?;
-    let prefix = layouts_at(alloc, nodes, prefix)?;
-    let locals = layouts_at(alloc, nodes, saved.locals)?;
-    calculated(
-        alloc,
-        dl,
+    let relation = conflicts(cx.alloc, state_nodes.locals.len(), state_nodes.pairs)?;
+    let states = each_state_locals(cx.alloc, state_nodes.states)?;
+    let prefix = layouts_at(cx.alloc, nodes, prefix)?;
+    let locals = layouts_at(cx.alloc, nodes, state_nodes.locals)?;
+    calculator_answer(
+        cx,
         prefix,
         tag,
         locals.as_slice().as_raw(),
@@ -235,62 +231,61 @@ fn coroutine_layout(
 
 /// A node for a coroutine without a fault of its own.
 fn add_faultless_coroutine(
-    alloc: Global,
-    dl: &TargetDataLayout,
+    cx: LayoutCx<'_>,
     nodes: &mut Nodes,
     prefix: Vec<usize>,
-    locals: &[usize],
-    states: &[Vec<u64>],
-    pairs: &[(u64, u64)],
+    state_nodes: StateNodes<'_>,
 ) -> Result<usize, LayError>
-    requires data_layout { IsLawfulDataLayout dl.now }
-    requires faultless { coroutine_fault (length prefix.items) (length locals.now)
-        (map (λ state. state.items) states.now) pairs.now ≡ None }
+    requires data_layout { IsLawfulDataLayout cx.dl.now }
+    requires faultless { coroutine_fault (length prefix.items) (length state_nodes.locals.now)
+        (map (λ state. state.items) state_nodes.states.now) state_nodes.pairs.now ≡ None }
     requires before { AreThere (length nodes.old) prefix.items }
-    requires there { AreThere (length nodes.old) locals.now }
-    requires prefix { HaveLawfulLayouts dl.now (all_at nodes.old prefix.items) }
-    requires locals { HaveLawfulLayouts dl.now (all_at nodes.old locals.now) }
-    ensures ok { IfOk result (IsCoroutineAdded dl.now nodes.old nodes.new
-        (all_at nodes.old prefix.items) (all_at nodes.old locals.now)
-        (map (λ state. state.items) states.now) pairs.now) }
+    requires there { AreThere (length nodes.old) state_nodes.locals.now }
+    requires prefix { HaveLawfulLayouts cx.dl.now (all_at nodes.old prefix.items) }
+    requires locals { HaveLawfulLayouts cx.dl.now (all_at nodes.old state_nodes.locals.now) }
+    ensures ok { IfOk result (IsCoroutineAdded cx.entry.dl.now nodes.old nodes.new
+        (all_at nodes.old prefix.items) (all_at nodes.old state_nodes.entry.locals.now)
+        (map (λ state. state.items) state_nodes.entry.states.now) state_nodes.entry.pairs.now) }
     ensures own { IfOk result (IsOwnPut nodes.old nodes.new) }
-    ensures err { IfErr result (IsRefused (IsCoroutineOf dl.now
-        (all_at nodes.old prefix.items) (all_at nodes.old locals.now)
-        (map (λ state. state.items) states.now) pairs.now)) }
+    ensures err { IfErr result (IsRefused (IsCoroutineOf cx.entry.dl.now
+        (all_at nodes.old prefix.items) (all_at nodes.old state_nodes.entry.locals.now)
+        (map (λ state. state.items) state_nodes.entry.states.now) state_nodes.entry.pairs.now)) }
     ensures behind { AreStillThere nodes.old nodes.new }
 {
-    let tag = state_tag(states.len());
-    let saved = Saved { locals, states };
-    let layout = coroutine_layout(alloc, dl, nodes, &prefix, tag, saved, pairs)?;
-    add_states(alloc, dl, nodes, layout, tag, prefix, saved)
+    let tag = state_tag(state_nodes.states.len());
+    let layout = coroutine_layout(cx, nodes, &prefix, tag, state_nodes)?;
+    add_states(cx, nodes, layout, tag, prefix, state_nodes)
 }
 
 /// A node for a coroutine of these prefix fields and locals, each as one of the nodes.
 pub(crate) fn add_coroutine(
-    alloc: Global,
-    dl: &TargetDataLayout,
+    cx: LayoutCx<'_>,
     nodes: &mut Nodes,
     prefix: Vec<usize>,
-    locals: &[usize],
-    states: &[Vec<u64>],
-    pairs: &[(u64, u64)],
+    state_nodes: StateNodes<'_>,
 ) -> Result<usize, LayError>
-    requires data_layout { IsLawfulDataLayout dl.now }
+    requires data_layout { IsLawfulDataLayout cx.dl.now }
     requires before { AreThere (length nodes.old) prefix.items }
-    requires there { AreThere (length nodes.old) locals.now }
-    requires prefix { HaveLawfulLayouts dl.now (all_at nodes.old prefix.items) }
-    requires locals { HaveLawfulLayouts dl.now (all_at nodes.old locals.now) }
-    ensures ok { IfOk result (IsCoroutineAdded dl.now nodes.old nodes.new
-        (all_at nodes.old prefix.items) (all_at nodes.old locals.now)
-        (map (λ state. state.items) states.now) pairs.now) }
+    requires there { AreThere (length nodes.old) state_nodes.locals.now }
+    requires prefix { HaveLawfulLayouts cx.dl.now (all_at nodes.old prefix.items) }
+    requires locals { HaveLawfulLayouts cx.dl.now (all_at nodes.old state_nodes.locals.now) }
+    ensures ok { IfOk result (IsCoroutineAdded cx.entry.dl.now nodes.old nodes.new
+        (all_at nodes.old prefix.items) (all_at nodes.old state_nodes.entry.locals.now)
+        (map (λ state. state.items) state_nodes.entry.states.now) state_nodes.entry.pairs.now) }
     ensures own { IfOk result (IsOwnPut nodes.old nodes.new) }
-    ensures err { IfErr result (IsRefused (IsCoroutineOf dl.now
-        (all_at nodes.old prefix.items) (all_at nodes.old locals.now)
-        (map (λ state. state.items) states.now) pairs.now)) }
+    ensures err { IfErr result (IsRefused (IsCoroutineOf cx.entry.dl.now
+        (all_at nodes.old prefix.items) (all_at nodes.old state_nodes.entry.locals.now)
+        (map (λ state. state.items) state_nodes.entry.states.now) state_nodes.entry.pairs.now)) }
     ensures behind { AreStillThere nodes.old nodes.new }
 {
-    match coroutine_fault(alloc, prefix.len(), locals.len(), states, pairs)? {
+    match coroutine_fault(
+        cx.alloc,
+        prefix.len(),
+        state_nodes.locals.len(),
+        state_nodes.states,
+        state_nodes.pairs,
+    )? {
         Some(fault) => Err(fault),
-        None => add_faultless_coroutine(alloc, dl, nodes, prefix, locals, states, pairs),
+        None => add_faultless_coroutine(cx, nodes, prefix, state_nodes),
     }
 }

@@ -4,23 +4,24 @@ ghost use Rattle.std.specs.Prelude.{◌≡◌, ◌<◌, ◌≤◌, ◌∷◌, []
 ghost use Rattle.std.specs.List.{list_all};
 ghost use Rattle.abi_base.specs.DataLayout.{IsLawfulDataLayout};
 ghost use Rattle.abi_scalar.specs.Lawful.{IsLawfulLayout};
-ghost use Rattle.abi_scalar.specs.Scalar.{IsReadable};
+ghost use Rattle.abi_scalar.specs.Scalar.{IsWellFormed};
 ghost use Rattle.abi_scalar.specs.Variant.{variant_layout, variants_of};
 ghost use Rattle.abi_univariant.specs.List.{HasLawfulAligns};
 ghost use Rattle.abi_tree.specs.Placed.{Placed, size_of, tagged};
 ghost use Rattle.abi_tree.specs.Nodes.{encoding_of, tag_offset};
-ghost use Rattle.rustc_abi.specs.Enums.{IsEnumed, IsTagIntegerAnswer, arms_at, has_equal, is_discriminant, layouts_of};
+ghost use Rattle.rustc_abi.specs.Enums.{IsEnumed, IsTagIntegerAnswer, tagged_variants_at, has_equal, is_discriminant, layouts_of};
 ghost use Rattle.rustc_abi.specs.Laying.{IsEnumOf, enum_fault, most_fields, one_scalar, placed_enum};
 ghost use Rattle.rustc_abi.specs.Inside.{VariantsInside};
 ghost use Rattle.abi_tree.specs.Laws.{have_places};
 ghost use Rattle.rustc_abi.specs.Error.{IsRefused};
 ghost use Rattle.abi_tree.specs.Well.{IsPut};
-ghost use Rattle.rustc_abi.specs.Adding.{AreArms, AreEachThere, AreStillThere, HasReadableTag, HasVariants, HaveLawfulLayouts, HavePlaces, IsEnumAdded, variants_in};
+ghost use Rattle.rustc_abi.specs.Adding.{AreTaggedVariants, AreEachThere, AreStillThere, HasWellFormedTag, HasVariants, HaveLawfulLayouts, HavePlaces, IsEnumAdded, variants_in};
 ghost use Rattle.rustc_abi.specs.Count.{HasMore, IsOwnPut};
 
-use crate::discriminants::{has_equal, is_discriminant, numbered};
+use crate::discriminants::{has_equal, is_discriminant, number_variants};
 use crate::error::LayError;
 use crate::lay_fields::{has_bad_align, has_bad_index};
+use crate::layout_cx::LayoutCx;
 use crate::node::{add, layouts_at};
 use crate::tag_integer::tag_integer;
 use abi_base::{Integer, NicheOptimizations, TargetDataLayout};
@@ -45,16 +46,15 @@ fn are_discriminants(dl: &TargetDataLayout, repr: &ReprOptions, numbers: &[u128]
 
 /// The own fault of an enum, if it has one.
 fn enum_fault(
-    alloc: Global,
-    dl: &TargetDataLayout,
+    cx: LayoutCx<'_>,
     repr: &ReprOptions,
     numbers: &[u128],
     children: &[Vec<usize>],
 ) -> Result<Option<LayError>, AllocError>
-    requires { IsLawfulDataLayout dl.now }
+    requires { IsLawfulDataLayout cx.dl.now }
     ensures { IfOk result (λ fault. (variants : List (List Placed)) →
         map length variants ≡ map (λ c. length c.items) children.now →
-        fault ≡ enum_fault dl.now repr.now numbers.now variants) }
+        fault ≡ enum_fault cx.entry.dl.now repr.now numbers.now variants) }
 {
     if has_bad_index(children) {
         return Ok(Some(LayError::BadIndex));
@@ -62,10 +62,10 @@ fn enum_fault(
     if has_bad_align(repr) {
         return Ok(Some(LayError::BadAlign));
     }
-    if has_equal(alloc, numbers)? {
+    if has_equal(cx.alloc, numbers)? {
         return Ok(Some(LayError::DuplicateDiscriminant));
     }
-    if !are_discriminants(dl, repr, numbers) {
+    if !are_discriminants(cx.dl, repr, numbers) {
         return Ok(Some(LayError::DiscriminantTooWide));
     }
     Ok(None)
@@ -91,9 +91,8 @@ fn variant_layouts<'a>(
 
 /// The calculator's answer to variants with these discriminants, where the tag's integer that is asked for is the
 /// enum's.
-fn calculated<D: Fn(RangeFrom<i128>, RangeToInclusive<u128>) -> (Integer, bool)>(
-    alloc: Global,
-    dl: &TargetDataLayout,
+fn calculator_answer<D: Fn(RangeFrom<i128>, RangeToInclusive<u128>) -> (Integer, bool)>(
+    cx: LayoutCx<'_>,
     repr: &ReprOptions,
     variants: &[IndexVec<FieldIdx, &LayoutData<FieldIdx, VariantIdx>>],
     discr_range_of_repr: D,
@@ -101,26 +100,26 @@ fn calculated<D: Fn(RangeFrom<i128>, RangeToInclusive<u128>) -> (Integer, bool)>
 ) -> Result<LayoutData<FieldIdx, VariantIdx>, LayError>
 where
     D: Drop,
-    requires data_layout { IsLawfulDataLayout dl.now }
+    requires data_layout { IsLawfulDataLayout cx.dl.now }
     requires aligns { HasLawfulAligns repr.now }
     requires few { length variants.now ≤ most_fields }
     requires each { length numbers.now ≡ length variants.now }
-    requires lawful { All (All (λ lent. IsLawfulLayout dl.now lent.now)) variants.now }
+    requires lawful { All (All (λ lent. IsLawfulLayout cx.dl.now lent.now)) variants.now }
     requires differ { has_equal numbers.now ≡ false }
-    requires narrow { list_all (is_discriminant dl.now repr.now) numbers.now ≡ true }
+    requires narrow { list_all (is_discriminant cx.dl.now repr.now) numbers.now ≡ true }
     requires callable { D.IsAlwaysCallable discr_range_of_repr }
     requires asked { (from : _) (to : _) (answer : _) → D.post discr_range_of_repr from to answer →
-        IsTagIntegerAnswer dl.now repr.now from to answer }
+        IsTagIntegerAnswer cx.dl.now repr.now from to answer }
     ensures ok { IfOk result (λ l. (all : List (List Placed)) →
         map (map (λ lent. lent.now)) variants.now ≡ layouts_of all →
-        IsEnumed dl.now repr.now numbers.now all (Ok l)) }
+        IsEnumed cx.entry.dl.now repr.now numbers.now all (Ok l)) }
     ensures err { IfErr result (λ e. (all : List (List Placed)) →
         map (map (λ lent. lent.now)) variants.now ≡ layouts_of all →
-        IsRefused (IsEnumed dl.now repr.now numbers.now all) e) }
+        IsRefused (IsEnumed cx.entry.dl.now repr.now numbers.now all) e) }
 {
-    let items = numbered(alloc, numbers)?;
-    let answer = LayoutCalculator::new(dl).layout_of_struct_or_enum(
-        alloc,
+    let items = number_variants(cx.alloc, numbers)?;
+    let answer = LayoutCalculator::new(cx.dl).layout_of_struct_or_enum(
+        cx.alloc,
         repr,
         IndexSlice::new(variants),
         true,
@@ -135,28 +134,27 @@ where
 /// The layout of an enum without a fault of its own, from its discriminants and from the fields of its variants, each
 /// as one of the nodes.
 fn enum_layout(
-    alloc: Global,
-    dl: &TargetDataLayout,
+    cx: LayoutCx<'_>,
     nodes: &Nodes,
     repr: &ReprOptions,
     numbers: &[u128],
     children: &[Vec<usize>],
 ) -> Result<LayoutData<FieldIdx, VariantIdx>, LayError>
-    requires data_layout { IsLawfulDataLayout dl.now }
-    requires faultless { enum_fault dl.now repr.now numbers.now
+    requires data_layout { IsLawfulDataLayout cx.dl.now }
+    requires faultless { enum_fault cx.dl.now repr.now numbers.now
         (variants_in nodes.now children.now) ≡ None }
     requires each { length numbers.now ≡ length children.now }
     requires there { AreEachThere (length nodes.now) children.now }
-    requires lawful { All (HaveLawfulLayouts dl.now) (variants_in nodes.now children.now) }
+    requires lawful { All (HaveLawfulLayouts cx.dl.now) (variants_in nodes.now children.now) }
     ensures ok { IfOk result (λ l.
-        IsEnumed dl.now repr.now numbers.now (variants_in nodes.now children.now) (Ok l)) }
-    ensures err { IfErr result (IsRefused (IsEnumed dl.now repr.now numbers.now
+        IsEnumed cx.entry.dl.now repr.now numbers.now (variants_in nodes.now children.now) (Ok l)) }
+    ensures err { IfErr result (IsRefused (IsEnumed cx.entry.dl.now repr.now numbers.now
         (variants_in nodes.now children.now))) }
 {
-    let variants = variant_layouts(alloc, nodes, children)?;
-    calculated(
-        alloc,
-        dl,
+    let variants = variant_layouts(cx.alloc, nodes, children)?;
+    let dl = cx.dl;
+    calculator_answer(
+        cx,
         repr,
         &variants,
         |least, greatest| tag_integer(dl, repr, least.start, greatest.last),
@@ -201,9 +199,9 @@ pub(crate) fn add_variants(
     requires there { AreEachThere (length nodes.old) children.items }
     requires inside { VariantsInside layout.now.size (variants_of layout.now.variants)
         (variants_in nodes.old children.items) }
-    ensures ok { IfOk result (λ variants. AreArms nodes.old nodes.new
+    ensures ok { IfOk result (λ variants. AreTaggedVariants nodes.old nodes.new
         (map (λ l. l.size) (variants_of layout.now.variants)) variants.items
-        (arms_at layout.now mark 0 (variants_of layout.now.variants) numbers.now
+        (tagged_variants_at layout.now mark 0 (variants_of layout.now.variants) numbers.now
         (variants_in nodes.old children.items))) }
     ensures count { IfOk result (λ variants.
         HasMore (length variants.items) false nodes.old nodes.new) }
@@ -220,9 +218,9 @@ pub(crate) fn add_variants(
     Ok(variants)
 }
 
-/// Variants that a tag tells apart: the discriminant of each, and its fields as nodes.
+/// Variants that a tag distinguishes: the discriminant of each, and its fields as nodes.
 #[derive(Drop)]
-struct Told<'a> {
+struct VariantNodes<'a> {
     numbers: &'a [u128],
     children: Vec<Vec<usize>>,
 }
@@ -230,34 +228,40 @@ struct Told<'a> {
 /// A node for an enum of several variants with this layout and this tag, behind one for the tag and one for each
 /// variant.
 fn add_tagged(
-    alloc: Global,
-    dl: &TargetDataLayout,
+    cx: LayoutCx<'_>,
     nodes: &mut Nodes,
     layout: LayoutData<FieldIdx, VariantIdx>,
     mark: Mark,
     tag: Scalar,
-    told: Told<'_>,
+    variant_nodes: VariantNodes<'_>,
 ) -> Result<usize, LayError>
-    requires tag { IsReadable dl.now tag }
-    requires variants { length (variants_of layout.variants) ≡ length told.children.items }
-    requires each { length told.numbers.now ≡ length told.children.items }
-    requires few { length told.children.items ≤ most_fields }
-    requires few_each { All (λ fields. length fields.items ≤ most_fields) told.children.items }
-    requires there { AreEachThere (length nodes.old) told.children.items }
+    requires tag { IsWellFormed cx.dl.now tag }
+    requires variants { length (variants_of layout.variants) ≡ length variant_nodes.children.items }
+    requires each { length variant_nodes.numbers.now ≡ length variant_nodes.children.items }
+    requires few { length variant_nodes.children.items ≤ most_fields }
+    requires few_each { All (λ fields. length fields.items ≤ most_fields) variant_nodes.children.items }
+    requires there { AreEachThere (length nodes.old) variant_nodes.children.items }
     requires places { have_places layout.size layout.fields
-        (size_of (one_scalar dl.now tag) ∷ []) ≡ true }
+        (size_of (one_scalar cx.dl.now tag) ∷ []) ≡ true }
     requires inside { VariantsInside layout.size (variants_of layout.variants)
-        (variants_in nodes.old told.children.items) }
+        (variants_in nodes.old variant_nodes.children.items) }
     ensures ok { IfOk result (λ i. IsPut nodes.old nodes.new i (tagged layout mark
-        (tag_offset layout) (one_scalar dl.now tag) (encoding_of layout.variants)
-        (arms_at layout mark 0 (variants_of layout.variants) told.entry.numbers.now
-        (variants_in nodes.old told.entry.children.items)))) }
+        (tag_offset layout) (one_scalar cx.entry.dl.now tag) (encoding_of layout.variants)
+        (tagged_variants_at layout mark 0 (variants_of layout.variants) variant_nodes.entry.numbers.now
+        (variants_in nodes.old variant_nodes.entry.children.items)))) }
     ensures own { IfOk result (IsOwnPut nodes.old nodes.new) }
     ensures err { IfErr result (λ e. e ≡ LayError.OutOfMemory) }
     ensures behind { AreStillThere nodes.old nodes.new }
 {
-    let tag = add(nodes, LayoutData::scalar(&dl, tag), Shape::Scalar(tag))?;
-    let variants = add_variants(alloc, nodes, &layout, mark, told.numbers, told.children)?;
+    let tag = add(nodes, LayoutData::scalar(&cx.dl, tag), Shape::Scalar(tag))?;
+    let variants = add_variants(
+        cx.alloc,
+        nodes,
+        &layout,
+        mark,
+        variant_nodes.numbers,
+        variant_nodes.children,
+    )?;
     add(
         nodes,
         layout,
@@ -271,24 +275,22 @@ fn add_tagged(
 
 /// A node for an enum with this layout, behind those for its tag and its variants where it has several.
 fn add_placed(
-    alloc: Global,
-    dl: &TargetDataLayout,
+    cx: LayoutCx<'_>,
     nodes: &mut Nodes,
     layout: LayoutData<FieldIdx, VariantIdx>,
     repr: &ReprOptions,
-    numbers: &[u128],
-    children: Vec<Vec<usize>>,
+    variant_nodes: VariantNodes<'_>,
 ) -> Result<usize, LayError>
-    requires tag { HasReadableTag dl.now layout.variants }
-    requires variants { HasVariants (length children.items) layout.variants }
-    requires each { length numbers.now ≡ length children.items }
-    requires few { length children.items ≤ most_fields }
-    requires few_each { All (λ fields. length fields.items ≤ most_fields) children.items }
-    requires there { AreEachThere (length nodes.old) children.items }
-    requires places { HavePlaces dl.now layout
-        (variants_in nodes.old children.items) layout.variants }
-    ensures ok { IfOk result (λ i. IsPut nodes.old nodes.new i (placed_enum dl.now
-        repr.now numbers.now (variants_in nodes.old children.items) layout)) }
+    requires tag { HasWellFormedTag cx.dl.now layout.variants }
+    requires variants { HasVariants (length variant_nodes.children.items) layout.variants }
+    requires each { length variant_nodes.numbers.now ≡ length variant_nodes.children.items }
+    requires few { length variant_nodes.children.items ≤ most_fields }
+    requires few_each { All (λ fields. length fields.items ≤ most_fields) variant_nodes.children.items }
+    requires there { AreEachThere (length nodes.old) variant_nodes.children.items }
+    requires places { HavePlaces cx.dl.now layout
+        (variants_in nodes.old variant_nodes.children.items) layout.variants }
+    ensures ok { IfOk result (λ i. IsPut nodes.old nodes.new i (placed_enum cx.entry.dl.now
+        repr.now variant_nodes.entry.numbers.now (variants_in nodes.old variant_nodes.entry.children.items) layout)) }
     ensures own { IfOk result (IsOwnPut nodes.old nodes.new) }
     ensures err { IfErr result (λ e. e ≡ LayError.OutOfMemory) }
     ensures behind { AreStillThere nodes.old nodes.new }
@@ -297,65 +299,63 @@ fn add_placed(
     match layout.variants {
         Variants::Empty => add(nodes, layout, Shape::Never(mark)),
         Variants::Single { index } => {
-            let mut children = children;
+            let mut children = variant_nodes.children;
             let fields = children.swap_remove(index.as_usize());
             add(nodes, layout, Shape::Single(mark, fields))
         }
         Variants::Multiple { tag, .. } => {
-            let told = Told { numbers, children };
-            add_tagged(alloc, dl, nodes, layout, mark, tag, told)
+            add_tagged(cx, nodes, layout, mark, tag, variant_nodes)
         }
     }
 }
 
 /// A node for an enum without a fault of its own.
 fn add_faultless_enum(
-    alloc: Global,
-    dl: &TargetDataLayout,
+    cx: LayoutCx<'_>,
     nodes: &mut Nodes,
     repr: &ReprOptions,
     numbers: &[u128],
     children: Vec<Vec<usize>>,
 ) -> Result<usize, LayError>
-    requires data_layout { IsLawfulDataLayout dl.now }
-    requires faultless { enum_fault dl.now repr.now numbers.now
+    requires data_layout { IsLawfulDataLayout cx.dl.now }
+    requires faultless { enum_fault cx.dl.now repr.now numbers.now
         (variants_in nodes.old children.items) ≡ None }
     requires each { length numbers.now ≡ length children.items }
     requires there { AreEachThere (length nodes.old) children.items }
-    requires lawful { All (HaveLawfulLayouts dl.now) (variants_in nodes.old children.items) }
-    ensures ok { IfOk result (IsEnumAdded dl.now nodes.old nodes.new
+    requires lawful { All (HaveLawfulLayouts cx.dl.now) (variants_in nodes.old children.items) }
+    ensures ok { IfOk result (IsEnumAdded cx.entry.dl.now nodes.old nodes.new
         repr.now numbers.now (variants_in nodes.old children.items)) }
     ensures own { IfOk result (IsOwnPut nodes.old nodes.new) }
     ensures err { IfErr result (IsRefused
-        (IsEnumOf dl.now repr.now numbers.now (variants_in nodes.old children.items))) }
+        (IsEnumOf cx.entry.dl.now repr.now numbers.now (variants_in nodes.old children.items))) }
     ensures behind { AreStillThere nodes.old nodes.new }
 {
-    let layout = enum_layout(alloc, dl, nodes, repr, numbers, &children)?;
-    add_placed(alloc, dl, nodes, layout, repr, numbers, children)
+    let layout = enum_layout(cx, nodes, repr, numbers, &children)?;
+    let variant_nodes = VariantNodes { numbers, children };
+    add_placed(cx, nodes, layout, repr, variant_nodes)
 }
 
 /// A node for an enum of these variants, the fields of each as nodes.
 pub(crate) fn add_enum(
-    alloc: Global,
-    dl: &TargetDataLayout,
+    cx: LayoutCx<'_>,
     nodes: &mut Nodes,
     repr: &ReprOptions,
     numbers: &[u128],
     children: Vec<Vec<usize>>,
 ) -> Result<usize, LayError>
-    requires data_layout { IsLawfulDataLayout dl.now }
+    requires data_layout { IsLawfulDataLayout cx.dl.now }
     requires each { length numbers.now ≡ length children.items }
     requires there { AreEachThere (length nodes.old) children.items }
-    requires lawful { All (HaveLawfulLayouts dl.now) (variants_in nodes.old children.items) }
-    ensures ok { IfOk result (IsEnumAdded dl.now nodes.old nodes.new
+    requires lawful { All (HaveLawfulLayouts cx.dl.now) (variants_in nodes.old children.items) }
+    ensures ok { IfOk result (IsEnumAdded cx.entry.dl.now nodes.old nodes.new
         repr.now numbers.now (variants_in nodes.old children.items)) }
     ensures own { IfOk result (IsOwnPut nodes.old nodes.new) }
     ensures err { IfErr result (IsRefused
-        (IsEnumOf dl.now repr.now numbers.now (variants_in nodes.old children.items))) }
+        (IsEnumOf cx.entry.dl.now repr.now numbers.now (variants_in nodes.old children.items))) }
     ensures behind { AreStillThere nodes.old nodes.new }
 {
-    match enum_fault(alloc, dl, repr, numbers, &children)? {
+    match enum_fault(cx, repr, numbers, &children)? {
         Some(fault) => Err(fault),
-        None => add_faultless_enum(alloc, dl, nodes, repr, numbers, children),
+        None => add_faultless_enum(cx, nodes, repr, numbers, children),
     }
 }

@@ -16,13 +16,13 @@ ghost use Rattle.rustc_abi.specs.Adding.{AreStillThere, AreThere, HaveLawfulLayo
 ghost use Rattle.rustc_abi.specs.Count.{IsOwnPut};
 
 use crate::error::LayError;
+use crate::layout_cx::LayoutCx;
 use crate::node::{add, layouts_at};
-use abi_base::{Align, StructKind, TargetDataLayout};
+use abi_base::{Align, StructKind};
 use abi_calc::LayoutCalculator;
 use abi_index::{FieldIdx, VariantIdx};
 use abi_scalar::{LayoutData, ReprOptions};
 use abi_tree::{Mark, Nodes, Shape};
-use std::alloc::Global;
 
 /// How many fields a list may have.
 pub(crate) const MOST_FIELDS: usize = 0xFFFF_FF01;
@@ -89,8 +89,7 @@ pub(crate) fn kind_of(always_sized: bool, children: &[usize]) -> StructKind
 
 /// The layout of fields, each as one of the nodes.
 fn fields_layout(
-    alloc: Global,
-    dl: &TargetDataLayout,
+    cx: LayoutCx<'_>,
     nodes: &Nodes,
     repr: &ReprOptions,
     kind: StructKind,
@@ -100,23 +99,23 @@ fn fields_layout(
         × (0 < length children.now)) }
     requires aligns { HasLawfulAligns repr.now }
     requires count { length children.now ≤ most_fields }
-    requires data_layout { IsLawfulDataLayout dl.now }
+    requires data_layout { IsLawfulDataLayout cx.dl.now }
     requires there { AreThere (length nodes.now) children.now }
-    requires lawful { HaveLawfulLayouts dl.now (all_at nodes.now children.now) }
-    ensures ok { IfOk result (λ l. IsLaidList dl.now repr.now kind
+    requires lawful { HaveLawfulLayouts cx.dl.now (all_at nodes.now children.now) }
+    ensures ok { IfOk result (λ l. IsLaidList cx.entry.dl.now repr.now kind
         (map layout_of (all_at nodes.now children.now)) (Ok l)) }
     ensures err { IfErr result (IsRefused
-        (IsLaidList dl.now repr.now kind (map layout_of (all_at nodes.now children.now)))) }
-    ensures lawful { IfOk result (IsLawfulLayout dl.now) }
+        (IsLaidList cx.entry.dl.now repr.now kind (map layout_of (all_at nodes.now children.now)))) }
+    ensures lawful { IfOk result (IsLawfulLayout cx.entry.dl.now) }
     ensures apart { IfOk result (λ l.
         AreApart l.size (listed_offsets l.fields) (map size_of (all_at nodes.now children.now))) }
     ensures niche { IfOk result (λ l.
         IfSome l.largest_niche (IsNicheOfPart (listed_offsets l.fields)
         (map layout_of (all_at nodes.now children.now)))) }
 {
-    let layouts = layouts_at(alloc, nodes, children)?;
-    let answer = LayoutCalculator::new(dl).layout_of_univariant(
-        alloc,
+    let layouts = layouts_at(cx.alloc, nodes, children)?;
+    let answer = LayoutCalculator::new(cx.dl).layout_of_univariant(
+        cx.alloc,
         layouts.as_slice(),
         repr,
         kind,
@@ -126,27 +125,26 @@ fn fields_layout(
 
 /// A node for the fields of a struct without a fault of its own.
 fn add_faultless_fields(
-    alloc: Global,
-    dl: &TargetDataLayout,
+    cx: LayoutCx<'_>,
     nodes: &mut Nodes,
     repr: &ReprOptions,
     always_sized: bool,
     children: Vec<usize>,
 ) -> Result<usize, LayError>
-    requires data_layout { IsLawfulDataLayout dl.now }
+    requires data_layout { IsLawfulDataLayout cx.dl.now }
     requires there { AreThere (length nodes.old) children.items }
-    requires lawful { HaveLawfulLayouts dl.now (all_at nodes.old children.items) }
+    requires lawful { HaveLawfulLayouts cx.dl.now (all_at nodes.old children.items) }
     requires faultless { fields_fault repr.now (all_at nodes.old children.items) ≡ None }
-    ensures ok { IfOk result (IsTypeAdded dl.now nodes.old nodes.new
+    ensures ok { IfOk result (IsTypeAdded cx.entry.dl.now nodes.old nodes.new
         (struct repr.now always_sized None) (all_at nodes.old children.items)) }
     ensures own { IfOk result (IsOwnPut nodes.old nodes.new) }
     ensures err { IfErr result (IsRefused
-        (IsFieldsAnswer dl.now repr.now always_sized (all_at nodes.old children.items))) }
+        (IsFieldsAnswer cx.entry.dl.now repr.now always_sized (all_at nodes.old children.items))) }
     ensures kept { OnErr result (nodes.new ≡ nodes.old) }
     ensures behind { AreStillThere nodes.old nodes.new }
 {
     let kind = kind_of(always_sized, &children);
-    let layout = fields_layout(alloc, dl, nodes, repr, kind, &children)?;
+    let layout = fields_layout(cx, nodes, repr, kind, &children)?;
     add(
         nodes,
         layout,
@@ -156,26 +154,25 @@ fn add_faultless_fields(
 
 /// A node for fields, each as one of the nodes.
 pub(crate) fn add_fields(
-    alloc: Global,
-    dl: &TargetDataLayout,
+    cx: LayoutCx<'_>,
     nodes: &mut Nodes,
     repr: &ReprOptions,
     always_sized: bool,
     children: Vec<usize>,
 ) -> Result<usize, LayError>
-    requires data_layout { IsLawfulDataLayout dl.now }
+    requires data_layout { IsLawfulDataLayout cx.dl.now }
     requires there { AreThere (length nodes.old) children.items }
-    requires lawful { HaveLawfulLayouts dl.now (all_at nodes.old children.items) }
-    ensures ok { IfOk result (IsTypeAdded dl.now nodes.old nodes.new
+    requires lawful { HaveLawfulLayouts cx.dl.now (all_at nodes.old children.items) }
+    ensures ok { IfOk result (IsTypeAdded cx.entry.dl.now nodes.old nodes.new
         (struct repr.now always_sized None) (all_at nodes.old children.items)) }
     ensures own { IfOk result (IsOwnPut nodes.old nodes.new) }
     ensures err { IfErr result (IsRefused
-        (IsFieldsAnswer dl.now repr.now always_sized (all_at nodes.old children.items))) }
+        (IsFieldsAnswer cx.entry.dl.now repr.now always_sized (all_at nodes.old children.items))) }
     ensures kept { OnErr result (nodes.new ≡ nodes.old) }
     ensures behind { AreStillThere nodes.old nodes.new }
 {
     match fields_fault(repr, &children) {
         Some(fault) => Err(fault),
-        None => add_faultless_fields(alloc, dl, nodes, repr, always_sized, children),
+        None => add_faultless_fields(cx, nodes, repr, always_sized, children),
     }
 }

@@ -14,13 +14,14 @@ ghost use Rattle.abi_tree.specs.Well.{all_at};
 ghost use Rattle.rustc_abi.specs.Adding.{AreStillThere, AreThere, HaveLawfulLayouts, IsTypeAdded};
 ghost use Rattle.rustc_abi.specs.Count.{IsOwnPut};
 ghost use Rattle.rustc_abi.specs.Error.{IsRefused};
-ghost use Rattle.rustc_abi.specs.Laying.{IsListedInOrder, IsOrderedFieldsAnswer, most_fields, ordered_fault, randomized};
+ghost use Rattle.rustc_abi.specs.Laying.{IsListedInOrder, IsOrderedFieldsAnswer, most_fields, ordered_fault, with_randomize_flag};
 ghost use Rattle.rustc_abi.specs.declared.error.LayError.TheVariants.{BadOrder, OutOfMemory};
 
 use crate::error::LayError;
 use crate::lay_fields::{fields_fault, kind_of};
+use crate::layout_cx::LayoutCx;
 use crate::node::{add, layouts_at};
-use abi_base::{StructKind, TargetDataLayout};
+use abi_base::StructKind;
 use abi_calc::LayoutCalculator;
 use abi_index::{FieldIdx, VariantIdx};
 use abi_scalar::{LayoutData, ReprFlags, ReprOptions};
@@ -29,8 +30,8 @@ use bitflags::Flags;
 use std::alloc::Global;
 
 /// The same repr, under which fields may lie in any order.
-fn randomized(repr: &ReprOptions) -> ReprOptions
-    ensures { result ≡ randomized repr.now }
+fn with_randomize_flag(repr: &ReprOptions) -> ReprOptions
+    ensures { result ≡ with_randomize_flag repr.now }
 {
     let mut flags = repr.flags;
     flags.insert(ReprFlags::RANDOMIZE_LAYOUT);
@@ -68,8 +69,7 @@ fn fields_named(alloc: Global, order: &[u64], count: usize) -> Result<Vec<FieldI
 
 /// The layout of fields, each as one of the nodes, in the order that is handed in.
 fn ordered_layout(
-    alloc: Global,
-    dl: &TargetDataLayout,
+    cx: LayoutCx<'_>,
     nodes: &Nodes,
     repr: &ReprOptions,
     kind: StructKind,
@@ -81,23 +81,23 @@ fn ordered_layout(
     requires aligns { HasLawfulAligns repr.now }
     requires free { IsTrue (may_randomize repr.now) }
     requires count { length children.now ≤ most_fields }
-    requires data_layout { IsLawfulDataLayout dl.now }
+    requires data_layout { IsLawfulDataLayout cx.dl.now }
     requires there { AreThere (length nodes.now) children.now }
-    requires lawful { HaveLawfulLayouts dl.now (all_at nodes.now children.now) }
-    ensures ok { IfOk result (λ l. IsListedInOrder dl.now repr.now kind order.now
+    requires lawful { HaveLawfulLayouts cx.dl.now (all_at nodes.now children.now) }
+    ensures ok { IfOk result (λ l. IsListedInOrder cx.entry.dl.now repr.now kind order.now
         (map layout_of (all_at nodes.now children.now)) (Ok l)) }
-    ensures err { IfErr result (IsRefused (IsListedInOrder dl.now repr.now kind order.now
+    ensures err { IfErr result (IsRefused (IsListedInOrder cx.entry.dl.now repr.now kind order.now
         (map layout_of (all_at nodes.now children.now)))) }
-    ensures lawful { IfOk result (IsLawfulLayout dl.now) }
+    ensures lawful { IfOk result (IsLawfulLayout cx.entry.dl.now) }
     ensures apart { IfOk result (λ l.
         AreApart l.size (listed_offsets l.fields) (map size_of (all_at nodes.now children.now))) }
     ensures niche { IfOk result (λ l. IfSome l.largest_niche
         (IsNicheOfPart (listed_offsets l.fields) (map layout_of (all_at nodes.now children.now)))) }
 {
-    let order = fields_named(alloc, order, children.len())?;
-    let layouts = layouts_at(alloc, nodes, children)?;
-    let answer = LayoutCalculator::new(dl).layout_of_univariant_in_order(
-        alloc,
+    let order = fields_named(cx.alloc, order, children.len())?;
+    let layouts = layouts_at(cx.alloc, nodes, children)?;
+    let answer = LayoutCalculator::new(cx.dl).layout_of_univariant_in_order(
+        cx.alloc,
         layouts.as_slice(),
         repr,
         kind,
@@ -108,28 +108,34 @@ fn ordered_layout(
 
 /// A node for the fields of a struct without a fault of its own, in the order that is handed in.
 fn add_faultless_ordered(
-    alloc: Global,
-    dl: &TargetDataLayout,
+    cx: LayoutCx<'_>,
     nodes: &mut Nodes,
     repr: &ReprOptions,
     always_sized: bool,
     order: &[u64],
     children: Vec<usize>,
 ) -> Result<usize, LayError>
-    requires data_layout { IsLawfulDataLayout dl.now }
+    requires data_layout { IsLawfulDataLayout cx.dl.now }
     requires there { AreThere (length nodes.old) children.items }
-    requires lawful { HaveLawfulLayouts dl.now (all_at nodes.old children.items) }
+    requires lawful { HaveLawfulLayouts cx.dl.now (all_at nodes.old children.items) }
     requires faultless { ordered_fault repr.now (all_at nodes.old children.items) ≡ None }
-    ensures ok { IfOk result (IsTypeAdded dl.now nodes.old nodes.new
+    ensures ok { IfOk result (IsTypeAdded cx.entry.dl.now nodes.old nodes.new
         (struct repr.now always_sized (Some order.now)) (all_at nodes.old children.items)) }
     ensures own { IfOk result (IsOwnPut nodes.old nodes.new) }
-    ensures err { IfErr result (IsRefused (IsOrderedFieldsAnswer dl.now repr.now always_sized
+    ensures err { IfErr result (IsRefused (IsOrderedFieldsAnswer cx.entry.dl.now repr.now always_sized
         order.now (all_at nodes.old children.items))) }
     ensures kept { OnErr result (nodes.new ≡ nodes.old) }
     ensures behind { AreStillThere nodes.old nodes.new }
 {
     let kind = kind_of(always_sized, &children);
-    let layout = ordered_layout(alloc, dl, nodes, &randomized(repr), kind, order, &children)?;
+    let layout = ordered_layout(
+        cx,
+        nodes,
+        &with_randomize_flag(repr),
+        kind,
+        order,
+        &children,
+    )?;
     add(
         nodes,
         layout,
@@ -139,27 +145,26 @@ fn add_faultless_ordered(
 
 /// A node for fields, each as one of the nodes, in the order that is handed in.
 pub(crate) fn add_ordered(
-    alloc: Global,
-    dl: &TargetDataLayout,
+    cx: LayoutCx<'_>,
     nodes: &mut Nodes,
     repr: &ReprOptions,
     always_sized: bool,
     order: &[u64],
     children: Vec<usize>,
 ) -> Result<usize, LayError>
-    requires data_layout { IsLawfulDataLayout dl.now }
+    requires data_layout { IsLawfulDataLayout cx.dl.now }
     requires there { AreThere (length nodes.old) children.items }
-    requires lawful { HaveLawfulLayouts dl.now (all_at nodes.old children.items) }
-    ensures ok { IfOk result (IsTypeAdded dl.now nodes.old nodes.new
+    requires lawful { HaveLawfulLayouts cx.dl.now (all_at nodes.old children.items) }
+    ensures ok { IfOk result (IsTypeAdded cx.entry.dl.now nodes.old nodes.new
         (struct repr.now always_sized (Some order.now)) (all_at nodes.old children.items)) }
     ensures own { IfOk result (IsOwnPut nodes.old nodes.new) }
-    ensures err { IfErr result (IsRefused (IsOrderedFieldsAnswer dl.now repr.now always_sized
+    ensures err { IfErr result (IsRefused (IsOrderedFieldsAnswer cx.entry.dl.now repr.now always_sized
         order.now (all_at nodes.old children.items))) }
     ensures kept { OnErr result (nodes.new ≡ nodes.old) }
     ensures behind { AreStillThere nodes.old nodes.new }
 {
     match ordered_fault(repr, &children) {
         Some(fault) => Err(fault),
-        None => add_faultless_ordered(alloc, dl, nodes, repr, always_sized, order, children),
+        None => add_faultless_ordered(cx, nodes, repr, always_sized, order, children),
     }
 }

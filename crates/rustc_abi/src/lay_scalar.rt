@@ -15,12 +15,12 @@ ghost use Rattle.rustc_abi.specs.Adding.{AreStillThere, IsAdded, IsRefusal};
 ghost use Rattle.rustc_abi.specs.Count.{HasMore, IsOwnPut};
 
 use crate::error::LayError;
+use crate::layout_cx::LayoutCx;
 use crate::node::add;
 use abi_base::{Primitive, TargetDataLayout};
 use abi_index::{FieldIdx, VariantIdx};
 use abi_scalar::{LayoutData, Scalar};
 use abi_tree::{Mark, Nodes, Shape};
-use std::alloc::Global;
 
 /// Whether both ends of its range, if it has one, are numbers of its width.
 #[inline(always)]
@@ -64,7 +64,11 @@ fn scalar_fault(dl: &TargetDataLayout, value: Scalar) -> Option<LayError>
 }
 
 /// A node for a scalar without a fault.
-fn add_lawful(dl: &TargetDataLayout, nodes: &mut Nodes, value: Scalar) -> Result<usize, LayError>
+fn add_faultless_scalar(
+    dl: &TargetDataLayout,
+    nodes: &mut Nodes,
+    value: Scalar,
+) -> Result<usize, LayError>
     requires data_layout { IsLawfulDataLayout dl.now }
     requires faultless { scalar_fault dl.now value ≡ None }
     ensures ok { IfOk result (λ i.
@@ -80,7 +84,7 @@ fn add_lawful(dl: &TargetDataLayout, nodes: &mut Nodes, value: Scalar) -> Result
     Ok(node)
 }
 
-/// A node for a scalar. Its fault is told before memory is asked for.
+/// A node for a scalar. Its fault is reported before memory is asked for.
 #[inline(never)]
 pub(crate) fn add_scalar(
     dl: &TargetDataLayout,
@@ -98,31 +102,30 @@ pub(crate) fn add_scalar(
 {
     match scalar_fault(dl, value) {
         Some(fault) => Err(fault),
-        None => add_lawful(dl, nodes, value),
+        None => add_faultless_scalar(dl, nodes, value),
     }
 }
 
 /// Two scalars' layout, or their fault: the first's, then the second's, then that their size isn't below the bound. No
 /// memory is asked for.
 fn lay_two(
-    alloc: Global,
-    dl: &TargetDataLayout,
+    cx: LayoutCx<'_>,
     a: Scalar,
     b: Scalar,
 ) -> Result<LayoutData<FieldIdx, VariantIdx>, LayError>
-    requires { IsLawfulDataLayout dl.now }
-    ensures exact { IfOk result (λ layout. layout ≡ pair_layout 0 0 1 dl.now a b) }
-    ensures lawful { IfOk result (IsLawfulLayout dl.now) }
-    ensures answer { pair_answer dl.now a b ≡ placed_by (λ _. two_scalars dl.now a b) result }
+    requires { IsLawfulDataLayout cx.dl.now }
+    ensures exact { IfOk result (λ layout. layout ≡ pair_layout 0 0 1 cx.entry.dl.now a b) }
+    ensures lawful { IfOk result (IsLawfulLayout cx.entry.dl.now) }
+    ensures answer { pair_answer cx.entry.dl.now a b ≡ placed_by (λ _. two_scalars cx.entry.dl.now a b) result }
 {
-    if let Some(fault) = scalar_fault(dl, a) {
+    if let Some(fault) = scalar_fault(cx.dl, a) {
         return Err(fault);
     }
-    if let Some(fault) = scalar_fault(dl, b) {
+    if let Some(fault) = scalar_fault(cx.dl, b) {
         return Err(fault);
     }
-    let layout = LayoutData::scalar_pair(alloc, &dl, a, b);
-    if layout.size.bytes() < dl.obj_size_bound() {
+    let layout = LayoutData::scalar_pair(cx.alloc, &cx.dl, a, b);
+    if layout.size.bytes() < cx.dl.obj_size_bound() {
         Ok(layout)
     } else {
         Err(LayError::SizeOverflow)
@@ -148,29 +151,28 @@ fn add_two(
     ensures err { IfErr result (λ e. e ≡ LayError.OutOfMemory) }
     ensures behind { AreStillThere nodes.old nodes.new }
 {
-    let first = add_lawful(dl, nodes, a)?;
-    let second = add_lawful(dl, nodes, b)?;
+    let first = add_faultless_scalar(dl, nodes, a)?;
+    let second = add_faultless_scalar(dl, nodes, b)?;
     add(nodes, layout, Shape::Pair { first, second })
 }
 
-/// A node for two scalars, and one for each of them. Their fault is told before memory is asked for.
+/// A node for two scalars, and one for each of them. Their fault is reported before memory is asked for.
 #[inline(never)]
 pub(crate) fn add_pair(
-    alloc: Global,
-    dl: &TargetDataLayout,
+    cx: LayoutCx<'_>,
     nodes: &mut Nodes,
     a: Scalar,
     b: Scalar,
 ) -> Result<usize, LayError>
-    requires { IsLawfulDataLayout dl.now }
-    ensures ok { IfOk result (λ i. IsAdded dl.now nodes.old nodes.new i (pair a b)) }
+    requires { IsLawfulDataLayout cx.dl.now }
+    ensures ok { IfOk result (λ i. IsAdded cx.entry.dl.now nodes.old nodes.new i (pair a b)) }
     ensures own { IfOk result (IsOwnPut nodes.old nodes.new) }
-    ensures err { IfErr result (IsRefusal (pair_answer dl.now a b)) }
-    ensures fault { (e : LayError) → pair_answer dl.now a b ≡ Err e → result ≡ Err e }
+    ensures err { IfErr result (IsRefusal (pair_answer cx.entry.dl.now a b)) }
+    ensures fault { (e : LayError) → pair_answer cx.entry.dl.now a b ≡ Err e → result ≡ Err e }
     ensures behind { AreStillThere nodes.old nodes.new }
 {
-    let layout = lay_two(alloc, dl, a, b)?;
-    add_two(dl, nodes, a, b, layout)
+    let layout = lay_two(cx, a, b)?;
+    add_two(cx.dl, nodes, a, b, layout)
 }
 
 /// A node for a type with no values.
@@ -192,13 +194,9 @@ pub(crate) fn add_never(dl: &TargetDataLayout, nodes: &mut Nodes) -> Result<usiz
 
 /// A node for a type with one value, which takes no bytes.
 #[inline(never)]
-pub(crate) fn add_unit(
-    alloc: Global,
-    dl: &TargetDataLayout,
-    nodes: &mut Nodes,
-) -> Result<usize, LayError>
-    requires { IsLawfulDataLayout dl.now }
-    ensures ok { IfOk result (λ i. IsAdded dl.now nodes.old nodes.new i unit) }
+pub(crate) fn add_unit(cx: LayoutCx<'_>, nodes: &mut Nodes) -> Result<usize, LayError>
+    requires { IsLawfulDataLayout cx.dl.now }
+    ensures ok { IfOk result (λ i. IsAdded cx.entry.dl.now nodes.old nodes.new i unit) }
     ensures own { IfOk result (IsOwnPut nodes.old nodes.new) }
     ensures err { IfErr result (λ e. e ≡ LayError.OutOfMemory) }
     ensures kept { OnErr result (nodes.new ≡ nodes.old) }
@@ -206,7 +204,7 @@ pub(crate) fn add_unit(
 {
     add(
         nodes,
-        LayoutData::unit(alloc, &dl, true),
-        Shape::Fields(Mark::Unit, Vec::new(alloc)),
+        LayoutData::unit(cx.alloc, &cx.dl, true),
+        Shape::Fields(Mark::Unit, Vec::new(cx.alloc)),
     )
 }

@@ -11,175 +11,174 @@ ghost use Rattle.rustc_abi.specs.Count.{AreCounted, AreVariantsCounted, IsCounte
 use crate::discriminants::discriminants;
 use crate::error::LayError;
 use crate::lay_array::add_elements;
-use crate::lay_coroutine::add_coroutine;
+use crate::lay_coroutine::{StateNodes, add_coroutine};
 use crate::lay_enum::add_enum;
 use crate::lay_fields::add_fields;
 use crate::lay_ordered::add_ordered;
 use crate::lay_scalar::{add_never, add_pair, add_scalar, add_unit};
 use crate::lay_union::add_union;
 use crate::lay_vector::add_vector;
-use abi_base::TargetDataLayout;
+use crate::layout_cx::LayoutCx;
 use abi_scalar::ReprOptions;
 use abi_tree::{Nodes, TypeTree};
-use std::alloc::Global;
 
 /// Lays out a type behind the nodes that are there.
 #[cycle(lay)]
 pub(crate) fn lay_tree(
-    alloc: Global,
-    dl: &TargetDataLayout,
+    cx: LayoutCx<'_>,
     nodes: &mut Nodes,
     tree: &TypeTree,
 ) -> Result<usize, LayError>
-    requires { IsLawfulDataLayout dl.now }
+    requires { IsLawfulDataLayout cx.dl.now }
     ensures ok { IfOk result (λ i.
-        IsAdded dl.now nodes.old nodes.new i (tree_of tree.now)) }
+        IsAdded cx.entry.dl.now nodes.old nodes.new i (tree_of tree.now)) }
     ensures counted { IfOk result (λ i.
-        IsCounted dl.now nodes.old nodes.new (tree_of tree.now)) }
-    ensures err { IfErr result (IsRefused (IsLaying dl.now (tree_of tree.now))) }
+        IsCounted cx.entry.dl.now nodes.old nodes.new (tree_of tree.now)) }
+    ensures err { IfErr result (IsRefused (IsLaying cx.entry.dl.now (tree_of tree.now))) }
     ensures behind { AreStillThere nodes.old nodes.new }
 {
     match tree {
-        TypeTree::Scalar(value) => add_scalar(dl, nodes, *value),
-        TypeTree::Pair(a, b) => add_pair(alloc, dl, nodes, *a, *b),
-        TypeTree::Never => add_never(dl, nodes),
-        TypeTree::Unit => add_unit(alloc, dl, nodes),
+        TypeTree::Scalar(value) => add_scalar(cx.dl, nodes, *value),
+        TypeTree::Pair(a, b) => add_pair(cx, nodes, *a, *b),
+        TypeTree::Never => add_never(cx.dl, nodes),
+        TypeTree::Unit => add_unit(cx, nodes),
         TypeTree::Array(count, element) => {
-            let element = lay_tree(alloc, dl, nodes, element)?;
-            add_elements(dl, nodes, *count, element)
+            let element = lay_tree(cx, nodes, element)?;
+            add_elements(cx.dl, nodes, *count, element)
         }
         TypeTree::Struct {
             repr,
             always_sized,
             fields,
-        } => lay_struct(alloc, dl, nodes, repr, *always_sized, None, fields),
+        } => lay_struct(cx, nodes, repr, *always_sized, None, fields),
         TypeTree::Ordered {
             repr,
             always_sized,
             order,
             fields,
-        } => lay_struct(alloc, dl, nodes, repr, *always_sized, Some(order), fields),
+        } => lay_struct(cx, nodes, repr, *always_sized, Some(order), fields),
         TypeTree::Vector {
             lanes,
             packed,
             element,
         } => {
-            let element = lay_tree(alloc, dl, nodes, element)?;
-            add_vector(alloc, dl, nodes, *lanes, *packed, element)
+            let element = lay_tree(cx, nodes, element)?;
+            add_vector(cx, nodes, *lanes, *packed, element)
         }
         TypeTree::Union { repr, fields } => {
-            let children = lay_each(alloc, dl, nodes, fields)?;
-            add_union(alloc, dl, nodes, repr, children)
+            let children = lay_each(cx, nodes, fields)?;
+            add_union(cx, nodes, repr, children)
         }
-        TypeTree::Enum { repr, variants } => lay_enum(alloc, dl, nodes, repr, variants),
+        TypeTree::Enum { repr, variants } => lay_enum(cx, nodes, repr, variants),
         TypeTree::Coroutine {
             prefix,
             locals,
             states,
             conflicts,
-        } => lay_coroutine(alloc, dl, nodes, prefix, locals, states, conflicts),
+        } => lay_coroutine(cx, nodes, prefix, locals, states, conflicts),
     }
 }
 
 /// Lays out a struct behind its fields, in the order that is handed in, if one is.
 #[cycle(lay)]
 fn lay_struct(
-    alloc: Global,
-    dl: &TargetDataLayout,
+    cx: LayoutCx<'_>,
     nodes: &mut Nodes,
     repr: &ReprOptions,
     always_sized: bool,
     order: Option<&Vec<u64>>,
     fields: &[TypeTree],
 ) -> Result<usize, LayError>
-    requires { IsLawfulDataLayout dl.now }
-    ensures ok { IfOk result (λ i. IsAdded dl.now nodes.old nodes.new i
+    requires { IsLawfulDataLayout cx.dl.now }
+    ensures ok { IfOk result (λ i. IsAdded cx.entry.dl.now nodes.old nodes.new i
         (struct repr.now always_sized (option_map (λ o. o.now.items) order.entry)
         (trees (map tree_of fields.now)))) }
-    ensures counted { IfOk result (λ i. IsCounted dl.now nodes.old nodes.new
+    ensures counted { IfOk result (λ i. IsCounted cx.entry.dl.now nodes.old nodes.new
         (struct repr.now always_sized (option_map (λ o. o.now.items) order.entry)
         (trees (map tree_of fields.now)))) }
-    ensures err { IfErr result (IsRefused (IsLaying dl.now (struct repr.now always_sized
+    ensures err { IfErr result (IsRefused (IsLaying cx.entry.dl.now (struct repr.now always_sized
         (option_map (λ o. o.now.items) order.entry) (trees (map tree_of fields.now))))) }
     ensures behind { AreStillThere nodes.old nodes.new }
 {
-    let children = lay_each(alloc, dl, nodes, fields)?;
+    let children = lay_each(cx, nodes, fields)?;
     match order {
-        None => add_fields(alloc, dl, nodes, repr, always_sized, children),
-        Some(order) => add_ordered(alloc, dl, nodes, repr, always_sized, order, children),
+        None => add_fields(cx, nodes, repr, always_sized, children),
+        Some(order) => add_ordered(cx, nodes, repr, always_sized, order, children),
     }
 }
 
 /// Lays out an enum behind the fields of its variants.
 #[cycle(lay)]
 fn lay_enum(
-    alloc: Global,
-    dl: &TargetDataLayout,
+    cx: LayoutCx<'_>,
     nodes: &mut Nodes,
     repr: &ReprOptions,
     variants: &[(u128, Vec<TypeTree>)],
 ) -> Result<usize, LayError>
-    requires { IsLawfulDataLayout dl.now }
-    ensures ok { IfOk result (λ i. IsAdded dl.now nodes.old nodes.new i (enum repr.now
+    requires { IsLawfulDataLayout cx.dl.now }
+    ensures ok { IfOk result (λ i. IsAdded cx.entry.dl.now nodes.old nodes.new i (enum repr.now
         (trees_of_variants variants.now))) }
-    ensures counted { IfOk result (λ i. IsCounted dl.now nodes.old nodes.new
+    ensures counted { IfOk result (λ i. IsCounted cx.entry.dl.now nodes.old nodes.new
         (enum repr.now (trees_of_variants variants.now))) }
-    ensures err { IfErr result (IsRefused (IsLaying dl.now (enum repr.now
+    ensures err { IfErr result (IsRefused (IsLaying cx.entry.dl.now (enum repr.now
         (trees_of_variants variants.now)))) }
     ensures behind { AreStillThere nodes.old nodes.new }
 {
-    let numbers = discriminants(alloc, variants)?;
-    let children = lay_variants(alloc, dl, nodes, variants)?;
-    add_enum(alloc, dl, nodes, repr, &numbers, children)
+    let numbers = discriminants(cx.alloc, variants)?;
+    let children = lay_variants(cx, nodes, variants)?;
+    add_enum(cx, nodes, repr, &numbers, children)
 }
 
 /// Lays out a coroutine behind its prefix fields and its locals.
 #[cycle(lay)]
 fn lay_coroutine(
-    alloc: Global,
-    dl: &TargetDataLayout,
+    cx: LayoutCx<'_>,
     nodes: &mut Nodes,
     prefix: &[TypeTree],
     locals: &[TypeTree],
     states: &[Vec<u64>],
     conflicts: &[(u64, u64)],
 ) -> Result<usize, LayError>
-    requires { IsLawfulDataLayout dl.now }
-    ensures ok { IfOk result (λ i. IsAdded dl.now nodes.old nodes.new i
+    requires { IsLawfulDataLayout cx.dl.now }
+    ensures ok { IfOk result (λ i. IsAdded cx.entry.dl.now nodes.old nodes.new i
         (coroutine (trees (map tree_of prefix.now)) (trees (map tree_of locals.now))
         (map (λ state. state.items) states.now) conflicts.now)) }
-    ensures counted { IfOk result (λ i. IsCounted dl.now nodes.old nodes.new
+    ensures counted { IfOk result (λ i. IsCounted cx.entry.dl.now nodes.old nodes.new
         (coroutine (trees (map tree_of prefix.now)) (trees (map tree_of locals.now))
         (map (λ state. state.items) states.now) conflicts.now)) }
-    ensures err { IfErr result (IsRefused (IsLaying dl.now
+    ensures err { IfErr result (IsRefused (IsLaying cx.entry.dl.now
         (coroutine (trees (map tree_of prefix.now)) (trees (map tree_of locals.now))
         (map (λ state. state.items) states.now) conflicts.now))) }
     ensures behind { AreStillThere nodes.old nodes.new }
 {
-    let prefix = lay_each(alloc, dl, nodes, prefix)?;
-    let locals = lay_each(alloc, dl, nodes, locals)?;
-    add_coroutine(alloc, dl, nodes, prefix, &locals, states, conflicts)
+    let prefix = lay_each(cx, nodes, prefix)?;
+    let locals = lay_each(cx, nodes, locals)?;
+    let state_nodes = StateNodes {
+        locals: &locals,
+        states,
+        pairs: conflicts,
+    };
+    add_coroutine(cx, nodes, prefix, state_nodes)
 }
 
 /// Lays out types, one after another, and answers their nodes.
 #[cycle(lay)]
 fn lay_each(
-    alloc: Global,
-    dl: &TargetDataLayout,
+    cx: LayoutCx<'_>,
     nodes: &mut Nodes,
     fields: &[TypeTree],
 ) -> Result<Vec<usize>, LayError>
-    requires { IsLawfulDataLayout dl.now }
+    requires { IsLawfulDataLayout cx.dl.now }
     ensures ok { IfOk result (λ children.
-        AreAdded dl.now nodes.old nodes.new children.items (map tree_of fields.now)) }
+        AreAdded cx.entry.dl.now nodes.old nodes.new children.items (map tree_of fields.now)) }
     ensures counted { IfOk result (λ children.
-        AreCounted dl.now nodes.old nodes.new (trees (map tree_of fields.now))) }
-    ensures err { IfErr result (IsRefused (AreLaying dl.now (trees (map tree_of fields.now)))) }
+        AreCounted cx.entry.dl.now nodes.old nodes.new (trees (map tree_of fields.now))) }
+    ensures err { IfErr result (IsRefused (AreLaying cx.entry.dl.now (trees (map tree_of fields.now)))) }
     ensures behind { AreStillThere nodes.old nodes.new }
 {
-    let mut children = Vec::with_capacity(alloc, fields.len())?;
+    let mut children = Vec::with_capacity(cx.alloc, fields.len())?;
     for field in fields {
-        let child = lay_tree(alloc, dl, nodes, field)?;
+        let child = lay_tree(cx, nodes, field)?;
         children.push(child)?;
     }
     Ok(children)
@@ -188,22 +187,21 @@ fn lay_each(
 /// Lays out the fields of variants, one after another, and answers their nodes.
 #[cycle(lay)]
 fn lay_variants(
-    alloc: Global,
-    dl: &TargetDataLayout,
+    cx: LayoutCx<'_>,
     nodes: &mut Nodes,
     all: &[(u128, Vec<TypeTree>)],
 ) -> Result<Vec<Vec<usize>>, LayError>
-    requires { IsLawfulDataLayout dl.now }
-    ensures ok { IfOk result (λ children. AreVariantsAdded dl.now nodes.old nodes.new
+    requires { IsLawfulDataLayout cx.dl.now }
+    ensures ok { IfOk result (λ children. AreVariantsAdded cx.entry.dl.now nodes.old nodes.new
         children.items (trees_of_variants all.now)) }
     ensures counted { IfOk result (λ children.
-        AreVariantsCounted dl.now nodes.old nodes.new (trees_of_variants all.now)) }
-    ensures err { IfErr result (IsRefused (VariantsLaying dl.now (trees_of_variants all.now))) }
+        AreVariantsCounted cx.entry.dl.now nodes.old nodes.new (trees_of_variants all.now)) }
+    ensures err { IfErr result (IsRefused (VariantsLaying cx.entry.dl.now (trees_of_variants all.now))) }
     ensures behind { AreStillThere nodes.old nodes.new }
 {
-    let mut children = Vec::with_capacity(alloc, all.len())?;
+    let mut children = Vec::with_capacity(cx.alloc, all.len())?;
     for variant in all {
-        let fields = lay_each(alloc, dl, nodes, &variant.1)?;
+        let fields = lay_each(cx, nodes, &variant.1)?;
         children.push(fields)?;
     }
     Ok(children)

@@ -15,35 +15,33 @@ ghost use Rattle.rustc_abi.specs.Count.{IsOwnPut};
 
 use crate::error::LayError;
 use crate::lay_array::elements_layout;
+use crate::layout_cx::LayoutCx;
 use crate::node::add;
-use abi_base::TargetDataLayout;
 use abi_calc::LayoutCalculator;
 use abi_index::{FieldIdx, VariantIdx};
 use abi_scalar::LayoutData;
 use abi_tree::{Nodes, Shape};
-use std::alloc::Global;
 
 /// The layout of a vector of `lanes` lanes, each as the node `element`.
 fn vector_layout(
-    alloc: Global,
-    dl: &TargetDataLayout,
+    cx: LayoutCx<'_>,
     nodes: &Nodes,
     lanes: u64,
     packed: bool,
     element: usize,
 ) -> Result<LayoutData<FieldIdx, VariantIdx>, LayError>
-    requires data_layout { IsLawfulDataLayout dl.now }
+    requires data_layout { IsLawfulDataLayout cx.dl.now }
     requires there { element < length nodes.now }
-    requires lawful { IsLawfulLayout dl.now (layout_of (placed_at nodes.now element)) }
+    requires lawful { IsLawfulLayout cx.dl.now (layout_of (placed_at nodes.now element)) }
     ensures ok { IfOk result (λ l. named
-        (simd_answer (λ h. h) 0 0 dl.now (layout_of (placed_at nodes.now element)) lanes packed)
+        (simd_answer (λ h. h) 0 0 cx.entry.dl.now (layout_of (placed_at nodes.now element)) lanes packed)
         ≡ Ok l) }
-    ensures err { IfErr result (IsRefusal (named (simd_answer (λ h. h) 0 0 dl.now
+    ensures err { IfErr result (IsRefusal (named (simd_answer (λ h. h) 0 0 cx.entry.dl.now
         (layout_of (placed_at nodes.now element)) lanes packed))) }
-    ensures lawful { IfOk result (IsLawfulLayout dl.now) }
+    ensures lawful { IfOk result (IsLawfulLayout cx.entry.dl.now) }
 {
-    let answer = LayoutCalculator::new(dl).layout_of_simd_type(
-        alloc,
+    let answer = LayoutCalculator::new(cx.dl).layout_of_simd_type(
+        cx.alloc,
         nodes.layout(element),
         lanes,
         packed,
@@ -53,27 +51,26 @@ fn vector_layout(
 
 /// A node for a vector of `lanes` lanes, each as the node `element`, behind one for the array of the lanes.
 pub(crate) fn add_vector(
-    alloc: Global,
-    dl: &TargetDataLayout,
+    cx: LayoutCx<'_>,
     nodes: &mut Nodes,
     lanes: u64,
     packed: bool,
     element: usize,
 ) -> Result<usize, LayError>
-    requires data_layout { IsLawfulDataLayout dl.now }
+    requires data_layout { IsLawfulDataLayout cx.dl.now }
     requires there { element < length nodes.old }
-    requires lawful { IsLawfulLayout dl.now (layout_of (placed_at nodes.old element)) }
+    requires lawful { IsLawfulLayout cx.dl.now (layout_of (placed_at nodes.old element)) }
     ensures ok { IfOk result
-        (λ i. (t : Tree) → IsLaying dl.now t (Ok (placed_at nodes.old element)) →
-        Fits dl.now t (placed_at nodes.old element) →
-        IsAdded dl.now nodes.old nodes.new i (vector lanes packed t)) }
+        (λ i. (t : Tree) → IsLaying cx.entry.dl.now t (Ok (placed_at nodes.old element)) →
+        Fits cx.entry.dl.now t (placed_at nodes.old element) →
+        IsAdded cx.entry.dl.now nodes.old nodes.new i (vector lanes packed t)) }
     ensures own { IfOk result (IsOwnPut nodes.old nodes.new) }
-    ensures err { IfErr result (IsRefusal (vector_answer dl.now lanes packed
+    ensures err { IfErr result (IsRefusal (vector_answer cx.entry.dl.now lanes packed
         (placed_at nodes.old element))) }
     ensures behind { AreStillThere nodes.old nodes.new }
 {
-    let layout = vector_layout(alloc, dl, nodes, lanes, packed, element)?;
-    let array = elements_layout(dl, nodes, lanes, element)?;
+    let layout = vector_layout(cx, nodes, lanes, packed, element)?;
+    let array = elements_layout(cx.dl, nodes, lanes, element)?;
     let node = add(
         nodes,
         array,

@@ -4,6 +4,7 @@
 // The layout of a tree, and why it has none.
 mod error;
 mod lay;
+mod layout_cx;
 
 // The way down a tree, and nodes.
 mod lay_tree;

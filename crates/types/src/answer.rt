@@ -207,9 +207,27 @@ impl Answer {
                     own: Spot::Nowhere.of(sources.place_of(item)),
                 };
                 self.add_found(cx, sources, place, found)?;
+            } else {
+                self.check_names(cx, sources, item)?;
             }
         }
         Ok(())
+    }
+
+    /// Fails by the first fault of the names of an item that isn't reported on by itself.
+    fn check_names(
+        &self,
+        cx: ReportContext<'_>,
+        sources: &Sources,
+        item: usize,
+    ) -> Result<(), Failure> {
+        match sources.check_names(self.alloc, cx.dl, item) {
+            Ok(()) => Ok(()),
+            Err(fault) => {
+                let own = Spot::Nowhere.of(sources.place_of(item));
+                Err(failure_of(self.alloc, sources, &fault, own))
+            }
+        }
     }
 
     /// Reports on the types that are asked for.

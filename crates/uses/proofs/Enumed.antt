@@ -22,14 +22,14 @@ use Rattle.abi_scalar.specs.declared.variants.Variants.{Variants as LayoutVarian
 use Rattle.abi_scalar.specs.declared.variants.Variants.TheVariants.{Empty, Single, Multiple}
 use Rattle.abi_scalar.specs.Repr.{discr_type_of, is_c}
 use Rattle.abi_univariant.specs.Fields.{greatest, greatest_size}
-use Rattle.abi_univariant.specs.List.{IsListAnswer}
+use Rattle.abi_univariant.specs.List.{IsUnivariantAnswer}
 use Rattle.abi_univariant.specs.Placement.{cut, end_from, in_order, own_align, start_of}
-use Rattle.abi_calc.specs.declared.enums.path.Path.{Path}
-use Rattle.abi_calc.specs.declared.enums.path.Path.TheVariants.{Several}
+use Rattle.abi_calc.specs.declared.enums.strategy.EnumStrategy.{EnumStrategy}
+use Rattle.abi_calc.specs.declared.enums.strategy.EnumStrategy.TheVariants.{Several}
 use Rattle.abi_calc.specs.Enums.Answer.{IsTypeAnswer}
-use Rattle.abi_calc.specs.Enums.Discriminants.{IsGreatestOf, IsLeastOf, counting_of, counts, meant_by}
+use Rattle.abi_calc.specs.Enums.Discriminants.{IsGreatestOf, IsLeastOf, counted_discriminants, counts, meant_by}
 use Rattle.abi_calc.specs.Enums.Lists.{AreListLayouts, align_with_all, behind_tag, tag_align}
-use Rattle.abi_calc.specs.Enums.Path.{has_no_value, is_free, path_among, path_of, variant_at}
+use Rattle.abi_calc.specs.Enums.EnumStrategy.{has_no_value, is_free, strategy_among, strategy_of, variant_at}
 use Rattle.abi_calc.specs.Enums.Several.{IsAskedFor, IsSeveralAnswer}
 use Rattle.abi_calc.specs.Enums.Tagged.{lists_align, lists_size}
 use Rattle.abi_tree.specs.Placed.{Placed, layout_of}
@@ -96,7 +96,7 @@ module _ (dl : TargetDataLayout) (repr : ReprOptions) (loose : repr.pack ≡ Non
   before : tag_align dl repr asked (layouts_of (empties ns)) ≡ own
   before = ap (λ b. if b then align_with_all own (layouts_of (empties ns)) else own) c ∙ own_alone own ns
 
-  list_extent : (list : Layout) → IsListAnswer layout_of (λ i. i) 0 dl repr (behind_tag dl repr asked (layouts_of (empties ns))) [] (Ok list) →
+  list_extent : (list : Layout) → IsUnivariantAnswer layout_of (λ i. i) 0 dl repr (behind_tag dl repr asked (layouts_of (empties ns))) [] (Ok list) →
       (list.size ≡ large) × (list.align.abi ≡ most)
   list_extent list (order, offsets, h) =
       let placed = h.named.3.1 in
@@ -154,12 +154,12 @@ true_or false more e = absurd (cc)
 not_free : (repr : ReprOptions) → is_c repr ≡ true → is_free repr ≡ false
 not_free repr c = ap not (true_or (is_c repr) (is_some repr.int) c)
 
-several_by : (free more : Bool) (xs : List ℕ) → free ≡ false → path_among free (if not free || more then 0 ∷ xs else xs) ≡ Several
+several_by : (free more : Bool) (xs : List ℕ) → free ≡ false → strategy_among free (if not free || more then 0 ∷ xs else xs) ≡ Several
 several_by true more xs e = absurd (cc)
 several_by false more [] e = refl
 several_by false more (x ∷ xs) e = refl
 
-is_several : (repr : ReprOptions) (v : List Placed) (vs : List (List Placed)) → is_free repr ≡ false → path_of true repr (layouts_of (v ∷ vs)) ≡ Several
+is_several : (repr : ReprOptions) (v : List Placed) (vs : List (List Placed)) → is_free repr ≡ false → strategy_of true repr (layouts_of (v ∷ vs)) ≡ Several
 is_several repr v vs free = several_by (is_free repr) _ _ free
 
 -- The integer that is asked for, and the lists of the variants behind it.
@@ -187,7 +187,7 @@ tagged_by dl repr numbers variants layout free (inr (inr (none, items, are, inr 
     record {
       asked = asked;
       signed = signed;
-      for = subst (λ its. IsAskedFor dl repr (IsTagIntegerAnswer dl repr) (counting_of (λ v. v) repr (layouts_of variants) its) asked signed) are for;
+      for = subst (λ its. IsAskedFor dl repr (IsTagIntegerAnswer dl repr) (counted_discriminants (λ v. v) repr (layouts_of variants) its) asked signed) are for;
       lists = lists;
       are = lay;
       size = ap (λ (l : Layout). l.size) same;
@@ -299,8 +299,8 @@ module _ (dl : TargetDataLayout) (law : IsLawfulDataLayout dl) (repr : ReprOptio
     calculated n ns layout fits h =
         let free = not_free repr c in
         behind n ns layout fits (tagged_by dl repr (n ∷ ns) (empties (n ∷ ns)) layout free
-        (subst (λ (path : Path). IsTypeAnswer layout_of (λ i. i) (λ i. i) (λ i. i) (λ i. i) dl repr (empties (n ∷ ns)) true true Enabled (IsTagIntegerAnswer dl repr)
-        (λ items. items ≡ numbered_from 0 (n ∷ ns)) path (Ok layout)) (is_several repr [] (empties ns) free) h))
+        (subst (λ (strategy : EnumStrategy). IsTypeAnswer layout_of (λ i. i) (λ i. i) (λ i. i) (λ i. i) dl repr (empties (n ∷ ns)) true true Enabled (IsTagIntegerAnswer dl repr)
+        (λ items. items ≡ numbered_from 0 (n ∷ ns)) strategy (Ok layout)) (is_several repr [] (empties ns) free) h))
 
 -- ---- the enum
 
@@ -336,8 +336,8 @@ enum_laid dl repr ns placed (inr (vs, are, answer)) =
     let numbers = numbers_are ns in
     let variants = no_fields dl ns vs are in
     let own = subst (λ ms. MatchOption (enum_fault dl repr ms vs) (Follows (IsEnumed dl repr ms vs) (λ layout r. r ≡ Ok (placed_enum dl repr ms vs layout)) (Ok placed)) (λ e. Ok placed ≡ Err e)) numbers answer in
-    let told = subst (λ ws. MatchOption (enum_fault dl repr ns ws) (Follows (IsEnumed dl repr ns ws) (λ layout r. r ≡ Ok (placed_enum dl repr ns ws layout)) (Ok placed)) (λ e. Ok placed ≡ Err e)) variants own in
-    answered_by dl repr ns placed (enum_fault dl repr ns (empties ns)) refl told
+    let tag_distinguishes = subst (λ ws. MatchOption (enum_fault dl repr ns ws) (Follows (IsEnumed dl repr ns ws) (λ layout r. r ≡ Ok (placed_enum dl repr ns ws layout)) (Ok placed)) (λ e. Ok placed ≡ Err e)) variants own in
+    answered_by dl repr ns placed (enum_fault dl repr ns (empties ns)) refl tag_distinguishes
 
 -- an enum under such a repr is as large as in C
 pub enum_in_c : (dl : TargetDataLayout) (tree : Tree) (ns : List ℕ) → IsEnumInC tree ns → 0 < length ns → (size align : ℕ) → HasExtent dl tree size align →

@@ -3,7 +3,7 @@ use Rattle.std.proofs.Common.{◌≡◌, ℕ, zero, suc, ◌+◌, ◌<◌, ◌�
 use Rattle.std.specs.Prelude.{IfSome, MatchOption}
 use Rattle.abi_base.specs.declared.endian.Endian.{Endian}
 use Rattle.abi_scalar.specs.Shape.{field_count, field_offset}
-use Rattle.abi_types.specs.Ty.Lawful.{IsLawfulType}
+use Rattle.abi_types.specs.Ty.Lawful.{IsWellFormedType}
 use Rattle.abi_types.specs.Ty.Typed.{Typed, typed, no_type, field_in, layout_in}
 use Rattle.abi_tree.specs.Bytes.{bytes_at}
 use Rattle.abi_tree.specs.Holding.{HoldParts, Holds, IsAt}
@@ -24,8 +24,8 @@ layout-Sees t (vector layout lanes) h = h.0.0
 layout-Sees t (fields layout mark parts) h = h.0.0
 layout-Sees t (union layout mark parts) h = h.0.0
 layout-Sees t (single layout mark index parts) h = h.0.0
-layout-Sees t (tagged layout mark offset tag encoding arms) h = h.0.0
-layout-Sees t (states layout prefix offset tag arms) h = h.0.0
+layout-Sees t (tagged layout mark offset tag encoding tagged_variants) h = h.0.0
+layout-Sees t (states layout prefix offset tag tagged_variants) h = h.0.0
 
 -- the field with this index is seen at the offset
 abbrev IsSeenAt : Typed → (index offset : ℕ) → Placed → Type 0
@@ -56,7 +56,7 @@ field_there t u placed layout own i o n s is at of_type beside large offset fiel
     (at ∙ ap (λ (l : Layout). field_offset l.fields i) here ∙ seen.0, large ∙ ap (λ (l : Layout). l.size) there)
 
 -- a field lies inside
-pub field_inside : (t : Typed) (layout : Layout) (i : ℕ) → IsLawfulType t → layout ≡ layout_in t → i < field_count layout.fields → field_offset layout.fields i ≤ layout.size
+pub field_inside : (t : Typed) (layout : Layout) (i : ℕ) → IsWellFormedType t → layout ≡ layout_in t → i < field_count layout.fields → field_offset layout.fields i ≤ layout.size
 field_inside (typed own marks field variant) layout i lawful is lt =
     let inside = lawful.0.inside i (subst (λ (l : Layout). i < field_count l.fields) is lt) in
     let at : field_offset layout.fields i ≡ field_offset own.fields i = ap (λ (l : Layout). field_offset l.fields i) is in

@@ -27,8 +27,8 @@ length-Holds order (vector layout lanes) b (list vs) h = h.0
 length-Holds order (fields layout mark parts) b (list vs) h = h.0
 length-Holds order (union layout mark parts) b (bytes content) h = h.0
 length-Holds order (single layout mark index parts) b (variant i vs) h = h.0
-length-Holds order (tagged layout mark offset tag encoding arms) b (variant i vs) h = h.0
-length-Holds order (states layout prefix offset tag arms) b (state i ps vs) h = h.0
+length-Holds order (tagged layout mark offset tag encoding tagged_variants) b (variant i vs) h = h.0
+length-Holds order (states layout prefix offset tag tagged_variants) b (state i ps vs) h = h.0
 length-Holds order (scalar layout s) b _ h = absurd h
 length-Holds order (pair layout parts) b _ h = absurd h
 length-Holds order (never layout mark) b _ h = absurd h
@@ -37,8 +37,8 @@ length-Holds order (vector layout lanes) b _ h = absurd h
 length-Holds order (fields layout mark parts) b _ h = absurd h
 length-Holds order (union layout mark parts) b _ h = absurd h
 length-Holds order (single layout mark index parts) b _ h = absurd h
-length-Holds order (tagged layout mark offset tag encoding arms) b _ h = absurd h
-length-Holds order (states layout prefix offset tag arms) b _ h = absurd h
+length-Holds order (tagged layout mark offset tag encoding tagged_variants) b _ h = absurd h
+length-Holds order (states layout prefix offset tag tagged_variants) b _ h = absurd h
 
 -- a list as a value
 pub value_of-List : (vs : Vec Kept Global) → value_of (ListKept vs) ≡ list (values_of vs.items)

@@ -11,7 +11,7 @@ use Rattle.uses.proofs.Held.{inj-variant}
 -- bytes that hold a variant have a tag that names it, or it is the only one
 holds_named : (order : Endian) (placed : Placed) (b : List ℕ) (i : ℕ) (vs : Values) → Holds order placed b (variant i vs) → IsNamed order placed b i
 holds_named order (single layout mark index parts) b i vs h = h.1
-holds_named order (tagged layout mark offset tag encoding arms) b i vs h = h.2
+holds_named order (tagged layout mark offset tag encoding tagged_variants) b i vs h = h.2
 holds_named order (scalar layout s) b i vs h = absurd h
 holds_named order (pair layout parts) b i vs h = absurd h
 holds_named order (never layout mark) b i vs h = absurd h
@@ -19,7 +19,7 @@ holds_named order (elements layout count element) b i vs h = absurd h
 holds_named order (vector layout lanes) b i vs h = absurd h
 holds_named order (fields layout mark parts) b i vs h = absurd h
 holds_named order (union layout mark parts) b i vs h = absurd h
-holds_named order (states layout prefix offset tag arms) b i vs h = absurd h
+holds_named order (states layout prefix offset tag tagged_variants) b i vs h = absurd h
 
 -- the index of the variant that the value is of
 abbrev pub IsIndexOf : Value → Option ℕ → Type 0

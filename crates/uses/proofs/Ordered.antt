@@ -12,14 +12,14 @@ use Rattle.abi_scalar.specs.declared.niche.Niche.{Niche}
 use Rattle.abi_scalar.specs.declared.repr.ReprOptions.{ReprOptions}
 use Rattle.abi_scalar.specs.Repr.{has_fixed_order}
 use Rattle.abi_scalar.specs.Shape.{listed_offsets}
-use Rattle.abi_univariant.specs.declared.list_repr.ListRepr.{ListRepr}
+use Rattle.abi_univariant.specs.declared.fields_repr.FieldsRepr.{FieldsRepr}
 use Rattle.abi_univariant.specs.declared.order.NicheBias.TheVariants.{Start, End}
 use Rattle.abi_univariant.specs.declared.part.Part.{Part}
 use Rattle.abi_univariant.specs.Least.{IsPlacedBy}
 use Rattle.abi_univariant.specs.ListNiche.{begins_after, niche_in}
 use Rattle.abi_univariant.specs.Order.{IsNamedOrder}
 use Rattle.abi_univariant.specs.Part.{part_of, parts_of}
-use Rattle.abi_univariant.specs.Placement.{IsAllowed, align_of as list_align, cut, end_from, in_order, list_repr, no_part, offsets_from, own_align, place_of, source_order}
+use Rattle.abi_univariant.specs.Placement.{IsAllowed, align_of as list_align, cut, end_from, in_order, fields_repr, no_part, offsets_from, own_align, place_of, source_order}
 use Rattle.abi_univariant.specs.Union.{raised_to}
 use Rattle.abi_univariant.specs.Run.{IsPlacedIn, IsRun, space_wanted}
 use Rattle.abi_tree.specs.Nodes.{parts_at}
@@ -108,7 +108,7 @@ whether_tried : (A : Type 0) (P : ℕ → Type 0) (n m : ℕ) (space : Option �
 whether_tried A P n m None one other h = one h
 whether_tried A P n m (Some s) one other h = other s h
 
-module _ (dl : TargetDataLayout) (repr : ListRepr) (parts : List Part) (order offsets : List ℕ) (size align : ℕ) (niche : Option Niche) where
+module _ (dl : TargetDataLayout) (repr : FieldsRepr) (parts : List Part) (order offsets : List ℕ) (size align : ℕ) (niche : Option Niche) where
   -- a list that was placed has one offset for each part
   offset_for_each : (first : List ℕ) → IsRun dl repr parts first order offsets size align niche → length offsets ≡ length parts
   offset_for_each first run =
@@ -136,7 +136,7 @@ listed dl repr ts placed ps layout are h is =
     let offsets : listed_offsets layout.fields ≡ h.1 = ap listed_offsets h.2.shape in
     let run = h.2.named in
     let many : length h.1 ≡ length (parts_of dl (map layout_of ps)) =
-    offset_for_each dl (list_repr dl repr (kind_of true ps)) (parts_of dl (map layout_of ps)) h.0 h.1 layout.size layout.align.abi layout.largest_niche run.0 run.3 in
+    offset_for_each dl (fields_repr dl repr (kind_of true ps)) (parts_of dl (map layout_of ps)) h.0 h.1 layout.size layout.align.abi layout.largest_niche run.0 run.3 in
     record {
       fields = ps;
       layout = layout;
@@ -180,7 +180,7 @@ kind_sized [] = refl
 kind_sized (p ∷ ps) = refl
 
 -- a fixed order is source order
-fixed : (repr : ListRepr) (count : ℕ) (order : List ℕ) → repr.reorderable ≡ false → IsAllowed repr count order → order ≡ source_order count
+fixed : (repr : FieldsRepr) (count : ℕ) (order : List ℕ) → repr.reorderable ≡ false → IsAllowed repr count order → order ≡ source_order count
 fixed repr count order is allowed = MatchBool-at_false _ _ is allowed
 
 -- fields of an always sized list that may not be moved lie as in C
@@ -190,14 +190,14 @@ placed_in_c dl repr pack raised ps order os size align packed asked stays many p
     let parts = parts_of dl (map layout_of ps) in
     let count : length parts ≡ length ps = length-map (map layout_of ps) (λ f. part_of dl f) ∙ length-map ps layout_of in
     let source : order ≡ source_order (length (map layout_of ps)) =
-    fixed (list_repr dl repr AlwaysSized) (length (map layout_of ps)) order (ap not stays) placed.allowed in
+    fixed (fields_repr dl repr AlwaysSized) (length (map layout_of ps)) order (ap not stays) placed.allowed in
     let to_parts : order ≡ source_order (length parts) = source ∙ ap source_order (length-map ps layout_of ∙ sym count) in
     let to_offsets : order ≡ source_order (length os) = source ∙ ap source_order (length-map ps layout_of ∙ sym many) in
     let in_memory : in_order parts order ≡ parts = ap (in_order parts) to_parts ∙ each_in_order no_part parts in
-    let told : map (slice_index os) order ≡ os = ap (map (slice_index os)) to_offsets ∙ each_in_order 0 os in
-    let at : os ≡ offsets_from pack 0 parts = sym told ∙ placed.places ∙ ap₂ (λ p fs. offsets_from p 0 fs) packed in_memory in
+    let tag_distinguishes : map (slice_index os) order ≡ os = ap (map (slice_index os)) to_offsets ∙ each_in_order 0 os in
+    let at : os ≡ offsets_from pack 0 parts = sym tag_distinguishes ∙ placed.places ∙ ap₂ (λ p fs. offsets_from p 0 fs) packed in_memory in
     let large : size ≡ next_multiple_of (end_from pack 0 parts) (2 ^ align) =
-    placed.extent ∙ ap₂ (λ p fs. next_multiple_of (end_from p 0 fs) (2 ^ list_align (list_repr dl repr AlwaysSized) parts)) packed in_memory
+    placed.extent ∙ ap₂ (λ p fs. next_multiple_of (end_from p 0 fs) (2 ^ list_align (fields_repr dl repr AlwaysSized) parts)) packed in_memory
     ∙ ap (λ a. next_multiple_of (end_from pack 0 parts) (2 ^ a)) (sym placed.alignment) in
     let least : max (max (own_align dl repr) (unwrap_or repr.align 0)) 0 ≡ least_align dl pack raised =
     ap₂ (λ (p r : Option ℕ). max (max (if is_some p then dl.i8_align else dl.aggregate_align) (unwrap_or r 0)) 0) packed asked
@@ -228,15 +228,15 @@ module _ (dl : TargetDataLayout) (pack raised : Option ℕ) (tree : Tree) (ts : 
   struct_in_c layout os in_memory every is shape =
       let repr = in_c.0 in
       let s = laid_in_c in
-      let told = subst (LiesAsAsked dl (struct repr true None ts)) s.is (subst (λ t. Everywhere dl (LiesAsAsked dl) t placed) in_c.1 every).0 in
+      let tag_distinguishes = subst (LiesAsAsked dl (struct repr true None ts)) s.is (subst (λ t. Everywhere dl (LiesAsAsked dl) t placed) in_c.1 every).0 in
       let own : List ℕ = listed_offsets s.layout.fields in
       let parts : Parts = parts_at own s.fields in
-      let by_kind = subst (λ kind. IsPlacedBy dl repr kind (types_of parts) told.0 (offsets_of parts) s.layout.size s.layout.align.abi) (kind_sized (fields_of parts)) told.1 in
-      let by_types = subst (λ fs. IsPlacedBy dl repr AlwaysSized fs told.0 (offsets_of parts) s.layout.size s.layout.align.abi) (types_of-parts_at own s.fields s.count) by_kind in
-      let by_offsets = subst (λ ns. IsPlacedBy dl repr AlwaysSized (map layout_of s.fields) told.0 ns s.layout.size s.layout.align.abi) (offsets_of-parts_at own s.fields s.count) by_types in
+      let by_kind = subst (λ kind. IsPlacedBy dl repr kind (types_of parts) tag_distinguishes.0 (offsets_of parts) s.layout.size s.layout.align.abi) (kind_sized (fields_of parts)) tag_distinguishes.1 in
+      let by_types = subst (λ fs. IsPlacedBy dl repr AlwaysSized fs tag_distinguishes.0 (offsets_of parts) s.layout.size s.layout.align.abi) (types_of-parts_at own s.fields s.count) by_kind in
+      let by_offsets = subst (λ ns. IsPlacedBy dl repr AlwaysSized (map layout_of s.fields) tag_distinguishes.0 ns s.layout.size s.layout.align.abi) (offsets_of-parts_at own s.fields s.count) by_types in
       let same : layout ≡ s.layout = is ∙ ap layout_of s.is in
       let at : own ≡ os = sym (ap (λ (l : Layout). listed_offsets l.fields) same) ∙ ap listed_offsets shape in
-      let lie = placed_in_c dl repr pack raised s.fields told.0 own s.layout.size s.layout.align.abi in_c.3 in_c.4 in_c.2 s.count by_offsets in (
+      let lie = placed_in_c dl repr pack raised s.fields tag_distinguishes.0 own s.layout.size s.layout.align.abi in_c.3 in_c.4 in_c.2 s.count by_offsets in (
         s.fields,
         s.are,
         subst (λ ns. LieAsInC pack (least_align dl pack raised) s.fields ns layout.size layout.align.abi) at

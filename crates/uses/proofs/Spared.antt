@@ -72,12 +72,12 @@ module _ (laid : Laid) (of_tree : IsOfTree laid) (b : List ℕ) where
   uncovered (bytes content) held k spared = absurd (true≢false (sym spared))
 
   module _ (sets : List (List (ℕ × ℕ))) (same : layout_in (typed_of laid) ≡ layout_of (placed_of laid))
-      (told : AreUnused (typed_of laid) sets) where
+      (tag_distinguishes : AreUnused (typed_of laid) sets) where
     abbrev count : ℕ
     count = variant_count (layout_of (placed_of laid)).variants
 
     counted : length sets ≡ count
-    counted = told.0 ∙ ap (λ (l : Layout). variant_count l.variants) same
+    counted = tag_distinguishes.0 ∙ ap (λ (l : Layout). variant_count l.variants) same
 
     -- its variant's set has what that leaves unused
     set_of : (v : Value) → Holds (endian_of laid) (placed_of laid) b v → (i : ℕ) → IsOfVariant v i → (k : ℕ)
@@ -85,8 +85,8 @@ module _ (laid : Laid) (of_tree : IsOfTree laid) (b : List ℕ) where
     set_of v held i is k =
         ⊎_elim
         (λ (below : i < count).
-        let inside : i < variant_count (layout_in (typed_of laid)).variants = omega (arith, below, counted, told.0) in
-        told.1 i k inside ∙ of_tree.keeps.unused i k (below_indexed (layout_of (placed_of laid)).variants i below))
+        let inside : i < variant_count (layout_in (typed_of laid)).variants = omega (arith, below, counted, tag_distinguishes.0) in
+        tag_distinguishes.1 i k inside ∙ of_tree.keeps.unused i k (below_indexed (layout_of (placed_of laid)).variants i below))
         (λ (past : count ≤ i).
         let none = past_end sets i k (omega (arith, past, counted)) in
         ⊎_elim

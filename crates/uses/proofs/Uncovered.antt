@@ -11,16 +11,16 @@ use Rattle.abi_scalar.specs.declared.variants.TagEncoding.TheVariants.{Direct, N
 use Rattle.abi_tree.specs.declared.laid.Laid.{Laid}
 use Rattle.abi_tree.specs.declared.value.Value.{Value as Kept}
 use Rattle.abi_tree.specs.Bytes.{bytes_at, number_of, picked_bytes, put_if}
-use Rattle.abi_tree.specs.Covering.{are_covered, each_covered, is_arm_covered, is_byte_at, is_covered, is_told}
-use Rattle.abi_tree.specs.Holding.{HoldArm, HoldEach, HoldParts, Holds, IsAt, tag_at}
+use Rattle.abi_tree.specs.Covering.{are_covered, each_covered, is_tagged_variant_covered, is_byte_at, is_covered, is_tagged}
+use Rattle.abi_tree.specs.Holding.{HoldTaggedVariant, HoldEach, HoldParts, Holds, IsAt, tag_at}
 use Rattle.abi_tree.specs.Laid.{endian_of, placed_of}
 use Rattle.abi_tree.specs.OfTree.{IsOfTree}
-use Rattle.abi_tree.specs.Placed.{Placed, scalar, pair, never, elements, vector, fields, union, single, tagged, states, Parts, no_parts, part, Arms, no_arms, arm, size_of}
+use Rattle.abi_tree.specs.Placed.{Placed, scalar, pair, never, elements, vector, fields, union, single, tagged, states, Parts, no_parts, part, TaggedVariants, no_tagged_variants, tagged_variant, size_of}
 use Rattle.abi_tree.specs.Places.{is_data_place}
 use Rattle.abi_tree.specs.Reading.{Finds, KeepsValues}
 use Rattle.abi_tree.specs.Tag.{Names}
 use Rattle.abi_tree.specs.Tree.{Tree}
-use Rattle.abi_tree.specs.Untagged.{NamesItself, UntaggedNamed, UntaggedNamedOf, UntaggedNamedOfArms}
+use Rattle.abi_tree.specs.Untagged.{NamesItself, UntaggedNamed, UntaggedNamedOf, UntaggedNamedOfTaggedVariants}
 use Rattle.abi_tree.specs.Value.{Value, number, two, list, variant, state, bytes, Values, no_values, more_values, value_of}
 use Rattle.uses.specs.Field.{IsValueFound}
 
@@ -126,19 +126,19 @@ module _ (order : Endian) where
       back true e = refl
       back false e = absurd (true≢false e)
 
-  told_again : (encoding : TagEncoding ℕ) (width : ℕ) (arms : Arms) (t s i : ℕ) → t ≡ s → Names encoding width arms t i → Names encoding width arms s i
-  told_again encoding width arms t s i e h = subst (λ n. Names encoding width arms n i) e h
+  told_again : (encoding : TagEncoding ℕ) (width : ℕ) (tagged_variants : TaggedVariants) (t s i : ℕ) → t ≡ s → Names encoding width tagged_variants t i → Names encoding width tagged_variants s i
+  told_again encoding width tagged_variants t s i e h = subst (λ n. Names encoding width tagged_variants n i) e h
 
   -- the tag is covered, or the fields of the untagged variant hold a number that names it
-  named_again : (o : ℕ) (tag : Placed) (encoding : TagEncoding ℕ) (arms : Arms) (i : ℕ) (vs : Values) (b w : List ℕ) → NamesItself order o tag encoding arms →
-      (is_told encoding i ≡ true → tag_at order b o (size_of tag) ≡ tag_at order w o (size_of tag)) → HoldArm order arms i w vs →
-      Names encoding (size_of tag) arms (tag_at order b o (size_of tag)) i → Names encoding (size_of tag) arms (tag_at order w o (size_of tag)) i
-  named_again o tag Direct arms i vs b w itself same held h = told_again Direct (size_of tag) arms _ _ i (same refl) h
-  named_again o tag (Niche untagged span start) arms i vs b w itself same held h =
-      ⊎_elim (λ told. told_again (Niche untagged span start) (size_of tag) arms _ _ i (same told) h)
+  named_again : (o : ℕ) (tag : Placed) (encoding : TagEncoding ℕ) (tagged_variants : TaggedVariants) (i : ℕ) (vs : Values) (b w : List ℕ) → NamesItself order o tag encoding tagged_variants →
+      (is_tagged encoding i ≡ true → tag_at order b o (size_of tag) ≡ tag_at order w o (size_of tag)) → HoldTaggedVariant order tagged_variants i w vs →
+      Names encoding (size_of tag) tagged_variants (tag_at order b o (size_of tag)) i → Names encoding (size_of tag) tagged_variants (tag_at order w o (size_of tag)) i
+  named_again o tag Direct tagged_variants i vs b w itself same held h = told_again Direct (size_of tag) tagged_variants _ _ i (same refl) h
+  named_again o tag (Niche untagged span start) tagged_variants i vs b w itself same held h =
+      ⊎_elim (λ tag_distinguishes. told_again (Niche untagged span start) (size_of tag) tagged_variants _ _ i (same tag_distinguishes) h)
       (λ untold.
       let e : i ≡ untagged = not_told i untagged untold in
-      subst (λ j. Names (Niche untagged span start) (size_of tag) arms (tag_at order w o (size_of tag)) j) (sym e) (itself w vs (subst (λ j. HoldArm order arms j w vs) e held)))
+      subst (λ j. Names (Niche untagged span start) (size_of tag) tagged_variants (tag_at order w o (size_of tag)) j) (sym e) (itself w vs (subst (λ j. HoldTaggedVariant order tagged_variants j w vs) e held)))
       (cases_Bool (not (i == untagged)))
 
   -- ---- the law
@@ -160,22 +160,22 @@ module _ (order : Endian) where
           (λ j place. let start : 0 + j ≡ j = omega arith in sym (same.1 j (subst (λ i. is_data_place (union layout mark parts) i ≡ true) start place))),
     )
     rests (single layout mark index parts) (variant i vs) u b w same h = (same.0 ∙ h.0, h.1, rests_parts parts vs u b w same h.2)
-    rests (tagged layout mark offset tag encoding arms) (variant i vs) u b w same h =
-        let of_tag : ℕ → Bool = λ k. is_told encoding i && is_byte_at offset (size_of tag) k in
-        let held : HoldArm order arms i w vs = rests_arm arms i vs u.1 b w (right of_tag (is_arm_covered arms i vs) b w same) h.3 in
-        let again : is_told encoding i ≡ true → tag_at order b offset (size_of tag) ≡ tag_at order w offset (size_of tag) =
-        λ told. same_tag offset (size_of tag) b w h.1
-        (same.0, λ k e. (left of_tag (is_arm_covered arms i vs) b w same).1 k (and_true (is_told encoding i) (is_byte_at offset (size_of tag) k) told e)) in
-        (same.0 ∙ h.0, omega (arith, same.0, h.1), named_again offset tag encoding arms i vs b w u.0 again held h.2, held)
-    rests (states layout prefix offset tag arms) (state i ps vs) u b w same h =
-        let beside : ℕ → Bool = λ k. is_byte_at offset (size_of tag) k || is_arm_covered arms i vs k in
+    rests (tagged layout mark offset tag encoding tagged_variants) (variant i vs) u b w same h =
+        let of_tag : ℕ → Bool = λ k. is_tagged encoding i && is_byte_at offset (size_of tag) k in
+        let held : HoldTaggedVariant order tagged_variants i w vs = rests_tagged_variant tagged_variants i vs u.1 b w (right of_tag (is_tagged_variant_covered tagged_variants i vs) b w same) h.3 in
+        let again : is_tagged encoding i ≡ true → tag_at order b offset (size_of tag) ≡ tag_at order w offset (size_of tag) =
+        λ tag_distinguishes. same_tag offset (size_of tag) b w h.1
+        (same.0, λ k e. (left of_tag (is_tagged_variant_covered tagged_variants i vs) b w same).1 k (and_true (is_tagged encoding i) (is_byte_at offset (size_of tag) k) tag_distinguishes e)) in
+        (same.0 ∙ h.0, omega (arith, same.0, h.1), named_again offset tag encoding tagged_variants i vs b w u.0 again held h.2, held)
+    rests (states layout prefix offset tag tagged_variants) (state i ps vs) u b w same h =
+        let beside : ℕ → Bool = λ k. is_byte_at offset (size_of tag) k || is_tagged_variant_covered tagged_variants i vs k in
         let more = right (are_covered prefix ps) beside b w same in
-        let again = same_tag offset (size_of tag) b w h.2 (left (is_byte_at offset (size_of tag)) (is_arm_covered arms i vs) b w more) in (
+        let again = same_tag offset (size_of tag) b w h.2 (left (is_byte_at offset (size_of tag)) (is_tagged_variant_covered tagged_variants i vs) b w more) in (
           same.0 ∙ h.0,
           rests_parts prefix ps u.0 b w (left (are_covered prefix ps) beside b w same) h.1,
           omega (arith, same.0, h.2),
-          told_again Direct (size_of tag) arms _ _ i again h.3,
-          rests_arm arms i vs u.1 b w (right (is_byte_at offset (size_of tag)) (is_arm_covered arms i vs) b w more) h.4,
+          told_again Direct (size_of tag) tagged_variants _ _ i again h.3,
+          rests_tagged_variant tagged_variants i vs u.1 b w (right (is_byte_at offset (size_of tag)) (is_tagged_variant_covered tagged_variants i vs) b w more) h.4,
         )
     rests (scalar layout s) _ u b w same h = absurd h
     rests (pair layout parts) _ u b w same h = absurd h
@@ -185,8 +185,8 @@ module _ (order : Endian) where
     rests (fields layout mark parts) _ u b w same h = absurd h
     rests (union layout mark parts) _ u b w same h = absurd h
     rests (single layout mark index parts) _ u b w same h = absurd h
-    rests (tagged layout mark offset tag encoding arms) _ u b w same h = absurd h
-    rests (states layout prefix offset tag arms) _ u b w same h = absurd h
+    rests (tagged layout mark offset tag encoding tagged_variants) _ u b w same h = absurd h
+    rests (states layout prefix offset tag tagged_variants) _ u b w same h = absurd h
 
     rests_parts : (parts : Parts) (vs : Values) → UntaggedNamedOf order parts → RestsOn (are_covered parts vs) (λ b. HoldParts order parts b vs)
     rests_parts no_parts no_values u b w same h = tt
@@ -198,10 +198,10 @@ module _ (order : Endian) where
           rests_parts parts vs u.1 b w (right here (are_covered parts vs) b w same) h.1,
         )
 
-    rests_arm : (arms : Arms) (i : ℕ) (vs : Values) → UntaggedNamedOfArms order arms → RestsOn (is_arm_covered arms i vs) (λ b. HoldArm order arms i b vs)
-    rests_arm no_arms i vs u b w same h = absurd h
-    rests_arm (arm code layout mark parts arms) zero vs u b w same h = rests_parts parts vs u.0 b w same h
-    rests_arm (arm code layout mark parts arms) (suc i) vs u b w same h = rests_arm arms i vs u.1 b w same h
+    rests_tagged_variant : (tagged_variants : TaggedVariants) (i : ℕ) (vs : Values) → UntaggedNamedOfTaggedVariants order tagged_variants → RestsOn (is_tagged_variant_covered tagged_variants i vs) (λ b. HoldTaggedVariant order tagged_variants i b vs)
+    rests_tagged_variant no_tagged_variants i vs u b w same h = absurd h
+    rests_tagged_variant (tagged_variant code layout mark parts tagged_variants) zero vs u b w same h = rests_parts parts vs u.0 b w same h
+    rests_tagged_variant (tagged_variant code layout mark parts tagged_variants) (suc i) vs u b w same h = rests_tagged_variant tagged_variants i vs u.1 b w same h
 
 -- ---- one byte changed
 

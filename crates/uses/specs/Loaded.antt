@@ -34,6 +34,6 @@ pub record IsNumberAt (dl : TargetDataLayout) (b : List ℕ) (offset : ℕ) (s :
 
 -- the tag's number in the bytes names the variant with this index, or it is the only one
 abbrev pub IsNamed : Endian → Placed → List ℕ → (index : ℕ) → Type 0
-IsNamed order (tagged layout mark offset tag encoding arms) b i = Names encoding (size_of tag) arms (tag_at order b offset (size_of tag)) i
+IsNamed order (tagged layout mark offset tag encoding tagged_variants) b i = Names encoding (size_of tag) tagged_variants (tag_at order b offset (size_of tag)) i
 IsNamed order (single layout mark index parts) b i = i ≡ index
 IsNamed order _ b i = ⊥

@@ -1,4 +1,4 @@
--- A coroutine's states are told apart by its tag, and each lies apart beside the shared fields.
+-- A coroutine's states are distinguished by its tag, and each lies apart beside the shared fields.
 use Rattle.std.proofs.Common.{◌≡◌, ◌≢◌, ℕ, ◌+◌, ◌-◌, ◌*◌, ◌%◌, ◌^◌, ◌<◌, ◌≤◌, Bool, List, [], ◌∷◌, ◌++◌, None, ◌∙◌, ap, ap₂, arith, drop, get_or, length, map, max, refl, subst, sym, take}
 use Rattle.std.specs.Prelude.{All, IfOk, Result, Ok, Err, filter, nat_lt, not, slice_index}
 use Rattle.std.specs.List.{AllPairs}
@@ -22,9 +22,9 @@ use Rattle.abi_univariant.specs.Apart.{AreApart}
 use Rattle.abi_univariant.specs.Fields.{greatest_size}
 use Rattle.abi_univariant.specs.Placement.{source_order, start_of}
 use Rattle.abi_univariant.proofs.Offsets.Rounding.{rounded_to}
-use Rattle.abi_calc.specs.Coroutine.Clash.{AreStatesApart, IsToldByState}
+use Rattle.abi_calc.specs.Coroutine.Clash.{AreStatesApart, IsDistinguishedByState}
 use Rattle.abi_calc.specs.Coroutine.Layout.{IsStateTag, coroutine_layout, whole_align, whole_size}
-use Rattle.abi_calc.specs.Coroutine.Lists.{behind, default_repr, first_list, own_of, picked}
+use Rattle.abi_calc.specs.Coroutine.Lists.{state_list_kind, default_repr, first_list, own_of, picked}
 use Rattle.abi_calc.specs.Coroutine.Sizes.{own_lists}
 use Rattle.abi_calc.specs.Coroutine.States.{state_layouts, state_offsets}
 use Rattle.abi_calc.specs.Enums.Lists.{AreGoodLists, IsGoodList}
@@ -114,7 +114,7 @@ module _ {F V H : Type 0} (layout_of : H → LayoutData F V) (at : ℕ → F) (n
 
   -- each state's fields and the shared ones share no byte
   pub states_apart : (whole : ℕ) (states : List (List ℕ)) (lists : List (LayoutData F V)) → first.size ≤ whole → All (λ l. l.size ≤ whole) lists → All (All (λ l. l < length locals)) states → All (AllPairs (λ a b. a ≢ b)) states
-      → AreGoodLists layout_of at zeroth dl default_repr (behind first) (own_lists locals promoted states) lists
+      → AreGoodLists layout_of at zeroth dl default_repr (state_list_kind first) (own_lists locals promoted states) lists
       → AreStatesApart whole shared_offsets shared_sizes (map layout_of locals) states (state_layouts at number (length prefix + 1) promoted first states lists)
   states_apart whole [] [] fits more within once others = tt
   states_apart whole [] (l ∷ ls) fits more within once others = elim others [ ]
@@ -122,7 +122,7 @@ module _ {F V H : Type 0} (layout_of : H → LayoutData F V) (at : ℕ → F) (n
   states_apart whole (s ∷ ss) (l ∷ ls) fits more within once others =
       let own : All (λ p. p < length locals) s = All-head (All (λ p. p < length locals)) s ss within in
       let far : All (λ o. first.size ≤ o) (listed_offsets l.fields)
-      = All-weaker (λ o. start_of None (behind first) ≤ o) (λ o. first.size ≤ o) (λ o h. omega (arith, h, (rounded_to first.size first.align.abi).above)) (listed_offsets l.fields) others.0.after in
+      = All-weaker (λ o. start_of None (state_list_kind first) ≤ o) (λ o. first.size ≤ o) (λ o h. omega (arith, h, (rounded_to first.size first.align.abi).above)) (listed_offsets l.fields) others.0.after in
       let apart = state_apart promoted shared_offsets shared_sizes (drop (length prefix + 1) (listed_offsets first.fields)) local_size first.size l.size whole shared_count fits (All-head (λ x. x.size ≤ whole) l ls more) first_apart
       (listed_offsets l.fields) s (All-head (AllPairs (λ a b. a ≢ b)) s ss once)
       (subst (AreApart l.size (listed_offsets l.fields)) (sizes_of (own_of promoted s) (All-filter (λ x. not (is_member promoted x)) (λ p. p < length locals) s own)) others.0.apart) far in
@@ -132,26 +132,26 @@ module _ {F V H : Type 0} (layout_of : H → LayoutData F V) (at : ℕ → F) (n
         states_apart whole ss ls fits (All-tail (λ x. x.size ≤ whole) l ls more) (All-tail (All (λ p. p < length locals)) s ss within) (All-tail (AllPairs (λ a b. a ≢ b)) s ss once) others.1,
       )
 
-  -- the states are told apart
+  -- the states are distinguished
   told_layout : (states : List (List ℕ)) (lists : List (LayoutData F V)) → IsStateTag (length states) tag → All (All (λ l. l < length locals)) states → All (AllPairs (λ a b. a ≢ b)) states
-      → AreGoodLists layout_of at zeroth dl default_repr (behind first) (own_lists locals promoted states) lists
-      → IsToldByState dl at (map layout_of prefix) (map layout_of locals) states (coroutine_layout at number (length prefix) tag promoted states first lists)
-  told_layout states lists tells within once others = record {
+      → AreGoodLists layout_of at zeroth dl default_repr (state_list_kind first) (own_lists locals promoted states) lists
+      → IsDistinguishedByState dl at (map layout_of prefix) (map layout_of locals) states (coroutine_layout at number (length prefix) tag promoted states first lists)
+  told_layout states lists is_state_tag within once others = record {
     tag = tag;
     offsets = shared_offsets;
     order = filter (λ i. nat_lt (number i) (length prefix + 1)) (listed_order first.fields);
     fields = refl;
     count = shared_long;
     layouts = state_layouts at number (length prefix + 1) promoted first states lists;
-    told = ap (λ n. Multiple tag Direct (at n) (state_layouts at number (length prefix + 1) promoted first states lists)) (sym (length-map prefix layout_of));
+    tag_distinguishes = ap (λ n. Multiple tag Direct (at n) (state_layouts at number (length prefix + 1) promoted first states lists)) (sym (length-map prefix layout_of));
     apart = states_apart (whole_size first lists) states lists (All-head (λ l. l.size ≤ whole_size first lists) first lists (whole_above first lists))
         (All-tail (λ l. l.size ≤ whole_size first lists) first lists (whole_above first lists)) within once others;
-    numbers = state_numbers dl (length states) tag tells;
+    numbers = state_numbers dl (length states) tag is_state_tag;
   }
 
   pub told_promised : (states : List (List ℕ)) (lists : List (LayoutData F V)) (P : LayoutData F V → Type 0) (r : Result (LayoutData F V) (LayoutCalculatorError H)) → IsStateTag (length states) tag → All (All (λ l. l < length locals)) states
-      → All (AllPairs (λ a b. a ≢ b)) states → AreGoodLists layout_of at zeroth dl default_repr (behind first) (own_lists locals promoted states) lists
+      → All (AllPairs (λ a b. a ≢ b)) states → AreGoodLists layout_of at zeroth dl default_repr (state_list_kind first) (own_lists locals promoted states) lists
       → IfOk r (λ layout. P layout × (layout ≡ coroutine_layout at number (length prefix) tag promoted states first lists))
-      → IfOk r (IsToldByState dl at (map layout_of prefix) (map layout_of locals) states)
-  told_promised states lists P (Ok layout) tells within once others laid = subst (IsToldByState dl at (map layout_of prefix) (map layout_of locals) states) (sym laid.1) (told_layout states lists tells within once others)
-  told_promised states lists P (Err e) tells within once others laid = tt
+      → IfOk r (IsDistinguishedByState dl at (map layout_of prefix) (map layout_of locals) states)
+  told_promised states lists P (Ok layout) is_state_tag within once others laid = subst (IsDistinguishedByState dl at (map layout_of prefix) (map layout_of locals) states) (sym laid.1) (told_layout states lists is_state_tag within once others)
+  told_promised states lists P (Err e) is_state_tag within once others laid = tt

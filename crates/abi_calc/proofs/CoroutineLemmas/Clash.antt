@@ -11,7 +11,7 @@ use Rattle.std.proofs.lemmas.Option.{get_or_from_slice_get, same_Some, slice_get
 use Rattle.abi_base.specs.declared.data_layout.TargetDataLayout.{TargetDataLayout}
 use Rattle.abi_base.specs.declared.struct_kind.StructKind.{StructKind}
 use Rattle.abi_base.specs.declared.struct_kind.StructKind.TheVariants.{AlwaysSized}
-use Rattle.abi_index.specs.Ascending.{has_number}
+use Rattle.abi_index.specs.AscendingList.{has_number}
 use Rattle.abi_index.specs.BitSet.{is_member, members_of}
 use Rattle.abi_index.specs.Relation.{Relation, column_count, is_entry, row_count}
 use Rattle.abi_scalar.specs.declared.layout_data.LayoutData.{LayoutData}
@@ -20,7 +20,7 @@ use Rattle.abi_scalar.specs.Shape.{listed_offsets}
 use Rattle.abi_univariant.specs.Apart.{AreApart}
 use Rattle.abi_univariant.proofs.Offsets.Rounding.{rounded_to}
 use Rattle.abi_calc.specs.Coroutine.Clash.{AreClashingApart, DoClash, HasLocalAt, HaveOneOffset}
-use Rattle.abi_calc.specs.Coroutine.Lists.{behind, default_repr, first_list, own_list, own_of, picked}
+use Rattle.abi_calc.specs.Coroutine.Lists.{state_list_kind, default_repr, first_list, own_list, own_of, picked}
 use Rattle.abi_calc.specs.Coroutine.Promotion.{holder_of, promoted_of}
 use Rattle.abi_calc.specs.Coroutine.Sizes.{own_lists}
 use Rattle.abi_calc.specs.Coroutine.States.{rank_of, state_layout, state_layouts, state_offsets}
@@ -212,7 +212,7 @@ record IsOwn {F V H : Type 0} (layout_of : H → LayoutData F V) (promoted : Lis
 module _ {F V H : Type 0} (layout_of : H → LayoutData F V) (at : ℕ → F) (number : F → ℕ) (zeroth : V) (dl : TargetDataLayout) (prefix : List H) (field : H) (locals : List H) (states : List (List ℕ)) (conflicts : Relation)
     (first : LayoutData F V) (lists : List (LayoutData F V)) (square : column_count conflicts ≡ row_count conflicts) (count : length locals ≡ row_count conflicts) (within : All (All (λ l. l < row_count conflicts)) states)
     (good : IsGoodList layout_of at zeroth dl default_repr AlwaysSized (first_list prefix field locals (promoted_of states conflicts)) first)
-    (own : AreGoodLists layout_of at zeroth dl default_repr (behind first) (own_lists locals (promoted_of states conflicts) states) lists) where
+    (own : AreGoodLists layout_of at zeroth dl default_repr (state_list_kind first) (own_lists locals (promoted_of states conflicts) states) lists) where
   -- the part of the first list that a promoted local is, wherever a state has it
   shared_part : (local offset : ℕ) (x : LayoutData F V) → slice_get (map layout_of locals) local ≡ Some x → is_member (promoted_of states conflicts) local ≡ true
       → HasPlace (promoted_of states conflicts) (drop (length prefix + 1) (listed_offsets first.fields)) states lists local offset
@@ -230,7 +230,7 @@ module _ {F V H : Type 0} (layout_of : H → LayoutData F V) (at : ℕ → F) (n
       let short : has.i < length states = slice_get_within states has.i has.state has.state_is in
       let range : All (λ l. l < length locals) has.state
       = subst (λ n. All (λ l. l < n) has.state) (sym count) (subst (All (λ l. l < row_count conflicts)) (get_or_from_slice_get states has.i has.state [] has.state_is) (within has.i [] short)) in
-      let list = good_at layout_of at zeroth dl (behind first) locals (promoted_of states conflicts) states lists has.i has.state has.list own has.state_is has.list_is in
+      let list = good_at layout_of at zeroth dl (state_list_kind first) locals (promoted_of states conflicts) states lists has.i has.state has.list own has.state_is has.list_is in
       let size : length (listed_offsets has.list.fields) ≡ length (own_of (promoted_of states conflicts) has.state)
       = list.listed.count ∙ picked_count locals (own_of (promoted_of states conflicts) has.state) (All-filter (λ l. not (is_member (promoted_of states conflicts) l)) (λ l. l < length locals) has.state range) in
       let found = own_offset promoted (drop (length prefix + 1) (listed_offsets first.fields)) (listed_offsets has.list.fields) has.state has.place local offset size has.local_is has.offset_is other in
@@ -254,10 +254,10 @@ module _ {F V H : Type 0} (layout_of : H → LayoutData F V) (at : ℕ → F) (n
   -- a promoted local lies before another
   before_own : (a b o p : ℕ) (x y : LayoutData F V) → IsPart (listed_offsets first.fields) (map (λ f. (layout_of f).size) (first_list prefix field locals (promoted_of states conflicts))) o x.size (length prefix + 1 + rank_of (promoted_of states conflicts) a)
       → IsOwn layout_of (promoted_of states conflicts) locals states lists first.size b p y.size → o + x.size ≤ p
-  before_own a b o p x y part behind =
+  before_own a b o p x y part state_list_kind =
       omega (
         arith,
-        behind.after,
+        state_list_kind.after,
         inside_at first.size (listed_offsets first.fields) (map (λ f. (layout_of f).size) (first_list prefix field locals (promoted_of states conflicts)))
             (length prefix + 1 + rank_of (promoted_of states conflicts) a) o x.size good.apart part.offset_is part.size_is,
       )
@@ -304,9 +304,9 @@ module _ {F V H : Type 0} (layout_of : H → LayoutData F V) (at : ℕ → F) (n
       let two_is : has_number (get_or states shared.1.0 []) b ≡ true = contained states shared.0 b shared.1 shared.3 in
       one_holder states a one.i shared.1.0 once (slice_get_within states one.i one.state one.state_is) shared.1.1 one.holds one_is
       ∙ sym (one_holder states b two.i shared.1.0 twice (slice_get_within states two.i two.state two.state_is) shared.1.1 two.holds two_is))
-      (λ (told : (is_entry conflicts a b ≡ true) ⊎ (is_entry conflicts b a ≡ true)).
+      (λ (tag_distinguishes : (is_entry conflicts a b ≡ true) ⊎ (is_entry conflicts b a ≡ true)).
       ⊎_elim (λ (entry : is_entry conflicts a b ≡ true). sym at_a ∙ settled states conflicts a b square short long entry here there ∙ at_b)
-      (λ (entry : is_entry conflicts b a ≡ true). sym at_a ∙ sym (settled states conflicts b a square long short entry there here) ∙ at_b) told)
+      (λ (entry : is_entry conflicts b a ≡ true). sym at_a ∙ sym (settled states conflicts b a square long short entry there here) ∙ at_b) tag_distinguishes)
       clash
 
   -- two different locals that clash share no byte, wherever states have them

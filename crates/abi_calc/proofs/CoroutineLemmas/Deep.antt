@@ -12,9 +12,9 @@ use Rattle.abi_scalar.specs.declared.scalar.Scalar.{Scalar}
 use Rattle.abi_scalar.specs.Lawful.{IsLawfulLayout}
 use Rattle.abi_univariant.specs.List.{HasLawfulAligns}
 use Rattle.abi_calc.specs.Coroutine.Answer.{IsCoroutineAnswer}
-use Rattle.abi_calc.specs.Coroutine.Clash.{IsToldByState}
+use Rattle.abi_calc.specs.Coroutine.Clash.{IsDistinguishedByState}
 use Rattle.abi_calc.specs.Coroutine.Layout.{whole_size}
-use Rattle.abi_calc.specs.Coroutine.Lists.{behind, default_repr, first_list}
+use Rattle.abi_calc.specs.Coroutine.Lists.{state_list_kind, default_repr, first_list}
 use Rattle.abi_calc.specs.Coroutine.Promised.{HasLocalsApart}
 use Rattle.abi_calc.specs.Coroutine.Promotion.{promoted_of}
 use Rattle.abi_calc.specs.Coroutine.Sizes.{own_lists}
@@ -46,11 +46,11 @@ module _ {H : Type 0} (layout_of : H → LayoutData ℕ ℕ) (dl : TargetDataLay
       (first_lawful layout_of (λ i. i) (λ i. i) 0 dl prefix tag field locals states (promoted_of states conflicts) asked) aligns tt tt h
 
   good_own : (first : LayoutData ℕ ℕ) (lists : List (LayoutData ℕ ℕ)) → IsLawfulLayout dl first → AreOwn layout_of dl prefix tag field locals states promoted first lists
-      → AreGoodLists layout_of (λ i. i) 0 dl default_repr (behind first) (own_lists locals (promoted_of states conflicts) states) lists
+      → AreGoodLists layout_of (λ i. i) 0 dl default_repr (state_list_kind first) (own_lists locals (promoted_of states conflicts) states) lists
   good_own first lists lawful h =
-      good_lists layout_of (λ i. i) 0 dl default_repr (behind first) (own_lists locals (promoted_of states conflicts) states) lists asked.law
+      good_lists layout_of (λ i. i) 0 dl default_repr (state_list_kind first) (own_lists locals (promoted_of states conflicts) states) lists asked.law
       (own_all (λ f. IsLawfulLayout dl (layout_of f)) locals (promoted_of states conflicts) states asked.all) aligns (lawful.bound, lawful.limit) tt
-      (lists_own layout_of dl (behind first) locals (promoted_of states conflicts) states lists h)
+      (lists_own layout_of dl (state_list_kind first) locals (promoted_of states conflicts) states lists h)
 
   -- what is promised of a coroutine with this answer
   pub coroutine_promised : (r : Result (LayoutData ℕ ℕ) (LayoutCalculatorError H)) → Answers r → IsPromised layout_of (λ i. i) (λ i. i) 0 dl prefix tag field locals states (promoted_of states conflicts) r
@@ -60,19 +60,19 @@ module _ {H : Type 0} (layout_of : H → LayoutData ℕ ℕ) (dl : TargetDataLay
   coroutine_promised (Err e) (inl bad) = first_promised layout_of (λ i. i) (λ i. i) 0 dl prefix tag field locals states promoted asked e (inl bad)
   coroutine_promised (Err e) (inr (inl (first, h, inl later))) =
       own_promised layout_of (λ i. i) (λ i. i) 0 dl prefix tag field locals states promoted asked first (good_first first h) e
-      (inl (error_own layout_of dl (behind first) locals promoted states e later))
+      (inl (error_own layout_of dl (state_list_kind first) locals promoted states e later))
   coroutine_promised (Err e) (inr (inl (first, h, inr (lists, hs, over, large)))) =
       let good = good_first first h in
       whole_promised layout_of (λ i. i) (λ i. i) 0 dl prefix tag field locals states promoted asked first good lists (good_own first lists good.lawful hs) (Err e) tt (inl (over, large))
   coroutine_promised (Err e) (inr (inr want)) = memory_promised layout_of (λ i. i) (λ i. i) 0 dl prefix tag field locals states promoted asked e want
 
   module _ (within : All (All (λ l. l < length locals)) states) (rows : row_count conflicts ≡ length locals) where
-    -- its states are told apart by the tag
-    pub coroutine_told : All (AllPairs (λ a b. a ≢ b)) states → (layout : LayoutData ℕ ℕ) → Answers (Ok layout) → IsToldByState dl (λ i. i) (map layout_of prefix) (map layout_of locals) states layout
+    -- its states are distinguished by the tag
+    pub coroutine_told : All (AllPairs (λ a b. a ≢ b)) states → (layout : LayoutData ℕ ℕ) → Answers (Ok layout) → IsDistinguishedByState dl (λ i. i) (map layout_of prefix) (map layout_of locals) states layout
     coroutine_told once layout (first, h, lists, hs, below, is) =
         let good = good_first first h in
         told_promised layout_of (λ i. i) (λ i. i) 0 dl prefix tag field locals promoted asked.holds (promoted_count states conflicts ∙ rows) first good states lists (λ l. whole_size first lists < size_bound dl) (Ok layout)
-        asked.tells within once (good_own first lists good.lawful hs) (below, is)
+        asked.is_state_tag within once (good_own first lists good.lawful hs) (below, is)
 
     -- its locals that clash share no byte, and each has one offset
     pub coroutine_apart : All (AllPairs (λ a b. a ≢ b)) states → column_count conflicts ≡ length locals → (layout : LayoutData ℕ ℕ) → Answers (Ok layout) → HasLocalsApart states conflicts (map layout_of locals) layout

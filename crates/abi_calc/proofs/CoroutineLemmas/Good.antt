@@ -5,7 +5,7 @@ use Rattle.abi_index.specs.Relation.{Relation}
 use Rattle.abi_scalar.specs.declared.backend_repr.BackendRepr.TheVariants.{Memory}
 use Rattle.abi_scalar.specs.declared.error.LayoutCalculatorError.{LayoutCalculatorError}
 use Rattle.abi_scalar.specs.declared.layout_data.LayoutData.{LayoutData}
-use Rattle.abi_calc.specs.Coroutine.Clash.{IsToldByState}
+use Rattle.abi_calc.specs.Coroutine.Clash.{IsDistinguishedByState}
 use Rattle.abi_calc.specs.Coroutine.Made.{IsAlignedAsLists, IsMadeOfStates}
 use Rattle.abi_calc.specs.Coroutine.Promised.{HasLocalsApart, IsGoodCoroutine}
 use Rattle.abi_calc.specs.Marks.{HasCoroutineMarks}
@@ -16,6 +16,6 @@ module _ {F V H : Type 0} (at : ℕ → F) (number : F → ℕ) (zeroth : V) (dl
       → IfOk result (λ l. l.largest_niche ≡ None) → IfOk result (λ l. l.backend_repr ≡ Memory true)
       → IfOk result (IsAlignedAsLists zeroth dl prefix locals states conflicts) → IfOk result (HasCoroutineMarks prefix locals states conflicts)
       → IfOk result (IsOrderedWhole number) → IfOk result (IsMadeOfStates at number zeroth dl prefix locals states conflicts)
-      → IfOk result (IsToldByState dl at prefix locals states) → IfOk result (HasLocalsApart states conflicts locals) → IfOk result (IsGoodCoroutine at number zeroth dl prefix locals states conflicts)
-  coroutine_good (Ok l) n v a m o s t c = record { niche = n; view = v; alignment = a; marks = m; ordered = o; made = s; told = t; clash = c.clash; one_offset = c.one_offset }
+      → IfOk result (IsDistinguishedByState dl at prefix locals states) → IfOk result (HasLocalsApart states conflicts locals) → IfOk result (IsGoodCoroutine at number zeroth dl prefix locals states conflicts)
+  coroutine_good (Ok l) n v a m o s t c = record { niche = n; view = v; alignment = a; marks = m; ordered = o; made = s; tag_distinguishes = t; clash = c.clash; one_offset = c.one_offset }
   coroutine_good (Err e) n v a m o s t c = tt

@@ -14,7 +14,7 @@ use Rattle.abi_scalar.specs.declared.error.LayoutCalculatorError.TheVariants.{Ou
 use Rattle.abi_scalar.specs.declared.layout_data.LayoutData.{LayoutData}
 use Rattle.abi_scalar.specs.declared.repr.ReprOptions.{ReprOptions}
 use Rattle.abi_index.specs.BitSet.{is_member}
-use Rattle.abi_univariant.specs.List.{IsListError}
+use Rattle.abi_univariant.specs.List.{IsUnivariantError}
 use Rattle.abi_calc.specs.Coroutine.Lists.{default_repr, own_list, own_of, picked}
 use Rattle.abi_calc.specs.Coroutine.Sizes.{own_lists}
 use Rattle.abi_calc.specs.Enums.Lists.{AreGoodLists, IsFirstListError, IsGoodList}
@@ -120,7 +120,7 @@ module _ {F V H L : Type 0} (layout_of : H → LayoutData F V) (at : ℕ → F) 
   -- its error is the first
   pub own_error_next : (i : ℕ) (ls : List (LayoutData F V)) (state : List L) (e : LayoutCalculatorError H) → i < length states → state ≡ get_or states i state
       → AreGoodLists layout_of at first dl default_repr kind (own_lists locals promoted (map (map number) (take i states))) ls
-      → IsListError layout_of dl default_repr kind (own_list locals promoted (map number state)) e ⊎ (e ≡ OutOfMemory)
+      → IsUnivariantError layout_of dl default_repr kind (own_list locals promoted (map number state)) e ⊎ (e ≡ OutOfMemory)
       → IsFirstListError layout_of at first dl default_repr kind (own_lists locals promoted (map (map number) states)) e ⊎ (e ≡ OutOfMemory)
   own_error_next i ls state e short is h (inr want) = inr want
   own_error_next i ls state e short is h (inl error) =
@@ -136,6 +136,6 @@ module _ {F V H L : Type 0} (layout_of : H → LayoutData F V) (at : ℕ → F) 
 
 -- an error is that of the same fields by the same `repr`
 pub same_error : {F V H : Type 0} (layout_of : H → LayoutData F V) (dl : TargetDataLayout) (kind : StructKind) (repr other : ReprOptions) (fields more : List H) (r : Result (LayoutData F V) (LayoutCalculatorError H)) → repr ≡ other → fields ≡ more
-    → IfErr r (λ e. IsListError layout_of dl repr kind fields e ⊎ (e ≡ OutOfMemory)) → IfErr r (λ e. IsListError layout_of dl other kind more e ⊎ (e ≡ OutOfMemory))
+    → IfErr r (λ e. IsUnivariantError layout_of dl repr kind fields e ⊎ (e ≡ OutOfMemory)) → IfErr r (λ e. IsUnivariantError layout_of dl other kind more e ⊎ (e ≡ OutOfMemory))
 same_error layout_of dl kind repr other fields more r e is fault =
-    subst (λ x. IfErr r (λ e. IsListError layout_of dl other kind x e ⊎ (e ≡ OutOfMemory))) is (subst (λ x. IfErr r (λ e. IsListError layout_of dl x kind fields e ⊎ (e ≡ OutOfMemory))) e fault)
+    subst (λ x. IfErr r (λ e. IsUnivariantError layout_of dl other kind x e ⊎ (e ≡ OutOfMemory))) is (subst (λ x. IfErr r (λ e. IsUnivariantError layout_of dl x kind fields e ⊎ (e ≡ OutOfMemory))) e fault)

@@ -14,10 +14,10 @@ use Rattle.abi_scalar.specs.declared.error.LayoutCalculatorError.TheVariants as 
 use Rattle.abi_scalar.specs.declared.layout_data.LayoutData.{LayoutData}
 use Rattle.abi_scalar.specs.declared.scalar.Scalar.{Scalar}
 use Rattle.abi_scalar.specs.declared.scalar.Scalar.TheVariants.{Initialized}
-use Rattle.abi_univariant.specs.List.{IsListAnswer, IsListError}
+use Rattle.abi_univariant.specs.List.{IsUnivariantAnswer, IsUnivariantError}
 use Rattle.abi_calc.specs.Coroutine.Answer.{IsCoroutineAnswer, IsPromotedAnswer}
 use Rattle.abi_calc.specs.Coroutine.Layout.{IsStateTag, coroutine_layout, whole_size}
-use Rattle.abi_calc.specs.Coroutine.Lists.{AreOwnLists, IsFirstOwnError, behind, default_repr, first_list}
+use Rattle.abi_calc.specs.Coroutine.Lists.{AreOwnLists, IsFirstOwnError, state_list_kind, default_repr, first_list}
 use Rattle.abi_calc.specs.Coroutine.Promotion.{promoted_of}
 use Rattle.abi_calc.specs.Coroutine.Sizes.{own_lists}
 use Rattle.abi_calc.specs.Enums.Lists.{AreListLayouts, IsFirstListError}
@@ -70,33 +70,33 @@ module _ {H : Type 0} (layout_of : H → LayoutData ℕ ℕ) (dl : TargetDataLay
   Answers r = IsPromotedAnswer layout_of (λ i. i) (λ i. i) 0 dl prefix tag field locals states promoted r
 
   abbrev pub IsFirst : LayoutData ℕ ℕ → Type 0
-  IsFirst x = IsListAnswer layout_of (λ i. i) 0 dl default_repr AlwaysSized (first_list prefix field locals promoted) (Ok x)
+  IsFirst x = IsUnivariantAnswer layout_of (λ i. i) 0 dl default_repr AlwaysSized (first_list prefix field locals promoted) (Ok x)
 
   abbrev pub AreOwn : LayoutData ℕ ℕ → List (LayoutData ℕ ℕ) → Type 0
-  AreOwn x xs = AreOwnLists layout_of (λ i. i) 0 dl (behind x) locals promoted states xs
+  AreOwn x xs = AreOwnLists layout_of (λ i. i) 0 dl (state_list_kind x) locals promoted states xs
 
   abbrev pub IsOwnError : LayoutData ℕ ℕ → LayoutCalculatorError H → Type 0
-  IsOwnError x e = IsFirstOwnError layout_of (λ i. i) 0 dl (behind x) locals promoted states e
+  IsOwnError x e = IsFirstOwnError layout_of (λ i. i) 0 dl (state_list_kind x) locals promoted states e
 
   one_first : (x y : LayoutData ℕ ℕ) → IsFirst x → IsFirst y → x ≡ y
   one_first x y h k = one_list_layout layout_of dl default_repr AlwaysSized (first_list prefix field locals promoted) x y tt h k
 
   one_own : (x y : LayoutData ℕ ℕ) (xs ys : List (LayoutData ℕ ℕ)) → x ≡ y → AreOwn x xs → AreOwn y ys → xs ≡ ys
   one_own x y xs ys p h k =
-      one_lists layout_of dl default_repr (behind x) (own_lists locals promoted states) xs ys (all_full (behind x) (own_lists locals promoted states) tt) (lists_own layout_of dl (behind x) locals promoted states xs h)
-      (lists_own layout_of dl (behind x) locals promoted states ys (subst (λ z. AreOwn z ys) (sym p) k))
+      one_lists layout_of dl default_repr (state_list_kind x) (own_lists locals promoted states) xs ys (all_full (state_list_kind x) (own_lists locals promoted states) tt) (lists_own layout_of dl (state_list_kind x) locals promoted states xs h)
+      (lists_own layout_of dl (state_list_kind x) locals promoted states ys (subst (λ z. AreOwn z ys) (sym p) k))
 
   one_error : (x y : LayoutData ℕ ℕ) (e f : LayoutCalculatorError H) → x ≡ y → IsOwnError x e → IsOwnError y f → e ≡ f
   one_error x y e f p h k =
-      one_first_error layout_of dl default_repr (behind x) (own_lists locals promoted states) e f (all_full (behind x) (own_lists locals promoted states) tt) (error_own layout_of dl (behind x) locals promoted states e h)
-      (error_own layout_of dl (behind x) locals promoted states f (subst (λ z. IsOwnError z f) (sym p) k))
+      one_first_error layout_of dl default_repr (state_list_kind x) (own_lists locals promoted states) e f (all_full (state_list_kind x) (own_lists locals promoted states) tt) (error_own layout_of dl (state_list_kind x) locals promoted states e h)
+      (error_own layout_of dl (state_list_kind x) locals promoted states f (subst (λ z. IsOwnError z f) (sym p) k))
 
   never_own : (x y : LayoutData ℕ ℕ) (xs : List (LayoutData ℕ ℕ)) (e : LayoutCalculatorError H) → x ≡ y → AreOwn x xs → IsOwnError y e → ⊥
   never_own x y xs e p h k =
-      never_lists_and_error layout_of dl default_repr (behind x) (own_lists locals promoted states) xs e (all_full (behind x) (own_lists locals promoted states) tt) (lists_own layout_of dl (behind x) locals promoted states xs h)
-      (error_own layout_of dl (behind x) locals promoted states e (subst (λ z. IsOwnError z e) (sym p) k))
+      never_lists_and_error layout_of dl default_repr (state_list_kind x) (own_lists locals promoted states) xs e (all_full (state_list_kind x) (own_lists locals promoted states) tt) (lists_own layout_of dl (state_list_kind x) locals promoted states xs h)
+      (error_own layout_of dl (state_list_kind x) locals promoted states e (subst (λ z. IsOwnError z e) (sym p) k))
 
-  never_first : (x : LayoutData ℕ ℕ) (e : LayoutCalculatorError H) → IsFirst x → IsListError layout_of dl default_repr AlwaysSized (first_list prefix field locals promoted) e → ⊥
+  never_first : (x : LayoutData ℕ ℕ) (e : LayoutCalculatorError H) → IsFirst x → IsUnivariantError layout_of dl default_repr AlwaysSized (first_list prefix field locals promoted) e → ⊥
   never_first x e h bad = never_both layout_of dl default_repr AlwaysSized (first_list prefix field locals promoted) x e tt h bad
 
   -- a layout and an error are never both the answer

@@ -31,14 +31,14 @@ use Rattle.abi_scalar.specs.Order.{HasOrder, IsAscending}
 use Rattle.abi_scalar.specs.Shape.{IsListed, listed_offsets, listed_order}
 use Rattle.abi_scalar.specs.Variant.{IsOrderedVariant}
 use Rattle.abi_univariant.specs.Apart.{AreApart}
-use Rattle.abi_univariant.specs.List.{IsListAnswer}
-use Rattle.abi_univariant.specs.Placement.{IsNonEmptyIfUnsized, list_repr, source_order, start_of}
+use Rattle.abi_univariant.specs.List.{IsUnivariantAnswer}
+use Rattle.abi_univariant.specs.Placement.{IsNonEmptyIfUnsized, fields_repr, source_order, start_of}
 use Rattle.abi_univariant.proofs.Sorted.Least.{allowed_permutes}
 use Rattle.abi_univariant.proofs.Promised.LeastLemmas.{keeps_apart, lies_after, lies_in_order}
 use Rattle.abi_univariant.proofs.Offsets.Rounding.{rounded_to}
 use Rattle.abi_univariant.proofs.Sorted.Sorting.{within_order}
 use Rattle.abi_calc.specs.Coroutine.Answer.{IsCoroutineAnswer}
-use Rattle.abi_calc.specs.Coroutine.Lists.{AreOwnLists, behind, default_repr, first_list, own_list, own_of}
+use Rattle.abi_calc.specs.Coroutine.Lists.{AreOwnLists, state_list_kind, default_repr, first_list, own_list, own_of}
 use Rattle.abi_calc.specs.Coroutine.Promotion.{promoted_of}
 use Rattle.abi_calc.specs.Coroutine.States.{HasFields, own_places, places_with, rank_of, ranks_of, state_layout, state_layouts, state_offsets, state_order}
 use Rattle.abi_calc.specs.Ordered.{IsOrderedWhole}
@@ -289,7 +289,7 @@ module _ (promoted : List Bool) (shared own state : List ℕ) (once : AllPairs (
         (flat_pairs (λ k. get_or (state_offsets promoted shared own state) k 0) (λ rank. places_with state (slice_index (members_of promoted) rank)) (slice_index shared) ranks each_rank rising)
         (λ i j d less short. (let first = own_at i d (omega (arith, less, short, count)) in let second = own_at j d (omega (arith, short, count)) in let rise = up i j 0 less (omega (arith, short, count)) in omega (arith, first, second, rise)))
         (λ k d short. λ j e less.
-        (let here = low k d short in let there = own_at j e (omega (arith, less, count)) in let behind = far (get_or order j 0) (placed j 0 (omega (arith, less, count))) in omega (arith, here, there, behind)))
+        (let here = low k d short in let there = own_at j e (omega (arith, less, count)) in let state_list_kind = far (get_or order j 0) (placed j 0 (omega (arith, less, count))) in omega (arith, here, there, state_list_kind)))
 
     -- and has a place for each local
     pub state_count : All (λ l. l < length promoted) state → ((g : ℕ → ℕ) → sum_by g ranks ≡ sum_by g (source_order (length (members_of promoted)))) → length order ≡ length own
@@ -449,12 +449,12 @@ state_few state n once within = length-le_from_distinct_below state n (IsDistinc
 
 module _ {F V H : Type 0} (layout_of : H → LayoutData F V) (at : ℕ → F) (number : F → ℕ) (most : ℕ) (law : (i : ℕ) → i ≤ most → number (at i) ≡ i) (zeroth : V) (dl : TargetDataLayout) (kind : StructKind) where
   -- the fields of a list, one by one
-  list_fields : (hs : List H) (list : LayoutData F V) (count : ℕ) → length hs ≡ count → length hs ≤ most + 1 → IsNonEmptyIfUnsized kind (length hs) → IsListAnswer layout_of at zeroth dl default_repr kind hs (Ok list)
+  list_fields : (hs : List H) (list : LayoutData F V) (count : ℕ) → length hs ≡ count → length hs ≤ most + 1 → IsNonEmptyIfUnsized kind (length hs) → IsUnivariantAnswer layout_of at zeroth dl default_repr kind hs (Ok list)
       → HasFields number count list
   list_fields hs list count many small tail (order, offsets, r) =
       let lies = lies_in_order layout_of at zeroth dl default_repr kind hs order offsets list tail r in
       let long : length (map layout_of hs) ≡ length hs = length-map hs layout_of in
-      let allowed = allowed_permutes (list_repr dl default_repr kind) (length (map layout_of hs)) lies.0 lies.2.allowed in
+      let allowed = allowed_permutes (fields_repr dl default_repr kind) (length (map layout_of hs)) lies.0 lies.2.allowed in
       let within = within_order (length (map layout_of hs)) lies.0 allowed in
       let back : map number (listed_order list.fields) ≡ lies.0
       = ap (λ shape. map number (listed_order shape)) lies.1 ∙ named_back at number most law lies.0 (λ k d short. omega (arith, within k d short, long, small)) in
@@ -466,7 +466,7 @@ module _ {F V H : Type 0} (layout_of : H → LayoutData F V) (at : ℕ → F) (n
 
 module _ {F V H : Type 0} (layout_of : H → LayoutData F V) (at : ℕ → F) (number : F → ℕ) (most : ℕ) (law : (i : ℕ) → i ≤ most → number (at i) ≡ i) (zeroth : V) (dl : TargetDataLayout) (prefix : List H) (field : H) (locals : List H)
     (promoted : List Bool) (many : length promoted ≡ length locals) (few : length prefix + length locals ≤ most) (first : LayoutData F V)
-    (h : IsListAnswer layout_of at zeroth dl default_repr AlwaysSized (first_list prefix field locals promoted) (Ok first)) where
+    (h : IsUnivariantAnswer layout_of at zeroth dl default_repr AlwaysSized (first_list prefix field locals promoted) (Ok first)) where
   first_few : length (first_list prefix field locals promoted) ≤ most + 1
   first_few = omega (arith, first_count prefix field locals promoted many, members_few promoted, many, few)
 
@@ -489,17 +489,17 @@ module _ {F V H : Type 0} (layout_of : H → LayoutData F V) (at : ℕ → F) (n
   pub front_ordered : HasOrder number (Arbitrary (take (length prefix + 1) (listed_offsets first.fields)) (filter (λ i. nat_lt (number i) (length prefix + 1)) (listed_order first.fields)))
   front_ordered =
       let ranks = ranks_count number (length prefix + 1) (length (members_of promoted)) first first_fields in
-      let behind : length (ranks_of number (length prefix + 1) (listed_order first.fields)) ≡ length (filter (λ i. not (nat_lt (number i) (length prefix + 1))) (listed_order first.fields))
+      let state_list_kind : length (ranks_of number (length prefix + 1) (listed_order first.fields)) ≡ length (filter (λ i. not (nat_lt (number i) (length prefix + 1))) (listed_order first.fields))
       = length-map (filter (λ i. not (nat_lt (number i) (length prefix + 1))) (listed_order first.fields)) (λ i. number i - (length prefix + 1)) in
       let both = length-filter_both (λ i. nat_lt (number i) (length prefix + 1)) (λ i. not (nat_lt (number i) (length prefix + 1))) (λ i. refl) (listed_order first.fields) in
       let front = length-take-le (length prefix + 1) (listed_offsets first.fields) (omega (arith, first_fields.offsets)) in (
-        omega (arith, ranks, behind, both, front, first_order.places, first_fields.offsets),
+        omega (arith, ranks, state_list_kind, both, front, first_order.places, first_fields.offsets),
         front_up (at 0) number (length prefix + 1) (listed_offsets first.fields) (listed_order first.fields) first_up,
       )
 
   -- a state's locals
   state_ordered : (state : List ℕ) (list : LayoutData F V) → AllPairs (λ a b. a ≢ b) state → All (λ l. l < length locals) state
-      → IsListAnswer layout_of at zeroth dl default_repr (behind first) (own_list locals promoted state) (Ok list) → IsOrderedVariant number (state_layout at number (length prefix + 1) promoted first state list)
+      → IsUnivariantAnswer layout_of at zeroth dl default_repr (state_list_kind first) (own_list locals promoted state) (Ok list) → IsOrderedVariant number (state_layout at number (length prefix + 1) promoted first state list)
   state_ordered state list once within k =
       let shared = drop (length prefix + 1) (listed_offsets first.fields) in
       let own = listed_offsets list.fields in
@@ -510,15 +510,15 @@ module _ {F V H : Type 0} (layout_of : H → LayoutData F V) (at : ℕ → F) (n
       let long : length state ≤ length locals = state_few state (length locals) once within in
       let parts = length-filter_both (is_member promoted) (λ l. not (is_member promoted l)) (λ l. refl) state in
       let small : length (own_list locals promoted state) ≤ most + 1 = omega (arith, size_of, parts, long, few) in
-      let in_list = list_fields layout_of at number most law zeroth dl (behind first) (own_list locals promoted state) list (length (own_of promoted state)) size_of small tt k in
-      let up = list_ordered layout_of at zeroth dl default_repr (behind first) number most law (own_list locals promoted state) list small tt k in
+      let in_list = list_fields layout_of at number most law zeroth dl (state_list_kind first) (own_list locals promoted state) list (length (own_of promoted state)) size_of small tt k in
+      let up = list_ordered layout_of at zeroth dl default_repr (state_list_kind first) number most law (own_list locals promoted state) list small tt k in
       let places : length (own_places promoted state) ≡ length (own_of promoted state) = count_own_places promoted state in
       let ranked = ranks_within number (length prefix + 1) (length (members_of promoted)) first first_fields in
       let placed : All (λ q. q < length (own_places promoted state)) (map number (listed_order list.fields))
       = All-map (λ q. q < length (own_places promoted state)) number (listed_order list.fields) (λ i d short. omega (arith, up.within i d short, in_list.offsets, places)) in
       let many_order : length (map number (listed_order list.fields)) ≡ length (listed_offsets list.fields) = length-map (listed_order list.fields) number ∙ up.places in
-      let after : All (λ o. start_of None (behind first) ≤ o) (listed_offsets list.fields)
-      = lies_after layout_of at zeroth dl default_repr (behind first) (own_list locals promoted state) k.0 k.1 list tt k.2 in
+      let after : All (λ o. start_of None (state_list_kind first) ≤ o) (listed_offsets list.fields)
+      = lies_after layout_of at zeroth dl default_repr (state_list_kind first) (own_list locals promoted state) k.0 k.1 list tt k.2 in
       let far : (q : ℕ) → q < length (own_places promoted state) → first.size ≤ slice_index (listed_offsets list.fields) q
       = λ q low. omega (arith, after q 0 (omega (arith, low, places, in_list.offsets)), (rounded_to first.size first.align.abi).above) in
       let below : All (λ i. i < length state) (state_order promoted ranks (map number (listed_order list.fields)) state)
@@ -534,7 +534,7 @@ module _ {F V H : Type 0} (layout_of : H → LayoutData F V) (at : ℕ → F) (n
       )
 
   pub states_ordered : (states : List (List ℕ)) (lists : List (LayoutData F V)) → All (AllPairs (λ a b. a ≢ b)) states → All (All (λ l. l < length locals)) states
-      → AreOwnLists layout_of at zeroth dl (behind first) locals promoted states lists → All (IsOrderedVariant number) (state_layouts at number (length prefix + 1) promoted first states lists)
+      → AreOwnLists layout_of at zeroth dl (state_list_kind first) locals promoted states lists → All (IsOrderedVariant number) (state_layouts at number (length prefix + 1) promoted first states lists)
   states_ordered [] [] once within k = All-nil (IsOrderedVariant number)
   states_ordered [] (l ∷ ls) once within k = elim k [ ]
   states_ordered (s ∷ ss) [] once within k = elim k [ ]

@@ -25,16 +25,16 @@ use Rattle.abi_index.specs.BitSet.{is_member, members_of}
 use Rattle.abi_univariant.specs.Answer.{IsAnswer}
 use Rattle.abi_univariant.specs.Fields.{greatest, greatest_size}
 use Rattle.abi_univariant.specs.Least.{IsEachOrderTooLarge, align_by}
-use Rattle.abi_univariant.specs.List.{AreSized, IsListError}
+use Rattle.abi_univariant.specs.List.{AreSized, IsUnivariantError}
 use Rattle.abi_univariant.specs.Part.{is_unsized}
-use Rattle.abi_univariant.specs.Placement.{list_repr, source_order}
+use Rattle.abi_univariant.specs.Placement.{fields_repr, source_order}
 use Rattle.abi_univariant.proofs.Sorted.Least.{allowed_permutes}
 use Rattle.abi_univariant.proofs.Sorted.Sorting.{within_order}
 use Rattle.abi_univariant.proofs.Promised.LeastLemmas.{large_in_each, sized_error}
 use Rattle.abi_univariant.proofs.Offsets.Rounding.{rounded_to}
 use Rattle.abi_calc.specs.Coroutine.Answer.{IsPromotedAnswer}
 use Rattle.abi_calc.specs.Coroutine.Layout.{IsStateTag, coroutine_layout, whole_align, whole_size}
-use Rattle.abi_calc.specs.Coroutine.Lists.{AreOwnLists, IsFirstOwnError, behind, default_repr, first_list, own_list, own_of, picked}
+use Rattle.abi_calc.specs.Coroutine.Lists.{AreOwnLists, IsFirstOwnError, state_list_kind, default_repr, first_list, own_list, own_of, picked}
 use Rattle.abi_calc.specs.Coroutine.Promised.{IsSizedPromoted}
 use Rattle.abi_calc.specs.Coroutine.Sizes.{AreListsTooLarge, IsSizeOfLists, IsSizeWith, align_of_all, behind_first, own_lists}
 use Rattle.abi_calc.specs.Enums.Lists.{AreGoodLists, AreListLayouts, IsFirstListError, IsGoodList}
@@ -110,14 +110,14 @@ module _ {F V H : Type 0} (layout_of : H → LayoutData F V) (at : ℕ → F) (z
 
 module _ {F V H : Type 0} (layout_of : H → LayoutData F V) (at : ℕ → F) (zeroth : V) (dl : TargetDataLayout) (fields : List H) (own : List (List H)) (first : LayoutData F V) (good : IsGoodList layout_of at zeroth dl default_repr AlwaysSized fields first) where
   -- each list lies behind the first one
-  kind_is : behind first ≡ behind_first dl (map layout_of fields) first.size
+  kind_is : state_list_kind first ≡ behind_first dl (map layout_of fields) first.size
   kind_is = ap (λ a. Prefixed first.size a) good.placed.2.alignment
 
-  module _ (lists : List (LayoutData F V)) (others : AreGoodLists layout_of at zeroth dl default_repr (behind first) own lists) where
+  module _ (lists : List (LayoutData F V)) (others : AreGoodLists layout_of at zeroth dl default_repr (state_list_kind first) own lists) where
     whole_align_is : whole_align first lists ≡ align_of_all dl (map layout_of fields) first.size (map (map layout_of) own)
     whole_align_is =
         ap₂ max good.placed.2.alignment
-        (ap greatest (good_aligns layout_of at zeroth dl default_repr (behind first) own lists others ∙ ap (λ k. map (align_by dl default_repr k) (map (map layout_of) own)) kind_is))
+        (ap greatest (good_aligns layout_of at zeroth dl default_repr (state_list_kind first) own lists others ∙ ap (λ k. map (align_by dl default_repr k) (map (map layout_of) own)) kind_is))
 
     -- the size is that of the lists, each of its least size
     pub whole_is : IsSizeOfLists dl (map layout_of fields) (map (map layout_of) own) (whole_size first lists)
@@ -125,7 +125,7 @@ module _ {F V H : Type 0} (layout_of : H → LayoutData F V) (at : ℕ → F) (z
       first.size,
       good.least,
       map (λ l. l.size) lists,
-      subst (λ k. AreLeastSizes dl default_repr k (map (map layout_of) own) (map (λ l. l.size) lists)) kind_is (good_sizes layout_of at zeroth dl default_repr (behind first) own lists others),
+      subst (λ k. AreLeastSizes dl default_repr k (map (map layout_of) own) (map (λ l. l.size) lists)) kind_is (good_sizes layout_of at zeroth dl default_repr (state_list_kind first) own lists others),
       ap (λ a. next_multiple_of (greatest_size (first ∷ lists)) (2 ^ a)) whole_align_is,
     )
 
@@ -144,18 +144,18 @@ module _ {F V H : Type 0} (layout_of : H → LayoutData F V) (at : ℕ → F) (z
     not_too_large below (inl one) = good_fits layout_of at zeroth dl default_repr AlwaysSized fields first good one
     not_too_large below (inr (inl some)) =
         let start : some.0 ≡ first.size = least_unique dl default_repr AlwaysSized (map layout_of fields) some.0 first.size some.1 good.least in
-        let large : IsEachOrderTooLarge dl default_repr (behind first) some.2
+        let large : IsEachOrderTooLarge dl default_repr (state_list_kind first) some.2
         = subst (λ k. IsEachOrderTooLarge dl default_repr k some.2) (ap (behind_first dl (map layout_of fields)) start ∙ sym kind_is) some.4 in
-        All-contains (λ fs. IsEachOrderTooLarge dl default_repr (behind first) fs → ⊥) (map (map layout_of) own) some.2 (all_fit layout_of at zeroth dl default_repr (behind first) own lists others) some.3 large
+        All-contains (λ fs. IsEachOrderTooLarge dl default_repr (state_list_kind first) fs → ⊥) (map (map layout_of) own) some.2 (all_fit layout_of at zeroth dl default_repr (state_list_kind first) own lists others) some.3 large
     not_too_large below (inr (inr whole)) =
         let same = whole_unique whole.0 whole.1 in
         omega (arith, same, whole.2, below)
 
   -- the first list that has no layout is too large in each order, where the error says so
-  pub own_large : (error : LayoutCalculatorError H) → All (All (λ f. IsLawfulLayout dl (layout_of f))) own → IsFirstListError layout_of at zeroth dl default_repr (behind first) own error → error ≡ SizeOverflow
+  pub own_large : (error : LayoutCalculatorError H) → All (All (λ f. IsLawfulLayout dl (layout_of f))) own → IsFirstListError layout_of at zeroth dl default_repr (state_list_kind first) own error → error ≡ SizeOverflow
       → AreListsTooLarge dl (map layout_of fields) (map (map layout_of) own)
   own_large error law bad is =
-      let one = error_in_each layout_of at zeroth dl default_repr (behind first) own error law tt bad is in
+      let one = error_in_each layout_of at zeroth dl default_repr (state_list_kind first) own error law tt bad is in
       inr (inl (first.size, good.least, one.0, one.1, subst (λ k. IsEachOrderTooLarge dl default_repr k one.0) kind_is one.2))
 
 -- ---- the fields of a list
@@ -177,7 +177,7 @@ module _ {F V H : Type 0} (layout_of : H → LayoutData F V) (at : ℕ → F) (n
   good_fields fields list count many few good =
       let order : List ℕ = good.placed.0 in
       let allowed : IsPermutation (source_order (length (map layout_of fields))) good.placed.0
-      = allowed_permutes (list_repr dl default_repr kind) (length (map layout_of fields)) good.placed.0 good.placed.2.allowed in
+      = allowed_permutes (fields_repr dl default_repr kind) (length (map layout_of fields)) good.placed.0 good.placed.2.allowed in
       let within = within_order (length (map layout_of fields)) good.placed.0 allowed in
       let long : length (map layout_of fields) ≡ length fields = length-map fields layout_of in
       let back : map number (listed_order list.fields) ≡ good.placed.0
@@ -210,7 +210,7 @@ pub record IsAsked {F V H : Type 0} (layout_of : H → LayoutData F V) (zeroth :
   pub law : IsLawfulDataLayout dl
   pub before : All (λ f. IsLawfulLayout dl (layout_of f)) prefix
   pub all : All (λ f. IsLawfulLayout dl (layout_of f)) locals
-  pub tells : IsStateTag (length states) tag
+  pub is_state_tag : IsStateTag (length states) tag
   pub holds : layout_of field ≡ scalar_layout zeroth dl tag
 
 -- What is promised of the answer.
@@ -247,7 +247,7 @@ module _ {F V H : Type 0} (layout_of : H → LayoutData F V) (at : ℕ → F) (n
   -- the fields of the first list are lawful
   pub first_lawful : All (λ f. IsLawfulLayout dl (layout_of f)) (first_list prefix field locals promoted)
   first_lawful =
-      let scalar = state_tag_lawful dl (length states) tag asked.tells in
+      let scalar = state_tag_lawful dl (length states) tag asked.is_state_tag in
       let one : IsLawfulLayout dl (layout_of field)
       = subst (IsLawfulLayout dl) (sym asked.holds) (scalar_lawful dl tag (scalar_layout zeroth dl tag) (lawful_readable dl tag scalar) asked.law scalar refl refl refl refl tt) in
       first_all (λ f. IsLawfulLayout dl (layout_of f)) prefix field locals promoted asked.before one asked.all
@@ -260,7 +260,7 @@ module _ {F V H : Type 0} (layout_of : H → LayoutData F V) (at : ℕ → F) (n
   own_sized : AreSized (map layout_of locals) → All AreSized (map (map layout_of) (own_lists locals promoted states))
   own_sized all = subst (All AreSized) (sym own_are) (own_all (λ f. is_unsized f.backend_repr ≡ false) (map layout_of locals) promoted states all)
 
-  -- want of memory
+  -- that memory ran out
   pub memory_promised : (e : LayoutCalculatorError H) → e ≡ OutOfMemory → IsPromised layout_of at number zeroth dl prefix tag field locals states promoted (Err e)
   memory_promised e is = record {
     exact = inr (inr is);
@@ -274,7 +274,7 @@ module _ {F V H : Type 0} (layout_of : H → LayoutData F V) (at : ℕ → F) (n
   }
 
   -- the first list has no layout
-  pub first_promised : (e : LayoutCalculatorError H) → IsListError layout_of dl default_repr AlwaysSized (first_list prefix field locals promoted) e ⊎ (e ≡ OutOfMemory) → IsPromised layout_of at number zeroth dl prefix tag field locals states promoted (Err e)
+  pub first_promised : (e : LayoutCalculatorError H) → IsUnivariantError layout_of dl default_repr AlwaysSized (first_list prefix field locals promoted) e ⊎ (e ≡ OutOfMemory) → IsPromised layout_of at number zeroth dl prefix tag field locals states promoted (Err e)
   first_promised e (inr is) = memory_promised e is
   first_promised e (inl bad) =
       let other : AreSized (map layout_of prefix) → AreSized (map layout_of locals) → (e ≡ SizeOverflow) ⊎ (e ≡ OutOfMemory)
@@ -292,14 +292,14 @@ module _ {F V H : Type 0} (layout_of : H → LayoutData F V) (at : ℕ → F) (n
 
   module _ (first : LayoutData F V) (good : IsGoodList layout_of at zeroth dl default_repr AlwaysSized (first_list prefix field locals promoted) first) where
     -- some state's list has none
-    pub own_promised : (e : LayoutCalculatorError H) → IsFirstListError layout_of at zeroth dl default_repr (behind first) (own_lists locals promoted states) e ⊎ (e ≡ OutOfMemory)
+    pub own_promised : (e : LayoutCalculatorError H) → IsFirstListError layout_of at zeroth dl default_repr (state_list_kind first) (own_lists locals promoted states) e ⊎ (e ≡ OutOfMemory)
         → IsPromised layout_of at number zeroth dl prefix tag field locals states promoted (Err e)
     own_promised e (inr is) = memory_promised e is
     own_promised e (inl bad) =
         let other : AreSized (map layout_of prefix) → AreSized (map layout_of locals) → (e ≡ SizeOverflow) ⊎ (e ≡ OutOfMemory)
-        = λ before all. error_sized layout_of at zeroth dl default_repr (behind first) (own_lists locals promoted states) e (own_sized all) tt bad in
+        = λ before all. error_sized layout_of at zeroth dl default_repr (state_list_kind first) (own_lists locals promoted states) e (own_sized all) tt bad in
         record {
-          exact = inr (inl (first, good.exact, inl (own_error layout_of at zeroth dl (behind first) locals promoted states e bad)));
+          exact = inr (inl (first, good.exact, inl (own_error layout_of at zeroth dl (state_list_kind first) locals promoted states e bad)));
           lawful = tt;
           sized = record {
             size = tt;
@@ -311,17 +311,17 @@ module _ {F V H : Type 0} (layout_of : H → LayoutData F V) (at : ℕ → F) (n
         }
 
     -- all lists have layouts
-    module _ (lists : List (LayoutData F V)) (others : AreGoodLists layout_of at zeroth dl default_repr (behind first) (own_lists locals promoted states) lists) where
+    module _ (lists : List (LayoutData F V)) (others : AreGoodLists layout_of at zeroth dl default_repr (state_list_kind first) (own_lists locals promoted states) lists) where
       layout_lawful : whole_size first lists < size_bound dl → IsLawfulLayout dl (coroutine_layout at number (length prefix) tag promoted states first lists)
       layout_lawful below =
           record {
             multiple = (rounded_to (greatest_size (first ∷ lists)) (whole_align first lists)).multiple;
             bound = below;
-            limit = whole_align_small dl first lists good.lawful (good_lawful layout_of at zeroth dl default_repr (behind first) (own_lists locals promoted states) lists others);
+            limit = whole_align_small dl first lists good.lawful (good_lawful layout_of at zeroth dl default_repr (state_list_kind first) (own_lists locals promoted states) lists others);
             niche = tt;
             view = tt;
             niche_of_view = tt;
-            tag = state_tag_lawful dl (length states) tag asked.tells;
+            tag = state_tag_lawful dl (length states) tag asked.is_state_tag;
           }
 
       pub whole_promised : (r : Result (LayoutData F V) (LayoutCalculatorError H))
@@ -329,7 +329,7 @@ module _ {F V H : Type 0} (layout_of : H → LayoutData F V) (at : ℕ → F) (n
           → IfErr r (λ e. ((size_bound dl ≤ whole_size first lists) × (e ≡ SizeOverflow)) ⊎ (e ≡ OutOfMemory))
           → IsPromised layout_of at number zeroth dl prefix tag field locals states promoted r
       whole_promised (Ok layout) laid fault = record {
-        exact = (first, good.exact, lists, own_layouts layout_of at zeroth dl (behind first) locals promoted states lists (good_exact layout_of at zeroth dl default_repr (behind first) (own_lists locals promoted states) lists others), laid.0, laid.1);
+        exact = (first, good.exact, lists, own_layouts layout_of at zeroth dl (state_list_kind first) locals promoted states lists (good_exact layout_of at zeroth dl default_repr (state_list_kind first) (own_lists locals promoted states) lists others), laid.0, laid.1);
         lawful = subst (IsLawfulLayout dl) (sym laid.1) (layout_lawful laid.0);
         sized = record {
           size = subst (λ l. IsSizeWith dl (map layout_of prefix) (scalar_layout zeroth dl tag) (map layout_of locals) states promoted l.size) (sym laid.1)
@@ -341,7 +341,7 @@ module _ {F V H : Type 0} (layout_of : H → LayoutData F V) (at : ℕ → F) (n
       }
       whole_promised (Err e) laid (inr is) = memory_promised e is
       whole_promised (Err e) laid (inl large) = record {
-        exact = inr (inl (first, good.exact, inr (lists, own_layouts layout_of at zeroth dl (behind first) locals promoted states lists (good_exact layout_of at zeroth dl default_repr (behind first) (own_lists locals promoted states) lists others), large.0, large.1)));
+        exact = inr (inl (first, good.exact, inr (lists, own_layouts layout_of at zeroth dl (state_list_kind first) locals promoted states lists (good_exact layout_of at zeroth dl default_repr (state_list_kind first) (own_lists locals promoted states) lists others), large.0, large.1)));
         lawful = tt;
         sized = record {
           size = tt;
@@ -351,13 +351,13 @@ module _ {F V H : Type 0} (layout_of : H → LayoutData F V) (at : ℕ → F) (n
         };
       }
 
--- want of memory says nothing of a size
+-- that memory ran out says nothing of a size
 module _ {F V H : Type 0} (dl : TargetDataLayout) (prefix : List (LayoutData F V)) (tag : LayoutData F V) (locals : List (LayoutData F V)) (states : List (List ℕ)) (promoted : List Bool) where
   pub memory_sized : (r : Result (LayoutData F V) (LayoutCalculatorError H)) → IsErrAnd r (λ e. e ≡ OutOfMemory) → IsSizedPromoted dl prefix tag locals states promoted r
-  memory_sized (Ok l) told = absurd told
-  memory_sized (Err e) told = record {
+  memory_sized (Ok l) tag_distinguishes = absurd tag_distinguishes
+  memory_sized (Err e) tag_distinguishes = record {
     size = tt;
     too_large = λ is. absurd (cc);
-    refused = λ before all large. inr (ap (λ x. Err x) told);
-    no_other = λ before all. inr told;
+    refused = λ before all large. inr (ap (λ x. Err x) tag_distinguishes);
+    no_other = λ before all. inr tag_distinguishes;
   }

@@ -6,13 +6,13 @@ use Rattle.std.proofs.lemmas.Bool.{cases_Bool, cases_lt, cases_order, eq-eqb, eq
 use Rattle.std.proofs.lemmas.List.{get_or-map, get_or_past, length-map}
 use Rattle.std.proofs.lemmas.List.Elements.{All-head, All-tail, filter_passes}
 use Rattle.std.proofs.lemmas.List.FromFn.{get_or-map-range_with_len, length-map-range_with_len}
-use Rattle.abi_index.specs.Ascending.{has_number}
+use Rattle.abi_index.specs.AscendingList.{has_number}
 use Rattle.abi_index.specs.BitSet.{is_member, members_of}
 use Rattle.abi_index.specs.Relation.{Relation, column_count, columns_of, is_entry, row_count}
 use Rattle.abi_univariant.specs.Placement.{source_order}
-use Rattle.abi_calc.specs.Coroutine.Promotion.{after_conflict, after_row, after_rows, are_settled, given_up, held_by_several, holder_count, holder_of, promote, promoted_of, used_count}
+use Rattle.abi_calc.specs.Coroutine.Promotion.{after_conflict, after_row, after_rows, need_no_promotion, local_to_promote, held_by_several, holder_count, holder_of, promote, promoted_of, used_count}
 use Rattle.abi_calc.specs.Coroutine.Sizes.{MayOverlap}
-use Rattle.abi_calc.specs.Enums.Path.{variant_at}
+use Rattle.abi_calc.specs.Enums.EnumStrategy.{variant_at}
 
 -- what each step keeps holds at the end
 fold_keeps : {A B : Type 0} (step : B → A → B) (P : B → Type 0) → ((b : B) (x : A) → P b → P (step b x)) → (b : B) (xs : List A) → P b → P (fold step b xs)
@@ -35,7 +35,7 @@ chosen_count true local count promoted size = size
 chosen_count false local count promoted size = promote_count local promoted ∙ size
 
 conflict_keeps_count : (states : List (List ℕ)) (conflicts : Relation) (row count : ℕ) (promoted : List Bool) (column : ℕ) → length promoted ≡ count → length (after_conflict states conflicts row promoted column) ≡ count
-conflict_keeps_count states conflicts row count promoted column size = chosen_count (are_settled states row column promoted) (given_up conflicts row column) count promoted size
+conflict_keeps_count states conflicts row count promoted column size = chosen_count (need_no_promotion states row column promoted) (local_to_promote conflicts row column) count promoted size
 
 columns_keep_count : (states : List (List ℕ)) (conflicts : Relation) (row count : ℕ) (promoted : List Bool) (columns : List ℕ) → length promoted ≡ count → length (fold (after_conflict states conflicts row) promoted columns) ≡ count
 columns_keep_count states conflicts row count promoted columns size =
@@ -59,7 +59,7 @@ rows_count : (states : List (List ℕ)) (conflicts : Relation) → length (after
 rows_count states conflicts =
     rows_keep_count states conflicts (row_count conflicts) (held_by_several states (row_count conflicts)) (source_order (row_count conflicts)) (several_count states (row_count conflicts))
 
--- the set tells of each local whether it is promoted
+-- the set says of each local whether it is promoted
 pub promoted_count : (states : List (List ℕ)) (conflicts : Relation) → length (promoted_of states conflicts) ≡ row_count conflicts
 promoted_count states conflicts = by (nat_lt (used_count states (after_rows states conflicts)) 2)
   where
@@ -93,11 +93,11 @@ promote_adds local promoted within = promote_at local promoted local within ∙ 
     or_true false = refl
 
 conflict_keeps : (states : List (List ℕ)) (conflicts : Relation) (row k : ℕ) (promoted : List Bool) (column : ℕ) → is_member promoted k ≡ true → is_member (after_conflict states conflicts row promoted column) k ≡ true
-conflict_keeps states conflicts row k promoted column is = by (are_settled states row column promoted)
+conflict_keeps states conflicts row k promoted column is = by (need_no_promotion states row column promoted)
   where
-    by : (b : Bool) → is_member (if b then promoted else promote (given_up conflicts row column) promoted) k ≡ true
+    by : (b : Bool) → is_member (if b then promoted else promote (local_to_promote conflicts row column) promoted) k ≡ true
     by true = is
-    by false = promote_keeps (given_up conflicts row column) k promoted is
+    by false = promote_keeps (local_to_promote conflicts row column) k promoted is
 
 columns_keep : (states : List (List ℕ)) (conflicts : Relation) (row k : ℕ) (promoted : List Bool) (columns : List ℕ) → is_member promoted k ≡ true → is_member (fold (after_conflict states conflicts row) promoted columns) k ≡ true
 columns_keep states conflicts row k promoted columns is =
@@ -150,8 +150,8 @@ conflict_settled states conflicts a b promoted short long here there =
     given c false is none one = let added : is_member (promote b promoted) b ≡ true = promote_adds b promoted long in absurd (cc)
 
     by : (q p e : Bool) → is_member promoted b ≡ q → is_member promoted a ≡ p → (holder_of states a == holder_of states b) ≡ e
-        → is_member (if q || (not p && e) then promoted else promote (given_up conflicts a b) promoted) a ≡ false
-        → is_member (if q || (not p && e) then promoted else promote (given_up conflicts a b) promoted) b ≡ false → holder_of states a ≡ holder_of states b
+        → is_member (if q || (not p && e) then promoted else promote (local_to_promote conflicts a b) promoted) a ≡ false
+        → is_member (if q || (not p && e) then promoted else promote (local_to_promote conflicts a b) promoted) b ≡ false → holder_of states a ≡ holder_of states b
     by true p e is h same none one = absurd (cc)
     by false false true is h same none one = eqb-true (holder_of states a) (holder_of states b) same
     by false false false is h same none one = given true (nat_lt (length (columns_of conflicts b)) (length (columns_of conflicts a))) refl none one
@@ -382,7 +382,7 @@ same_promoted states m n rows columns entries = λ i. promoted_by (λ r. same_co
     after columns_at count =
         fold
         (λ promoted row. if is_member promoted row then promoted else fold
-        (λ set column. if are_settled states row column set then set else promote (if nat_lt (length (columns_at column)) (length (columns_at row)) then row else column) set) promoted (columns_at row))
+        (λ set column. if need_no_promotion states row column set then set else promote (if nat_lt (length (columns_at column)) (length (columns_at row)) then row else column) set) promoted (columns_at row))
         (held_by_several states count) (source_order count)
 
     promoted_by : (ℕ → List ℕ) → ℕ → List Bool

@@ -11,7 +11,7 @@ use Rattle.abi_scalar.specs.declared.layout_data.LayoutData.{LayoutData}
 use Rattle.abi_scalar.specs.declared.scalar.Scalar.{Scalar}
 use Rattle.abi_calc.specs.Coroutine.Answer.{IsCoroutineAnswer}
 use Rattle.abi_calc.specs.Coroutine.Layout.{coroutine_layout}
-use Rattle.abi_calc.specs.Coroutine.Lists.{behind, default_repr, first_list}
+use Rattle.abi_calc.specs.Coroutine.Lists.{state_list_kind, default_repr, first_list}
 use Rattle.abi_calc.specs.Coroutine.Promotion.{promoted_of}
 use Rattle.abi_calc.specs.Coroutine.Sizes.{own_lists}
 use Rattle.abi_calc.proofs.CoroutineLemmas.Promised.{map_first, map_own, own_error, own_layouts}
@@ -34,8 +34,8 @@ module _ {H K : Type 0} (f : H → LayoutData ℕ ℕ) (g : K → LayoutData ℕ
 
   own_by : (x : LayoutData ℕ ℕ) (xs : List (LayoutData ℕ ℕ)) → AreOwn f dl prefix tag field locals states promoted x xs → AreOwn g dl ahead tag held others states promoted x xs
   own_by x xs h =
-      own_layouts g (λ i. i) 0 dl (behind x) others promoted states xs
-      (lists_by f g dl default_repr (behind x) (own_lists locals promoted states) (own_lists others promoted states) own_same xs (lists_own f dl (behind x) locals promoted states xs h))
+      own_layouts g (λ i. i) 0 dl (state_list_kind x) others promoted states xs
+      (lists_by f g dl default_repr (state_list_kind x) (own_lists locals promoted states) (own_lists others promoted states) own_same xs (lists_own f dl (state_list_kind x) locals promoted states xs h))
 
   pub promoted_by : (r : Result (LayoutData ℕ ℕ) (LayoutCalculatorError H)) → Answers f dl prefix tag field locals states promoted r → HasSameResult r (Answers g dl ahead tag held others states promoted)
   promoted_by (Ok a) (x, h, xs, hs, below, is) =
@@ -44,8 +44,8 @@ module _ {H K : Type 0} (f : H → LayoutData ℕ ℕ) (g : K → LayoutData ℕ
       let error = refused_by f g dl default_repr AlwaysSized (first_list prefix field locals promoted) (first_list ahead held others promoted) fields_same e bad in
       (Err error.0, inl error.1, error.2)
   promoted_by (Err e) (inr (inl (x, h, inl later))) =
-      let error = first_error_by f g dl default_repr (behind x) (own_lists locals promoted states) (own_lists others promoted states) own_same e (error_own f dl (behind x) locals promoted states e later) in
-      (Err error.0, inr (inl (x, first_by x h, inl (own_error g (λ i. i) 0 dl (behind x) others promoted states error.0 error.1))), error.2)
+      let error = first_error_by f g dl default_repr (state_list_kind x) (own_lists locals promoted states) (own_lists others promoted states) own_same e (error_own f dl (state_list_kind x) locals promoted states e later) in
+      (Err error.0, inr (inl (x, first_by x h, inl (own_error g (λ i. i) 0 dl (state_list_kind x) others promoted states error.0 error.1))), error.2)
   promoted_by (Err e) (inr (inl (x, h, inr (xs, hs, over, large)))) =
       (Err SizeOverflow, inr (inl (x, first_by x h, inr (xs, own_by x xs hs, over, refl))), same_name e SizeOverflow SizeOverflow large tt)
   promoted_by (Err e) (inr (inr want)) = (Err OutOfMemory, inr (inr refl), same_name e OutOfMemory OutOfMemory want tt)

@@ -23,13 +23,13 @@ use Rattle.abi_univariant.specs.Fields.{greatest}
 use Rattle.abi_univariant.specs.Least.{align_by}
 use Rattle.abi_calc.specs.Coroutine.Answer.{IsCoroutineAnswer}
 use Rattle.abi_calc.specs.Coroutine.Layout.{IsStateTag, whole_align}
-use Rattle.abi_calc.specs.Coroutine.Lists.{AreOwnLists, behind, default_repr, first_list, own_of, picked}
+use Rattle.abi_calc.specs.Coroutine.Lists.{AreOwnLists, state_list_kind, default_repr, first_list, own_of, picked}
 use Rattle.abi_calc.specs.Coroutine.Made.{AreStatesOf, IsAlignedAsLists, IsMadeOfStates}
 use Rattle.abi_calc.specs.Coroutine.Promotion.{promoted_of}
 use Rattle.abi_calc.specs.Coroutine.Sizes.{align_of_all, own_lists}
 use Rattle.abi_calc.specs.Coroutine.States.{ranks_of, state_layouts}
 use Rattle.abi_calc.specs.Enums.Lists.{AreListLayouts}
-use Rattle.abi_calc.specs.Enums.Path.{has_no_value}
+use Rattle.abi_calc.specs.Enums.EnumStrategy.{has_no_value}
 use Rattle.abi_calc.specs.Made.{AreFieldLists, IsFieldList}
 use Rattle.abi_calc.specs.Marks.{HasCoroutineMarks}
 use Rattle.abi_calc.proofs.CoroutineLemmas.Promised.{IsAsked, first_lawful, map_first, map_own, map_picked, own_all}
@@ -99,7 +99,7 @@ module _ {F V H : Type 0} (layout_of : H → LayoutData F V) (at : ℕ → F) (n
     -- its marks
     pub coroutine_marks : (r : Result (LayoutData F V) (LayoutCalculatorError H)) → Answers r → IfOk r (HasCoroutineMarks (map layout_of prefix) (map layout_of locals) states conflicts)
     coroutine_marks (Ok l) (first, h, lists, hs, below, is) = record {
-      uninhabited = ap (λ m. m.uninhabited) is ∙ ap₂ (λ b c. b || c) (h.2.uninhabited ∙ first_flag) (own_flags (behind first) states lists hs);
+      uninhabited = ap (λ m. m.uninhabited) is ∙ ap₂ (λ b c. b || c) (h.2.uninhabited ∙ first_flag) (own_flags (state_list_kind first) states lists hs);
       max_repr_align = ap (λ m. m.max_repr_align) is;
       unadjusted_abi_align = ap (λ m. m.unadjusted_abi_align) is ∙ sym (ap (λ m. m.align.abi) is);
       repr_c = ap (λ m. m.repr_c) is;
@@ -107,25 +107,25 @@ module _ {F V H : Type 0} (layout_of : H → LayoutData F V) (at : ℕ → F) (n
     }
     coroutine_marks (Err e) h = tt
 
-    module _ (tells : IsStateTag (length states) tag) where
+    module _ (is_state_tag : IsStateTag (length states) tag) where
       -- its alignment
       aligned : (first : LayoutData F V) (lists : List (LayoutData F V)) → first.align.abi ≡ align_by dl default_repr AlwaysSized (map layout_of (first_list prefix field locals promoted))
-          → map (λ l. l.align.abi) lists ≡ map (align_by dl default_repr (behind first)) (map (map layout_of) (own_lists locals promoted states))
+          → map (λ l. l.align.abi) lists ≡ map (align_by dl default_repr (state_list_kind first)) (map (map layout_of) (own_lists locals promoted states))
           → whole_align first lists ≡ align_of_all dl (first_list (map layout_of prefix) (scalar_layout zeroth dl tag) (map layout_of locals) promoted) 0 (own_lists (map layout_of locals) promoted states)
       aligned first lists one others =
           let fs = first_list (map layout_of prefix) (scalar_layout zeroth dl tag) (map layout_of locals) promoted in
           let front : first.align.abi ≡ align_by dl default_repr AlwaysSized fs = one ∙ ap (λ gs. align_by dl default_repr AlwaysSized gs) fields_are in
           ap₂ max front
-          (ap greatest (others ∙ ap (λ vs. map (align_by dl default_repr (behind first)) vs) (map_own layout_of locals promoted states)
+          (ap greatest (others ∙ ap (λ vs. map (align_by dl default_repr (state_list_kind first)) vs) (map_own layout_of locals promoted states)
           ∙ ap (λ a. map (align_by dl default_repr (Prefixed 0 a)) (own_lists (map layout_of locals) promoted states)) front))
 
       pub coroutine_align : (r : Result (LayoutData F V) (LayoutCalculatorError H)) → Answers r → IfOk r (IsAlignedAsLists zeroth dl (map layout_of prefix) (map layout_of locals) states conflicts)
       coroutine_align (Ok l) (first, h, lists, hs, below, is) = (
         tag,
-        tells,
+        is_state_tag,
         ap (λ m. m.align.abi) is
             ∙ aligned first lists (list_align layout_of at zeroth dl default_repr AlwaysSized (first_list prefix field locals promoted) first h)
-            (lists_aligns layout_of at zeroth dl default_repr (behind first) (own_lists locals promoted states) lists (as_lists (behind first) states lists hs)),
+            (lists_aligns layout_of at zeroth dl default_repr (state_list_kind first) (own_lists locals promoted states) lists (as_lists (state_list_kind first) states lists hs)),
       )
       coroutine_align (Err e) h = tt
 
@@ -135,23 +135,23 @@ module _ {F V H : Type 0} (layout_of : H → LayoutData F V) (at : ℕ → F) (n
       coroutine_made (Ok l) (first, h, lists, hs, below, is) =
           let one : IsFieldList at dl default_repr AlwaysSized (map layout_of (first_list prefix field locals promoted)) first
           = field_list layout_of at zeroth dl default_repr AlwaysSized (first_list prefix field locals promoted) first (first_lawful layout_of at number zeroth dl prefix tag field locals states promoted asked) tt h in
-          let others : AreFieldLists at dl default_repr (behind first) (map (map layout_of) (own_lists locals promoted states)) lists
-          = field_lists layout_of at zeroth dl default_repr (behind first) (own_lists locals promoted states) lists (own_all (λ f. IsLawfulLayout dl (layout_of f)) locals promoted states asked.all) tt
-          (as_lists (behind first) states lists hs) in
+          let others : AreFieldLists at dl default_repr (state_list_kind first) (map (map layout_of) (own_lists locals promoted states)) lists
+          = field_lists layout_of at zeroth dl default_repr (state_list_kind first) (own_lists locals promoted states) lists (own_all (λ f. IsLawfulLayout dl (layout_of f)) locals promoted states asked.all) tt
+          (as_lists (state_list_kind first) states lists hs) in
           let count : length prefix ≡ length (map layout_of prefix) = sym (length-map prefix layout_of) in
           record {
             tag = tag;
-            tells = asked.tells;
+            is_state_tag = asked.is_state_tag;
             first = first;
             shared = subst (λ fs. IsFieldList at dl default_repr AlwaysSized fs first) fields_are one;
             lists = lists;
-            own = subst (λ vs. AreFieldLists at dl default_repr (behind first) vs lists) (map_own layout_of locals promoted states) others;
-            told = subst (λ (m : LayoutData F V). m.variants ≡ Multiple tag Direct (at (length (map layout_of prefix))) (variants_of m.variants)) (sym is)
+            own = subst (λ vs. AreFieldLists at dl default_repr (state_list_kind first) vs lists) (map_own layout_of locals promoted states) others;
+            tag_distinguishes = subst (λ (m : LayoutData F V). m.variants ≡ Multiple tag Direct (at (length (map layout_of prefix))) (variants_of m.variants)) (sym is)
                 (ap (λ k. Multiple tag Direct (at k) (state_layouts at number (length prefix + 1) promoted first states lists)) count);
             fields = ap (λ m. listed_offsets m.fields) is ∙ ap (λ k. take (k + 1) (listed_offsets first.fields)) count;
             order = ap (λ m. listed_order m.fields) is ∙ ap (λ k. filter (λ i. nat_lt (number i) (k + 1)) (listed_order first.fields)) count;
             layouts = subst (λ k. AreStatesOf at number promoted (drop (k + 1) (listed_offsets first.fields)) (ranks_of number (k + 1) (listed_order first.fields)) states lists (variants_of l.variants)) count
                 (subst (λ (m : LayoutData F V). AreStatesOf at number promoted (drop (length prefix + 1) (listed_offsets first.fields)) (ranks_of number (length prefix + 1) (listed_order first.fields)) states lists (variants_of m.variants)) (sym is)
-                (states_of at number (length prefix + 1) promoted first states lists (as_many (behind first) states lists hs)));
+                (states_of at number (length prefix + 1) promoted first states lists (as_many (state_list_kind first) states lists hs)));
           }
       coroutine_made (Err e) h = tt

@@ -13,7 +13,7 @@ use Rattle.abi_scalar.specs.declared.layout_data.LayoutData.{LayoutData}
 use Rattle.abi_scalar.specs.declared.scalar.Scalar.{Scalar}
 use Rattle.abi_calc.specs.Coroutine.Clash.{AreClashingApart, HaveOneOffset}
 use Rattle.abi_calc.specs.Coroutine.Layout.{coroutine_layout}
-use Rattle.abi_calc.specs.Coroutine.Lists.{behind, default_repr, first_list, own_of, picked}
+use Rattle.abi_calc.specs.Coroutine.Lists.{state_list_kind, default_repr, first_list, own_of, picked}
 use Rattle.abi_calc.specs.Coroutine.Promised.{ArePromotedBy, HasLocalsApart}
 use Rattle.abi_calc.specs.Coroutine.Promotion.{promoted_of}
 use Rattle.abi_calc.specs.Coroutine.Sizes.{IsOverlapSize, IsSizeOfLists, IsSizeWith, MayOverlap, own_lists}
@@ -38,7 +38,7 @@ module _ {F V H : Type 0} (layout_of : H → LayoutData F V) (at : ℕ → F) (n
 
   -- locals that clash share no byte, and a local has one offset
   pub apart_promised : All (AllPairs (λ a b. a ≢ b)) states → IsGoodList layout_of at zeroth dl default_repr AlwaysSized (first_list prefix field locals promoted) first
-      → AreGoodLists layout_of at zeroth dl default_repr (behind first) (own_lists locals promoted states) lists → (P : LayoutData F V → Type 0) (r : Result (LayoutData F V) (LayoutCalculatorError H))
+      → AreGoodLists layout_of at zeroth dl default_repr (state_list_kind first) (own_lists locals promoted states) lists → (P : LayoutData F V → Type 0) (r : Result (LayoutData F V) (LayoutCalculatorError H))
       → IfOk r (λ layout. P layout × (layout ≡ coroutine_layout at number (length prefix) tag promoted states first lists))
       → IfOk r (HasLocalsApart states conflicts (map layout_of locals))
   apart_promised once good own P r laid =
@@ -47,7 +47,7 @@ module _ {F V H : Type 0} (layout_of : H → LayoutData F V) (at : ℕ → F) (n
         clash = subst (λ p. AreClashingApart states conflicts (map layout_of locals) (state_layouts at number (length prefix + 1) p first states lists)) (sym by.by)
             (clashing_apart layout_of at number zeroth dl prefix field locals states conflicts first lists (by.columns ∙ sym by.rows) (sym by.rows) in_rows
             (subst (λ p. IsGoodList layout_of at zeroth dl default_repr AlwaysSized (first_list prefix field locals p) first) by.by good)
-            (subst (λ p. AreGoodLists layout_of at zeroth dl default_repr (behind first) (own_lists locals p states) lists) by.by own));
+            (subst (λ p. AreGoodLists layout_of at zeroth dl default_repr (state_list_kind first) (own_lists locals p states) lists) by.by own));
         one_offset = subst (λ p. HaveOneOffset states (state_layouts at number (length prefix + 1) p first states lists)) (sym by.by)
             (one_offset at number (length prefix + 1) states conflicts first lists in_rows once);
       })

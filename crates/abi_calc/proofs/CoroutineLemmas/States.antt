@@ -152,7 +152,7 @@ offset_own promoted shared own state l e = ap (λ b. if b then slice_index share
 abbrev pub places_before : (promoted : List Bool) (state : List ℕ) (rank n : ℕ) → List ℕ
 places_before promoted state rank n = filter (λ k. slice_index state k == slice_index (members_of promoted) rank) (range_with_len 0 n)
 
--- the table tells of each rank the place before this one that names its member
+-- the table says of each rank the place before this one that names its member
 abbrev pub IsHeldBefore : (promoted : List Bool) (state : List ℕ) (held : List (Option ℕ)) (n : ℕ) → Type 0
 IsHeldBefore promoted state held n = (rank : ℕ) → rank < length (members_of promoted) → option_to_list (get_or held rank None) ≡ places_before promoted state rank n
 
@@ -328,7 +328,7 @@ held_small n most (Some place) few h = omega (arith, few, h)
 pub joined_is : (promoted : List Bool) (held : List (Option ℕ)) (ranks places own state : List ℕ) → All (λ rank. rank < length ranks) ranks
     → ((rank : ℕ) → rank < length ranks → option_to_list (slice_index_or held rank None) ≡ places_with state (slice_index (members_of promoted) rank))
     → places ≡ own_places promoted state → joined_places held ranks places own ≡ state_order promoted ranks own state
-joined_is promoted held ranks places own state within told is =
+joined_is promoted held ranks places own state within tag_distinguishes is =
     ap₂ (λ a b. a ++ b)
-    (same_flat (λ rank. option_to_list (slice_index_or held rank None)) (λ rank. places_with state (slice_index (members_of promoted) rank)) (length ranks) ranks within told)
+    (same_flat (λ rank. option_to_list (slice_index_or held rank None)) (λ rank. places_with state (slice_index (members_of promoted) rank)) (length ranks) ranks within tag_distinguishes)
     (ap (λ xs. map (slice_index xs) own) is)

@@ -1,4 +1,4 @@
--- Where the fields of an enum's variants lie beside a niche that tells them apart, and which numbers name them.
+-- Where the fields of an enum's variants lie beside a niche that distinguishes them, and which numbers name them.
 use Rattle.std.proofs.Common.{◌≡◌, ℕ, zero, suc, ◌+◌, ◌-◌, ◌*◌, ◌==◌, ◌&&◌, not, ◌<◌, ◌≤◌, ◌∙◌, Bool, true, false, List, [], ◌∷◌, Option, None, Some, ap, ap₂, arith, cond, get_or, inl, inr, length, map, refl, subst, sym}
 use Rattle.std.specs.Prelude.{◌⊎◌, All, Contains, MatchBool, filter, if◌then◌else◌, nat_le, slice_get}
 use Rattle.std.specs.List.{AllPairs}
@@ -32,7 +32,7 @@ use Rattle.abi_calc.specs.declared.enums.niche.Room.{Room}
 use Rattle.abi_calc.specs.Enums.Beside.{AreApartBeside, AreNumbersInNiche, HasTagAt, IsToldByNiche}
 use Rattle.abi_calc.specs.Enums.Lists.{AreGoodLists, IsGoodList}
 use Rattle.abi_calc.specs.Enums.Niche.{beside_niche, last_or, layout_in_niche, moved_on, needing_numbers, niche_of_list, place_after, room_beside, span_count, span_of, untagged_of, variants_from, with_first, without_niche}
-use Rattle.abi_calc.specs.Enums.Path.{is_absent, variant_at}
+use Rattle.abi_calc.specs.Enums.EnumStrategy.{is_absent, variant_at}
 use Rattle.abi_calc.specs.Enums.Tagged.{lists_size}
 use Rattle.abi_calc.proofs.EnumLemmas.InNiche.{handed_from, holds_there, needing_ascends, needing_within, niche_known, of_some, span_holds}
 use Rattle.abi_calc.proofs.EnumLemmas.NicheLawful.{size_at_most, tag_size}
@@ -291,7 +291,7 @@ module _ {F V H : Type 0} (layout_of : H → LayoutData F V) (at : ℕ → F) (i
         value = handed_from dl niche (span_count span);
       }
 
-  -- an enum in a niche is told apart by it
+  -- an enum in a niche is distinguished by it
   pub told_by_niche : (most : ℕ) → ((i : ℕ) → i ≤ most → number (index i) ≡ i) → length variants ≤ most + 1 → AreGoodLists layout_of at (index 0) dl repr AlwaysSized variants lists
       → All (IsLawfulLayout dl) lists → (list : LayoutData F V) (placed : List (VariantLayout F)) → slice_get lists (untagged_of lists) ≡ Some list → list.largest_niche ≡ Some niche
       → span_of (needing_numbers (untagged_of lists) (map (map layout_of) variants)) ≡ Some span → span_count span ≤ available_in dl niche
@@ -319,7 +319,7 @@ module _ {F V H : Type 0} (layout_of : H → LayoutData F V) (at : ℕ → F) (i
         span = record { start = index span.0; last = index span.1 };
         start = (reserved dl niche (span_count span)).0;
         layouts = placed;
-        told = refl;
+        tag_distinguishes = refl;
         variant = own.0;
         own = subst (λ u. slice_get placed u ≡ Some own.0) (sym at_untagged) own.1;
         niche_of = subst (λ u. IsNicheOfPart own.0.field_offsets (variant_at vs u) niche) (sym at_untagged) (own_niche good list is known placed e own.0 own.1);

@@ -29,7 +29,7 @@ use Rattle.abi_univariant.specs.Fields.{greatest, greatest_size}
 use Rattle.abi_univariant.specs.Least.{IsEachOrderTooLarge, align_by, size_by}
 use Rattle.abi_univariant.specs.List.{AreSized, HasLawfulAligns}
 use Rattle.abi_univariant.specs.Part.{free_numbers, parts_of}
-use Rattle.abi_univariant.specs.Placement.{list_repr}
+use Rattle.abi_univariant.specs.Placement.{fields_repr}
 use Rattle.abi_univariant.proofs.Offsets.Rounding.{round_below, round_multiple, rounded_to}
 use Rattle.abi_univariant.proofs.Sorted.Prefixes.{round_lower}
 use Rattle.abi_calc.specs.Enums.Discriminants.{IsTagRange}
@@ -39,10 +39,10 @@ use Rattle.abi_calc.specs.Enums.Choice.{IsNicheAnswer, takes_niche}
 use Rattle.abi_calc.specs.Enums.Growth.{grown_tag, start_align}
 use Rattle.abi_calc.specs.Enums.Lists.{AreGoodLists, AreListLayouts, IsFirstListError, IsGoodList, align_with_all, behind_tag, tag_align}
 use Rattle.abi_calc.specs.Enums.Niche.{niche_layout}
-use Rattle.abi_calc.specs.Enums.Path.{is_free}
+use Rattle.abi_calc.specs.Enums.EnumStrategy.{is_free}
 use Rattle.abi_calc.specs.Enums.Several.{IsBetterAnswer}
 use Rattle.abi_calc.specs.Enums.Tagged.{lists_align, lists_size, tagged_layout}
-use Rattle.abi_calc.proofs.EnumLemmas.Asked.{good_behind}
+use Rattle.abi_calc.proofs.EnumLemmas.DiscrRange.{good_behind}
 use Rattle.abi_calc.proofs.EnumLemmas.Growth.{grown_size}
 use Rattle.abi_calc.proofs.EnumLemmas.OnlyField.{tag_most}
 use Rattle.abi_calc.proofs.EnumLemmas.Less.{fields_sized, parts_sized, tagged_less}
@@ -105,7 +105,7 @@ module _ {F V H : Type 0} (layout_of : H → LayoutData F V) (at : ℕ → F) (f
     all_sized (v ∷ vs) (l ∷ ls) good =
         let named = good.0.exact.2.named in
         All-cons AreSized (map layout_of v) (map (map layout_of) vs)
-        (fields_sized dl (map layout_of v) (parts_sized (list_repr dl repr AlwaysSized) (size_bound dl) (parts_of dl (map layout_of v)) named.0 tt refl named.1 named.2)) (all_sized vs ls good.1)
+        (fields_sized dl (map layout_of v) (parts_sized (fields_repr dl repr AlwaysSized) (size_bound dl) (parts_of dl (map layout_of v)) named.0 tt refl named.1 named.2)) (all_sized vs ls good.1)
 
     -- and none has an error
     no_error : (variants : List (List H)) (lists : List (LayoutData F V)) → All (All (λ f. IsLawfulLayout dl (layout_of f))) variants → AreGoodLists layout_of at first dl repr AlwaysSized variants lists → AreWithin lists

@@ -35,18 +35,18 @@ use Rattle.abi_univariant.specs.Part.{is_unsized}
 use Rattle.abi_calc.specs.declared.enums.payload.Payload.{Payload}
 use Rattle.abi_calc.specs.declared.enums.payload.Payload.TheVariants.{Nothing, One, Other}
 use Rattle.abi_calc.specs.Enums.Answer.{HasOneEach}
-use Rattle.abi_calc.specs.Enums.Beside.{AreToldApart, IsToldByTag}
-use Rattle.abi_calc.specs.Enums.Choice.{IsNicheAnswer, better, takes_niche}
-use Rattle.abi_calc.specs.Enums.Discriminants.{counting_of}
+use Rattle.abi_calc.specs.Enums.Beside.{AreDistinguished, IsToldByTag}
+use Rattle.abi_calc.specs.Enums.Choice.{IsNicheAnswer, preferred_layout, takes_niche}
+use Rattle.abi_calc.specs.Enums.Discriminants.{counted_discriminants}
 use Rattle.abi_calc.specs.Enums.Growth.{grown_tag, start_align}
 use Rattle.abi_calc.specs.Enums.Lists.{AreGoodLists, AreListLayouts, behind_tag}
 use Rattle.abi_calc.specs.Enums.Niche.{needing_numbers, niche_layout, niche_view, others_empty, span_count, untagged_of, view_with}
-use Rattle.abi_calc.specs.Enums.Path.{has_no_value}
+use Rattle.abi_calc.specs.Enums.EnumStrategy.{has_no_value}
 use Rattle.abi_calc.specs.Enums.Payload.{beside_tag, common_of, tagged_view}
-use Rattle.abi_calc.specs.Enums.Several.{AreLawfulTags, HasEnumSize, HasTaggedSize, IsAlwaysTooLarge, IsAskedAnswer, IsAskedFor, IsAskedTooLarge, IsEnumAnswer, IsSeveralAnswer, better_of}
+use Rattle.abi_calc.specs.Enums.Several.{AreWellFormedTags, HasEnumSize, HasTaggedSize, IsAlwaysTooLarge, IsAskedAnswer, IsAskedFor, IsAskedTooLarge, IsEnumAnswer, IsSeveralAnswer, better_of}
 use Rattle.abi_calc.specs.Enums.Sizes.{IsTaggedTooLarge}
 use Rattle.abi_calc.specs.Enums.Tagged.{IsTaggedAnswer, IsTaggedBy, lists_align, lists_size, payloads_of}
-use Rattle.abi_calc.proofs.EnumLemmas.Asked.{tagged_fits, tagged_large, tagged_lawful as asked_lawful, tagged_no_other, tagged_sized as asked_size, tagged_told as asked_told}
+use Rattle.abi_calc.proofs.EnumLemmas.DiscrRange.{tagged_fits, tagged_large, tagged_lawful as asked_lawful, tagged_no_other, tagged_sized as asked_size, tagged_told as asked_told}
 use Rattle.abi_calc.proofs.EnumLemmas.Lists.{good_exact}
 use Rattle.abi_calc.proofs.EnumLemmas.InNiche.{needing_others, needing_within, span_holds}
 use Rattle.abi_calc.proofs.EnumLemmas.NicheLawful.{niche_parts}
@@ -124,7 +124,7 @@ within (x ∷ xs) most h = All-cons (λ x. length x ≤ most + 1) x xs (omega (a
 
 module _ {H : Type 0} (layout_of : H → LayoutData ℕ ℕ) (dl : TargetDataLayout) (law : IsLawfulDataLayout dl) (repr : ReprOptions) (asks : RangeFrom ℤ → RangeToInclusive ℕ → Integer × Bool → Type 0)
     (variants : List (List H)) (items : List (ℕ × ℕ)) (aligns : HasLawfulAligns repr) (fields : All (All (λ f. IsLawfulLayout dl (layout_of f))) variants) (some : 0 < length variants)
-    (each : HasOneEach (λ v. v) (length variants) items) (tags : AreLawfulTags (λ v. v) dl repr asks (map (map layout_of) variants) items) where
+    (each : HasOneEach (λ v. v) (length variants) items) (tags : AreWellFormedTags (λ v. v) dl repr asks (map (map layout_of) variants) items) where
   -- what the rules answer
   abbrev pub Answers : Result (LayoutData ℕ ℕ) (LayoutCalculatorError H) → Type 0
   Answers r = IsSeveralAnswer layout_of (λ i. i) (λ i. i) (λ i. i) (λ i. i) dl repr asks variants (λ given. given ≡ items) r
@@ -133,7 +133,7 @@ module _ {H : Type 0} (layout_of : H → LayoutData ℕ ℕ) (dl : TargetDataLay
   vs = map (map layout_of) variants
 
   abbrev values : List ℕ
-  values = counting_of (λ v. v) repr (map (map layout_of) variants) items
+  values = counted_discriminants (λ v. v) repr (map (map layout_of) variants) items
 
   abbrev behind : Integer → StructKind
   behind asked = behind_tag dl repr asked (map (map layout_of) variants)
@@ -158,7 +158,7 @@ module _ {H : Type 0} (layout_of : H → LayoutData ℕ ℕ) (dl : TargetDataLay
   tagged_lawful asked signed t unpacked h =
       asked_lawful layout_of (λ i. i) (λ i. i) 0 dl law repr asked signed values variants aligns fields some unpacked (longest variants) (λ i le. refl) (within variants (longest variants) (omega arith)) t h
 
-  -- its tag tells the variants apart
+  -- its tag distinguishes the variants
   tagged_told : (asked : Integer) (signed : Bool) (t : LayoutData ℕ ℕ) → repr.pack ≡ None → IsAskedFor dl repr asks values asked signed → IsTagged asked signed (Ok t) → IsToldByTag dl (λ v. v) vs items t
   tagged_told asked signed t unpacked is h =
       asked_told layout_of (λ i. i) (λ i. i) 0 dl law repr asked signed values variants aligns fields some unpacked (longest variants) (λ i le. refl) (within variants (longest variants) (omega arith)) (λ v. v) items refl asks tags is t h
@@ -186,7 +186,7 @@ module _ {H : Type 0} (layout_of : H → LayoutData ℕ ℕ) (dl : TargetDataLay
   -- what holds of the layout with a tag, and of one with a niche, holds of the better one
   better_holds : (P : LayoutData ℕ ℕ → Type 0) (tagged : LayoutData ℕ ℕ) (found : Option (LayoutData ℕ ℕ)) → IsNiche found → P tagged
       → ((lists : List (LayoutData ℕ ℕ)) (l : LayoutData ℕ ℕ) → AreListLayouts layout_of (λ i. i) 0 dl repr AlwaysSized variants lists → niche_layout 0 (λ i. i) dl repr vs lists ≡ Some l → P l)
-      → P (better dl tagged found)
+      → P (preferred_layout dl tagged found)
   better_holds P tagged None niche one other = one
   better_holds P tagged (Some l) niche one other =
       let h : IsFound layout_of (λ i. i) (λ i. i) (λ v. v) dl repr variants l
@@ -205,11 +205,11 @@ module _ {H : Type 0} (layout_of : H → LayoutData ℕ ℕ) (dl : TargetDataLay
     signed : Bool
     is : IsAskedFor dl repr asks values asked signed
     with_tag : IsTagged asked signed (Ok tagged)
-    same : better dl tagged found ≡ l
+    same : preferred_layout dl tagged found ≡ l
 
   from_tagged : (l : LayoutData ℕ ℕ) (found : Option (LayoutData ℕ ℕ)) → repr.pack ≡ None → IsNiche found → (r : Result (LayoutData ℕ ℕ) (LayoutCalculatorError H))
       → IsAskedTag r → Ok l ≡ better_of dl r found → IsBetterOf l
-  from_tagged l found unpacked niche (Ok t) a e = let same : better dl t found ≡ l = cc in record { unpacked = unpacked; found = found; niche = niche; tagged = t; asked = a.0; signed = a.1; is = a.2; with_tag = a.3; same = same }
+  from_tagged l found unpacked niche (Ok t) a e = let same : preferred_layout dl t found ≡ l = cc in record { unpacked = unpacked; found = found; niche = niche; tagged = t; asked = a.0; signed = a.1; is = a.2; with_tag = a.3; same = same }
   from_tagged l found unpacked niche (Err error) a e = absurd (cc)
 
   from_enum : (l : LayoutData ℕ ℕ) → repr.pack ≡ None → ByItems items (Ok l) → IsBetterOf l
@@ -228,16 +228,16 @@ module _ {H : Type 0} (layout_of : H → LayoutData ℕ ℕ) (dl : TargetDataLay
       subst (IsLawfulLayout dl) b.same
       (better_lawful layout_of (λ i. i) (λ i. i) (λ v. v) dl repr variants b.tagged b.found law (good_niche b.found b.niche) (tagged_lawful b.asked b.signed b.tagged b.unpacked b.with_tag))
 
-  -- a tag or a niche tells its variants apart
-  pub enum_told : (l : LayoutData ℕ ℕ) → Answers (Ok l) → AreToldApart dl (λ v. v) (map (map layout_of) variants) items l
+  -- a tag or a niche says its variants apart
+  pub enum_told : (l : LayoutData ℕ ℕ) → Answers (Ok l) → AreDistinguished dl (λ v. v) (map (map layout_of) variants) items l
   enum_told l h =
       let b = from_answer l h in
-      subst (AreToldApart dl (λ v. v) (map (map layout_of) variants) items) b.same
+      subst (AreDistinguished dl (λ v. v) (map (map layout_of) variants) items) b.same
       (better_told layout_of (λ i. i) (λ i. i) (λ v. v) dl repr variants (length variants) (λ i le. refl) (omega arith) items b.tagged b.found (good_niche b.found b.niche)
       (tagged_told b.asked b.signed b.tagged b.unpacked b.is b.with_tag))
 
   -- it has the enum's size
-  pub enum_size : (l : LayoutData ℕ ℕ) → Answers (Ok l) → HasEnumSize layout_of (λ i. i) 0 dl repr asks (counting_of (λ v. v) repr (map (map layout_of) variants) items) variants l.size
+  pub enum_size : (l : LayoutData ℕ ℕ) → Answers (Ok l) → HasEnumSize layout_of (λ i. i) 0 dl repr asks (counted_discriminants (λ v. v) repr (map (map layout_of) variants) items) variants l.size
   enum_size l h =
       let b = from_answer l h in
       subst (λ (m : LayoutData ℕ ℕ). HasEnumSize layout_of (λ i. i) 0 dl repr asks values variants m.size) b.same
@@ -290,7 +290,7 @@ module _ {H : Type 0} (layout_of : H → LayoutData ℕ ℕ) (dl : TargetDataLay
   large_enum unpacked (inr h) = large_tagged h.0 unpacked h.2 h.3 h.4
 
   -- an enum that is refused for its size is too large
-  pub enum_too_large : Answers (Err SizeOverflow) → IsAskedTooLarge dl repr asks (counting_of (λ v. v) repr (map (map layout_of) variants) items) (map (map layout_of) variants)
+  pub enum_too_large : Answers (Err SizeOverflow) → IsAskedTooLarge dl repr asks (counted_discriminants (λ v. v) repr (map (map layout_of) variants) items) (map (map layout_of) variants)
   enum_too_large (inl packed) = absurd (cc packed.1)
   enum_too_large (inr (inl want)) = absurd (cc want.1)
   enum_too_large (inr (inr h)) = large_enum h.0 (by_items (Err SizeOverflow) h.1 h.2 h.3)
@@ -319,7 +319,7 @@ module _ {H : Type 0} (layout_of : H → LayoutData ℕ ℕ) (dl : TargetDataLay
 
   -- and it is refused wherever it is too large by whatever integer is answered
   pub enum_refused : repr.pack ≡ None → All AreSized (map (map layout_of) variants)
-      → IsAlwaysTooLarge dl repr asks (counting_of (λ v. v) repr (map (map layout_of) variants) items) (map (map layout_of) variants)
+      → IsAlwaysTooLarge dl repr asks (counted_discriminants (λ v. v) repr (map (map layout_of) variants) items) (map (map layout_of) variants)
       → (r : Result (LayoutData ℕ ℕ) (LayoutCalculatorError H)) → Answers r → (r ≡ Err SizeOverflow) ⊎ (r ≡ Err OutOfMemory)
   enum_refused unpacked sized large (Ok l) h =
       let b = from_answer l h in

@@ -113,16 +113,16 @@ kept_more p f items i item short is =
 -- an item that passes the test is added to those before
 pub kept : {A B : Type 0} (p : A → Bool) (f : A → B) (items : List A) (i : ℕ) (item : A) (test : Bool) (old more new : List B) → old ≡ map f (filter p (take i items)) → i < length items
     → item ≡ get_or items i item → test ≡ p item → test ≡ true → new ≡ more → more ≡ old ++ f item ∷ [] → new ≡ map f (filter p (take (i + 1) items))
-kept p f items i item test old more new before short is told passes same pushed =
-    same ∙ pushed ∙ ap (λ xs. xs ++ f item ∷ []) before ∙ ap (λ b. map f (filter p (take i items)) ++ map f (cond b (item ∷ []) [])) (sym passes ∙ told)
+kept p f items i item test old more new before short is tag_distinguishes passes same pushed =
+    same ∙ pushed ∙ ap (λ xs. xs ++ f item ∷ []) before ∙ ap (λ b. map f (filter p (take i items)) ++ map f (cond b (item ∷ []) [])) (sym passes ∙ tag_distinguishes)
     ∙ sym (kept_more p f items i item short is)
 
 -- an item that fails the test adds nothing
 pub left_out : {A B : Type 0} (p : A → Bool) (f : A → B) (items : List A) (i : ℕ) (item : A) (test : Bool) (old new : List B) → old ≡ map f (filter p (take i items)) → i < length items
     → item ≡ get_or items i item → test ≡ p item → test ≡ false → new ≡ old → new ≡ map f (filter p (take (i + 1) items))
-left_out p f items i item test old new before short is told fails same =
+left_out p f items i item test old new before short is tag_distinguishes fails same =
     same ∙ before ∙ sym (append-nil (map f (filter p (take i items))))
-    ∙ ap (λ b. map f (filter p (take i items)) ++ map f (cond b (item ∷ []) [])) (sym fails ∙ told)
+    ∙ ap (λ b. map f (filter p (take i items)) ++ map f (cond b (item ∷ []) [])) (sym fails ∙ tag_distinguishes)
     ∙ sym (kept_more p f items i item short is)
 
 -- ---- the range of the tag

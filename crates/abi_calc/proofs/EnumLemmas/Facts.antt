@@ -23,13 +23,13 @@ use Rattle.abi_scalar.proofs.LeastLemmas.{IsBestSoFar, best_first, best_taken, l
 use Rattle.abi_univariant.specs.Least.{IsLeastSize, size_by}
 use Rattle.abi_univariant.specs.Placement.{source_order}
 use Rattle.abi_univariant.proofs.Sorted.Sorting.{within_order}
-use Rattle.abi_calc.specs.declared.enums.path.Path.TheVariants.{NoValue, OneList, Several}
+use Rattle.abi_calc.specs.declared.enums.strategy.EnumStrategy.TheVariants.{NoValue, OneList, Several}
 use Rattle.abi_calc.specs.declared.enums.payload.Payload.TheVariants.{Nothing, One, Other}
-use Rattle.abi_calc.specs.Enums.Discriminants.{IsAskedWith, IsTagRange, counting_of, meant_by}
+use Rattle.abi_calc.specs.Enums.Discriminants.{IsAskedWith, IsTagRange, counted_discriminants, meant_by}
 use Rattle.abi_calc.specs.Enums.Growth.{grown_tag, start_align}
 use Rattle.abi_calc.specs.Enums.Lists.{behind_tag}
-use Rattle.abi_calc.specs.Enums.Path.{path_of}
-use Rattle.abi_calc.specs.Enums.Payload.{beside, common, scalar_of, shared_primitive, tagged_view}
+use Rattle.abi_calc.specs.Enums.EnumStrategy.{strategy_of}
+use Rattle.abi_calc.specs.Enums.Payload.{payload_of_two, common_payload, scalar_of, shared_primitive, tagged_view}
 use Rattle.abi_calc.specs.Enums.Sizes.{IsTaggedSize}
 use Rattle.abi_calc.proofs.EnumLemmas.Discriminants.{cut_within, greatest_reached, least_reached}
 
@@ -72,39 +72,39 @@ never = field_of 0 0 true
 -- ---- which way a type goes
 
 -- two variants that are present need a tag or a niche
-pub two_present : path_of true free_repr ((byte ∷ []) ∷ [] ∷ []) ≡ Several
+pub two_present : strategy_of true free_repr ((byte ∷ []) ∷ [] ∷ []) ≡ Several
 two_present = refl
 
 -- one that is present beside one that is absent is laid out as its list
-pub one_present : path_of true free_repr ((byte ∷ []) ∷ (never ∷ []) ∷ []) ≡ OneList 0
+pub one_present : strategy_of true free_repr ((byte ∷ []) ∷ (never ∷ []) ∷ []) ≡ OneList 0
 one_present = refl
 
 -- whichever it is
-pub second_present : path_of true free_repr ((never ∷ []) ∷ (byte ∷ []) ∷ []) ≡ OneList 1
+pub second_present : strategy_of true free_repr ((never ∷ []) ∷ (byte ∷ []) ∷ []) ≡ OneList 1
 second_present = refl
 
 -- a field that takes room keeps its variant present, though it has no values
-pub roomy_is_present : path_of true free_repr ((byte ∷ []) ∷ (field_of 1 0 true ∷ []) ∷ []) ≡ Several
+pub roomy_is_present : strategy_of true free_repr ((byte ∷ []) ∷ (field_of 1 0 true ∷ []) ∷ []) ≡ Several
 roomy_is_present = refl
 
 -- under C each variant is present
-pub c_keeps_absent : path_of true c_repr ((byte ∷ []) ∷ (never ∷ []) ∷ []) ≡ Several
+pub c_keeps_absent : strategy_of true c_repr ((byte ∷ []) ∷ (never ∷ []) ∷ []) ≡ Several
 c_keeps_absent = refl
 
 -- and one variant alone has a tag
-pub c_tags_one : path_of true c_repr ((byte ∷ []) ∷ []) ≡ Several
+pub c_tags_one : strategy_of true c_repr ((byte ∷ []) ∷ []) ≡ Several
 c_tags_one = refl
 
 -- an enum with no variant has no value
-pub no_variant : path_of {F = ℕ} {V = ℕ} true free_repr [] ≡ NoValue
+pub no_variant : strategy_of {F = ℕ} {V = ℕ} true free_repr [] ≡ NoValue
 no_variant = refl
 
 -- nor has one whose variants are all absent
-pub no_present : path_of true free_repr ((never ∷ []) ∷ (never ∷ []) ∷ []) ≡ NoValue
+pub no_present : strategy_of true free_repr ((never ∷ []) ∷ (never ∷ []) ∷ []) ≡ NoValue
 no_present = refl
 
 -- a struct is the list of its fields, with values or without
-pub struct_is_list : path_of false free_repr ((never ∷ []) ∷ []) ≡ OneList 0
+pub struct_is_list : strategy_of false free_repr ((never ∷ []) ∷ []) ≡ OneList 0
 struct_is_list = refl
 
 -- ---- which discriminants count, and what they ask for
@@ -150,11 +150,11 @@ abbrev pub three_variants : List (List (LayoutData ℕ ℕ))
 three_variants = [] ∷ (byte ∷ []) ∷ (byte ∷ never ∷ []) ∷ []
 
 -- 0 and 1 count
-pub two_count : counting_of (λ v. v) free_repr three_variants three_items ≡ 0 ∷ 1 ∷ []
+pub two_count : counted_discriminants (λ v. v) free_repr three_variants three_items ≡ 0 ∷ 1 ∷ []
 two_count = refl
 
 -- under C each counts
-pub c_counts_all : counting_of (λ v. v) c_repr three_variants three_items ≡ 0 ∷ 1 ∷ 256 ∷ []
+pub c_counts_all : counted_discriminants (λ v. v) c_repr three_variants three_items ≡ 0 ∷ 1 ∷ 256 ∷ []
 c_counts_all = refl
 
 -- where none counts the tag's range is 0 alone
@@ -259,23 +259,23 @@ abbrev pub any_of : Primitive → Scalar
 any_of value = scalar_of wide_layout true value
 
 -- two scalars in one variant are something else
-pub two_scalars : beside (One (any_of four_bytes) 4) (One (any_of four_bytes) 8) ≡ Other
+pub two_scalars : payload_of_two (One (any_of four_bytes) 4) (One (any_of four_bytes) 8) ≡ Other
 two_scalars = refl
 
 -- a field without bytes beside one scalar leaves it
-pub scalar_alone : beside Nothing (One (any_of four_bytes) 4) ≡ One (any_of four_bytes) 4
+pub scalar_alone : payload_of_two Nothing (One (any_of four_bytes) 4) ≡ One (any_of four_bytes) 4
 scalar_alone = refl
 
 -- a variant with nothing leaves the scalar of another without a number
-pub nothing_and_one : common wide_layout Nothing (One (any_of four_bytes) 4) ≡ One (Union four_bytes) 4
+pub nothing_and_one : common_payload wide_layout Nothing (One (any_of four_bytes) 4) ≡ One (Union four_bytes) 4
 nothing_and_one = refl
 
 -- two variants with a scalar each at one offset have that in common
-pub one_and_one : common wide_layout (One (any_of eight_bytes) 8) (One (any_of data_pointer) 8) ≡ One (any_of data_pointer) 8
+pub one_and_one : common_payload wide_layout (One (any_of eight_bytes) 8) (One (any_of data_pointer) 8) ≡ One (any_of data_pointer) 8
 one_and_one = refl
 
 -- at two offsets they have nothing in common that can be named
-pub one_elsewhere : common wide_layout (One (any_of four_bytes) 4) (One (any_of four_bytes) 8) ≡ Other
+pub one_elsewhere : common_payload wide_layout (One (any_of four_bytes) 4) (One (any_of four_bytes) 8) ≡ Other
 one_elsewhere = refl
 
 -- ---- how a tagged enum is seen

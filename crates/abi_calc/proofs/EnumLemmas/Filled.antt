@@ -29,9 +29,9 @@ use Rattle.abi_univariant.proofs.Views.LawfulList.{by_test}
 use Rattle.abi_calc.specs.declared.enums.payload.Payload.{Payload}
 use Rattle.abi_calc.specs.declared.enums.payload.Payload.TheVariants.{Nothing, One, Other}
 use Rattle.abi_calc.specs.Enums.Filled.{EachHasNumberAt, HasNumberAt, IsFilled, IsNumber}
-use Rattle.abi_calc.specs.Enums.Growth.{grown_tag, grown_variant, moved, start_align}
+use Rattle.abi_calc.specs.Enums.Growth.{grown_tag, grown_variant, moved_offset, start_align}
 use Rattle.abi_calc.specs.Enums.Lists.{AreListLayouts}
-use Rattle.abi_calc.specs.Enums.Payload.{beside, beside_tag, common, common_of, has_same_place, is_same_float, payload_at, payload_of, payload_of_field, payload_of_view, seen_as, shared_primitive, tagged_view}
+use Rattle.abi_calc.specs.Enums.Payload.{payload_of_two, beside_tag, common_payload, common_of, has_same_place, is_same_float, payload_at, payload_of, payload_of_field, payload_of_view, variant_with_view, shared_primitive, tagged_view}
 use Rattle.abi_calc.specs.Enums.Tagged.{IsTaggedBy, lists_align, lists_size, payloads_of}
 use Rattle.abi_calc.proofs.EnumLemmas.Growth.{grown_size}
 use Rattle.abi_calc.proofs.EnumLemmas.Places.{seen_offsets}
@@ -61,7 +61,7 @@ field_number dl width offset field o = by (is_empty_view field.backend_repr fiel
     by false h = view_number dl width offset field.backend_repr o h
 
 -- of two payloads that are one number together, one is it
-beside_number : (dl : TargetDataLayout) (width offset : ℕ) (p q : Payload) → IsNumberAt dl width offset (beside p q) → IsNumberAt dl width offset p ⊎ IsNumberAt dl width offset q
+beside_number : (dl : TargetDataLayout) (width offset : ℕ) (p q : Payload) → IsNumberAt dl width offset (payload_of_two p q) → IsNumberAt dl width offset p ⊎ IsNumberAt dl width offset q
 beside_number dl width offset Nothing q h = inr h
 beside_number dl width offset (One a i) Nothing h = inl h
 beside_number dl width offset (One a i) (One b j) h = absurd h
@@ -140,7 +140,7 @@ no_number dl width offset i (Some value) h = h
 no_number dl width offset i None h = h
 
 -- two payloads that have a number in common both are one
-pub common_number : (dl : TargetDataLayout) (width offset : ℕ) (p q : Payload) → IsNumberAt dl width offset (common dl p q) → IsNumberAt dl width offset p × IsNumberAt dl width offset q
+pub common_number : (dl : TargetDataLayout) (width offset : ℕ) (p q : Payload) → IsNumberAt dl width offset (common_payload dl p q) → IsNumberAt dl width offset p × IsNumberAt dl width offset q
 common_number dl width offset Nothing Nothing h = absurd h
 common_number dl width offset Nothing (One b j) h = absurd h
 common_number dl width offset Nothing Other h = absurd h
@@ -167,11 +167,11 @@ common_number dl width offset (One (Union a) i) (One b j) h = by (i == j) h
     by false k = absurd k
 
 -- and so are all that have one in common
-fold_number : (dl : TargetDataLayout) (width offset : ℕ) (p : Payload) (ps : List Payload) → IsNumberAt dl width offset (fold (common dl) p ps)
+fold_number : (dl : TargetDataLayout) (width offset : ℕ) (p : Payload) (ps : List Payload) → IsNumberAt dl width offset (fold (common_payload dl) p ps)
     → IsNumberAt dl width offset p × All (IsNumberAt dl width offset) ps
 fold_number dl width offset p [] h = (h, All-nil (IsNumberAt dl width offset))
 fold_number dl width offset p (q ∷ ps) h =
-    let rest = fold_number dl width offset (common dl p q) ps h in
+    let rest = fold_number dl width offset (common_payload dl p q) ps h in
     let both = common_number dl width offset p q rest.0 in
     (both.0, All-cons (IsNumberAt dl width offset) q ps both.1 rest.1)
 
@@ -185,7 +185,7 @@ all_numbers dl width offset (p ∷ ps) h =
 -- ---- where the variants' fields lie
 
 -- a tag that stays moves nothing
-moved_nowhere : (old offset : ℕ) → moved old old offset ≡ offset
+moved_nowhere : (old offset : ℕ) → moved_offset old old offset ≡ offset
 moved_nowhere old offset = by (offset == old) (eqb-true offset old)
   where
     by : (b : Bool) → (b ≡ true → offset ≡ old) → (if b then old else offset) ≡ offset
@@ -193,16 +193,16 @@ moved_nowhere old offset = by (offset == old) (eqb-true offset old)
     by false h = refl
 
 -- nor does it move any of a list
-all_nowhere : (old : ℕ) (offsets : List ℕ) → map (moved old old) offsets ≡ offsets
+all_nowhere : (old : ℕ) (offsets : List ℕ) → map (moved_offset old old) offsets ≡ offsets
 all_nowhere old [] = refl
 all_nowhere old (o ∷ offsets) = let here = moved_nowhere old o in let later = all_nowhere old offsets in cc
 
 -- beside a tag that grew a variant's fields are the moved ones
-pub grown_offsets : {F : Type 0} (old new : ℕ) (variant : VariantLayout F) → old ≤ new → (grown_variant old new variant).field_offsets ≡ map (moved old new) variant.field_offsets
+pub grown_offsets : {F : Type 0} (old new : ℕ) (variant : VariantLayout F) → old ≤ new → (grown_variant old new variant).field_offsets ≡ map (moved_offset old new) variant.field_offsets
 grown_offsets old new variant grows = by (nat_lt old new) refl
   where
     by : (b : Bool) → nat_lt old new ≡ b
-        → (if b then (record variant { size = max variant.size new; field_offsets = map (moved old new) variant.field_offsets }) else variant).field_offsets ≡ map (moved old new) variant.field_offsets
+        → (if b then (record variant { size = max variant.size new; field_offsets = map (moved_offset old new) variant.field_offsets }) else variant).field_offsets ≡ map (moved_offset old new) variant.field_offsets
     by true e = refl
     by false e =
         let same : new ≡ old = omega (arith, ltb-false old new e) in
@@ -211,19 +211,19 @@ grown_offsets old new variant grows = by (nat_lt old new) refl
 -- where each payload is a number, each variant has it
 pub each_number : {F V : Type 0} (dl : TargetDataLayout) (width offset old new : ℕ) (view : BackendRepr) (whole : ℕ) (variants : List (List (LayoutData F V))) (lists : List (LayoutData F V))
     → length lists ≡ length variants → old ≤ new → All (IsNumberAt dl width offset) (payloads_of dl old new variants lists)
-    → EachHasNumberAt dl width offset (map (λ list. seen_as view whole (grown_variant old new (variant_of list))) lists) variants
+    → EachHasNumberAt dl width offset (map (λ list. variant_with_view view whole (grown_variant old new (variant_of list))) lists) variants
 each_number dl width offset old new view whole [] [] count grows h = tt
 each_number dl width offset old new view whole [] (list ∷ lists) count grows h = absurd (omega (arith, count))
 each_number dl width offset old new view whole (fields ∷ variants) [] count grows h = absurd (omega (arith, count))
 each_number dl width offset old new view whole (fields ∷ variants) (list ∷ lists) count grows h =
-    let place : (seen_as view whole (grown_variant old new (variant_of list))).field_offsets ≡ map (moved old new) (listed_offsets list.fields)
+    let place : (variant_with_view view whole (grown_variant old new (variant_of list))).field_offsets ≡ map (moved_offset old new) (listed_offsets list.fields)
     = seen_offsets view whole (grown_variant old new (variant_of list)) ∙ grown_offsets old new (variant_of list) grows in
     let rest : length lists ≡ length variants = omega (arith, count) in (
       subst (λ os. HasNumberAt dl width offset os fields) (sym place)
-          (fields_number dl width offset fields (map (moved old new) (listed_offsets list.fields))
-          (All-head (IsNumberAt dl width offset) (payload_of dl fields (map (moved old new) (listed_offsets list.fields))) (payloads_of dl old new variants lists) h)),
+          (fields_number dl width offset fields (map (moved_offset old new) (listed_offsets list.fields))
+          (All-head (IsNumberAt dl width offset) (payload_of dl fields (map (moved_offset old new) (listed_offsets list.fields))) (payloads_of dl old new variants lists) h)),
       each_number dl width offset old new view whole variants lists rest grows
-          (All-tail (IsNumberAt dl width offset) (payload_of dl fields (map (moved old new) (listed_offsets list.fields))) (payloads_of dl old new variants lists) h),
+          (All-tail (IsNumberAt dl width offset) (payload_of dl fields (map (moved_offset old new) (listed_offsets list.fields))) (payloads_of dl old new variants lists) h),
     )
 
 -- ---- the view
@@ -275,7 +275,7 @@ tagged_filled number first dl repr asked signed values variants lists layout cou
     let view = tagged_view dl tag whole (lists_align dl lists) payloads in
     let no_less : old ≤ integer_size grown = (grown_size dl repr asked (start_align number variants lists)).no_less in
     subst (λ (m : LayoutData _ _). IsFilled dl m.backend_repr (variants_of m.variants) variants) (sym by.ranged.2)
-    (view_filled dl tag whole (lists_align dl lists) (map (λ list. seen_as view whole (grown_variant old (integer_size grown) (variant_of list))) lists) variants payloads
+    (view_filled dl tag whole (lists_align dl lists) (map (λ list. variant_with_view view whole (grown_variant old (integer_size grown) (variant_of list))) lists) variants payloads
     (λ width offset h. each_number dl width offset old (integer_size grown) view whole variants lists count no_less h))
 
 -- each variant has one list

@@ -13,9 +13,9 @@ use Rattle.abi_scalar.specs.declared.layout_data.LayoutData.{LayoutData}
 use Rattle.abi_scalar.specs.declared.repr.ReprOptions.{ReprOptions}
 use Rattle.abi_scalar.specs.Lawful.{IsLawfulLayout}
 use Rattle.abi_scalar.specs.Repr.{is_abi_fixed, is_c}
-use Rattle.abi_univariant.specs.List.{HasLawfulAligns, IsListAnswer}
+use Rattle.abi_univariant.specs.List.{HasLawfulAligns, IsUnivariantAnswer}
 use Rattle.abi_univariant.specs.Part.{parts_of}
-use Rattle.abi_univariant.specs.Placement.{IsLawfulPrefix, IsNonEmptyIfUnsized, IsSized, align_of, end_from, in_order, list_repr, size_in, start_of}
+use Rattle.abi_univariant.specs.Placement.{IsWellFormedPrefix, IsNonEmptyIfUnsized, IsSized, align_of, end_from, in_order, fields_repr, size_in, start_of}
 use Rattle.abi_univariant.proofs.Promised.DeepLemmas.{biased_index, biased_inside}
 use Rattle.abi_univariant.proofs.Placed.FaultLemmas.{clear_of}
 use Rattle.abi_univariant.proofs.Views.LawfulList.{made_lawful}
@@ -29,10 +29,10 @@ use Rattle.abi_calc.proofs.EnumLemmas.Sizes.{tail_of_sized}
 
 -- a list of lawful fields that the rules give is lawful
 pub list_lawful : {F V H : Type 0} (layout_of : H → LayoutData F V) (at : ℕ → F) (first : V) (dl : TargetDataLayout) (repr : ReprOptions) (kind : StructKind) (fields : List H) (list : LayoutData F V) → IsLawfulDataLayout dl
-    → All (λ f. IsLawfulLayout dl (layout_of f)) fields → HasLawfulAligns repr → IsLawfulPrefix kind (size_bound dl) → IsNonEmptyIfUnsized kind (length fields)
-    → IsListAnswer layout_of at first dl repr kind fields (Ok list) → IsLawfulLayout dl list
+    → All (λ f. IsLawfulLayout dl (layout_of f)) fields → HasLawfulAligns repr → IsWellFormedPrefix kind (size_bound dl) → IsNonEmptyIfUnsized kind (length fields)
+    → IsUnivariantAnswer layout_of at first dl repr kind fields (Ok list) → IsLawfulLayout dl list
 list_lawful layout_of at first dl repr kind fields list law all aligns prefix tail answer =
-    let asked = list_repr dl repr kind in
+    let asked = fields_repr dl repr kind in
     let parts = parts_of dl (map layout_of fields) in
     let of = parts_lawful layout_of dl fields all in
     let made = biased_of dl asked parts answer.0 answer.1 list.size list.align.abi list.largest_niche answer.2.named in
@@ -49,8 +49,8 @@ list_lawful layout_of at first dl repr kind fields list law all aligns prefix ta
 
 -- and it is good
 pub good_list : {F V H : Type 0} (layout_of : H → LayoutData F V) (at : ℕ → F) (first : V) (dl : TargetDataLayout) (repr : ReprOptions) (kind : StructKind) (fields : List H) (list : LayoutData F V) → IsLawfulDataLayout dl
-    → All (λ f. IsLawfulLayout dl (layout_of f)) fields → HasLawfulAligns repr → IsLawfulPrefix kind (size_bound dl) → IsNonEmptyIfUnsized kind (length fields)
-    → IsListAnswer layout_of at first dl repr kind fields (Ok list) → IsGoodList layout_of at first dl repr kind fields list
+    → All (λ f. IsLawfulLayout dl (layout_of f)) fields → HasLawfulAligns repr → IsWellFormedPrefix kind (size_bound dl) → IsNonEmptyIfUnsized kind (length fields)
+    → IsUnivariantAnswer layout_of at first dl repr kind fields (Ok list) → IsGoodList layout_of at first dl repr kind fields list
 good_list layout_of at first dl repr kind fields list law all aligns prefix tail answer =
     let order = answer.0 in
     let offsets = answer.1 in
@@ -62,15 +62,15 @@ good_list layout_of at first dl repr kind fields list law all aligns prefix tail
 
 -- so is each list that the rules answer with
 pub good_answer : {F V H : Type 0} (layout_of : H → LayoutData F V) (at : ℕ → F) (first : V) (dl : TargetDataLayout) (repr : ReprOptions) (kind : StructKind) (fields : List H) (answer : Result (LayoutData F V) (LayoutCalculatorError H)) → IsLawfulDataLayout dl
-    → All (λ f. IsLawfulLayout dl (layout_of f)) fields → HasLawfulAligns repr → IsLawfulPrefix kind (size_bound dl) → IsSized kind
-    → IsListAnswer layout_of at first dl repr kind fields answer → IfOk answer (IsGoodList layout_of at first dl repr kind fields)
+    → All (λ f. IsLawfulLayout dl (layout_of f)) fields → HasLawfulAligns repr → IsWellFormedPrefix kind (size_bound dl) → IsSized kind
+    → IsUnivariantAnswer layout_of at first dl repr kind fields answer → IfOk answer (IsGoodList layout_of at first dl repr kind fields)
 good_answer layout_of at first dl repr kind fields (Ok list) law all aligns prefix sized answer =
     good_list layout_of at first dl repr kind fields list law all aligns prefix (tail_of_sized kind (length fields) sized) answer
 good_answer layout_of at first dl repr kind fields (Err error) law all aligns prefix sized answer = tt
 
 -- the sized lists that the rules give an enum's variants are good
 pub good_lists : {F V H : Type 0} (layout_of : H → LayoutData F V) (at : ℕ → F) (first : V) (dl : TargetDataLayout) (repr : ReprOptions) (kind : StructKind) (variants : List (List H)) (lists : List (LayoutData F V))
-    → IsLawfulDataLayout dl → All (All (λ f. IsLawfulLayout dl (layout_of f))) variants → HasLawfulAligns repr → IsLawfulPrefix kind (size_bound dl) → IsSized kind
+    → IsLawfulDataLayout dl → All (All (λ f. IsLawfulLayout dl (layout_of f))) variants → HasLawfulAligns repr → IsWellFormedPrefix kind (size_bound dl) → IsSized kind
     → AreListLayouts layout_of at first dl repr kind variants lists → AreGoodLists layout_of at first dl repr kind variants lists
 good_lists layout_of at first dl repr kind [] [] law all aligns prefix sized h = tt
 good_lists layout_of at first dl repr kind [] (l ∷ ls) law all aligns prefix sized h = elim h [ ]
@@ -86,7 +86,7 @@ either_small false m n h k = k
 
 -- what lies behind a tag lies behind a lawful prefix
 pub tag_prefix : {F V H : Type 0} (layout_of : H → LayoutData F V) (dl : TargetDataLayout) (repr : ReprOptions) (asked : Integer) (variants : List (List H)) → IsLawfulDataLayout dl
-    → All (All (λ f. IsLawfulLayout dl (layout_of f))) variants → IsLawfulPrefix (behind_tag dl repr asked (map (map layout_of) variants)) (size_bound dl)
+    → All (All (λ f. IsLawfulLayout dl (layout_of f))) variants → IsWellFormedPrefix (behind_tag dl repr asked (map (map layout_of) variants)) (size_bound dl)
 tag_prefix layout_of dl repr asked variants law all =
     let own : integer_align dl asked ≤ 29 = integer_small dl asked law in (
       integer_below dl asked law,

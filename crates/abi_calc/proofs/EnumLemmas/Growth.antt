@@ -15,7 +15,7 @@ use Rattle.abi_univariant.specs.Part.{max_align}
 use Rattle.abi_calc.proofs.AtIndex.{left_at}
 use Rattle.abi_calc.specs.Enums.Growth.{first_align, grown_tag, larger_integer, start_align}
 use Rattle.abi_calc.specs.Enums.Lists.{AreListsOf, ListsFields}
-use Rattle.abi_calc.specs.Enums.Path.{is_free}
+use Rattle.abi_calc.specs.Enums.EnumStrategy.{is_free}
 
 -- ---- the variants' lists
 

@@ -27,7 +27,7 @@ use Rattle.abi_univariant.specs.Apart.{AreApart}
 use Rattle.abi_univariant.specs.Placement.{source_order}
 use Rattle.abi_univariant.proofs.Views.Lawful.{bound_small}
 use Rattle.abi_univariant.proofs.Sorted.Sorting.{within_order}
-use Rattle.abi_calc.specs.Enums.Path.{is_absent, variant_at}
+use Rattle.abi_calc.specs.Enums.EnumStrategy.{is_absent, variant_at}
 use Rattle.abi_calc.specs.Enums.Lists.{AreGoodLists, IsGoodList}
 use Rattle.abi_calc.specs.Enums.Niche.{IsSmallList, if_list, if_niche, if_placed, if_span, last_greatest, last_or, needing_numbers, niche_layout, niche_of_list, room_beside, span_count, span_of, untagged_of, variants_from}
 use Rattle.abi_scalar.specs.Lawful.{IsLawfulLayout, IsLawfulNiche}
@@ -233,8 +233,8 @@ ok_weaker P Q (Err e) more h = tt
 
 module _ {F V : Type 0} (lists : List (LayoutData F V)) (untagged : ℕ) (is : untagged ≡ untagged_of lists) where
   pub known_niche : (niche : Option Niche) → niche ≡ niche_of_list (slice_get lists untagged) → niche_of_list (slice_get lists (untagged_of lists)) ≡ niche
-  known_niche niche told = sym (told ∙ ap (λ u. niche_of_list (slice_get lists u)) is)
+  known_niche niche tag_distinguishes = sym (tag_distinguishes ∙ ap (λ u. niche_of_list (slice_get lists u)) is)
 
 module _ {F V : Type 0} (variants : List (List (LayoutData F V))) (lists : List (LayoutData F V)) (untagged : ℕ) (is : untagged ≡ untagged_of lists) where
   pub known_span : (span : Option (ℕ × ℕ)) → span ≡ span_of (needing_numbers untagged variants) → span_of (needing_numbers (untagged_of lists) variants) ≡ span
-  known_span span told = sym (told ∙ ap (λ u. span_of (needing_numbers u variants)) is)
+  known_span span tag_distinguishes = sym (tag_distinguishes ∙ ap (λ u. span_of (needing_numbers u variants)) is)

@@ -12,18 +12,18 @@ use Rattle.abi_scalar.specs.declared.error.LayoutCalculatorError.TheVariants.{Ou
 use Rattle.abi_scalar.specs.declared.layout_data.LayoutData.{LayoutData}
 use Rattle.abi_scalar.specs.declared.repr.ReprOptions.{ReprOptions}
 use Rattle.abi_scalar.specs.Lawful.{IsLawfulLayout}
-use Rattle.abi_univariant.specs.declared.list_repr.ListRepr.{ListRepr}
+use Rattle.abi_univariant.specs.declared.fields_repr.FieldsRepr.{FieldsRepr}
 use Rattle.abi_univariant.specs.declared.order.NicheBias.TheVariants.{Start}
 use Rattle.abi_univariant.specs.declared.part.Part.{Part}
-use Rattle.abi_univariant.specs.declared.placing.ListFault.{ListFault}
-use Rattle.abi_univariant.specs.declared.placing.ListFault.TheVariants.{Unsized, TooLarge, OutOfMemory}
+use Rattle.abi_univariant.specs.declared.placing.FieldsFault.{FieldsFault}
+use Rattle.abi_univariant.specs.declared.placing.FieldsFault.TheVariants.{Unsized, TooLarge, OutOfMemory}
 use Rattle.abi_univariant.specs.Fault.{IsErrorOf, fault_in, is_maybe_unsized}
 use Rattle.abi_univariant.specs.Fields.{greatest}
 use Rattle.abi_univariant.specs.Least.{IsEachOrderTooLarge, IsLeastSize, align_by, size_by}
-use Rattle.abi_univariant.specs.List.{AreSized, IsListError}
+use Rattle.abi_univariant.specs.List.{AreSized, IsUnivariantError}
 use Rattle.abi_univariant.specs.Order.{IsNamedOrder}
 use Rattle.abi_univariant.specs.Part.{is_unsized, parts_of}
-use Rattle.abi_univariant.specs.Placement.{IsNonEmptyIfUnsized, in_order, list_repr, no_part, source_order, start_of}
+use Rattle.abi_univariant.specs.Placement.{IsNonEmptyIfUnsized, in_order, fields_repr, no_part, source_order, start_of}
 use Rattle.abi_univariant.proofs.Placed.FaultLemmas.{IsSizedAt, clear_of, memory_in, sized_of_faultless}
 use Rattle.abi_univariant.proofs.Sorted.Least.{allowed_permutes, named_allowed}
 use Rattle.abi_univariant.proofs.Promised.LeastLemmas.{large_in_each, sized_error}
@@ -38,7 +38,7 @@ module _ {F V : Type 0} (dl : TargetDataLayout) (repr : ReprOptions) (size align
   -- behind a prefix a list is aligned to no less
   pub align_less : (fields : List (LayoutData F V)) → align_by dl repr AlwaysSized fields ≤ align_by dl repr (Prefixed size align) fields
   align_less fields =
-      align_of-grows repr.pack (list_repr dl repr AlwaysSized).align (list_repr dl repr AlwaysSized).reorderable AlwaysSized (Prefixed size align) (parts_of dl fields) (omega arith)
+      align_of-grows repr.pack (fields_repr dl repr AlwaysSized).align (fields_repr dl repr AlwaysSized).reorderable AlwaysSized (Prefixed size align) (parts_of dl fields) (omega arith)
 
   -- and its least size is no smaller
   pub least_less : (fields : List (LayoutData F V)) (s t : ℕ) → IsLeastSize dl repr AlwaysSized fields s → IsLeastSize dl repr (Prefixed size align) fields t → s ≤ t
@@ -87,7 +87,7 @@ module _ {F V : Type 0} (dl : TargetDataLayout) (repr : ReprOptions) (size align
 -- ---- refusals
 
 -- parts that an order without a fault names are all sized
-pub parts_sized : (list : ListRepr) (bound : ℕ) (parts : List Part) (order : List ℕ) → IsNonEmptyIfUnsized list.kind (length parts) → is_maybe_unsized list.kind ≡ false → IsNamedOrder list Start parts order
+pub parts_sized : (list : FieldsRepr) (bound : ℕ) (parts : List Part) (order : List ℕ) → IsNonEmptyIfUnsized list.kind (length parts) → is_maybe_unsized list.kind ≡ false → IsNamedOrder list Start parts order
     → fault_in list bound parts order ≡ None → All (λ (p : Part). is_unsized p.view ≡ false) parts
 parts_sized list bound parts order tail always named clear =
     let sized : All (IsSizedAt parts) order = sized_of_faultless list bound parts (start_of list.pack list.kind) order (clear_of list bound parts order clear).0 always in
@@ -102,8 +102,8 @@ fields_sized dl (f ∷ fs) all =
     All-cons (λ f. is_unsized f.backend_repr ≡ false) f fs (All-head (λ (p : Part). is_unsized p.view ≡ false) _ (parts_of dl fs) all)
     (fields_sized dl fs (All-tail (λ (p : Part). is_unsized p.view ≡ false) _ (parts_of dl fs) all))
 
--- no fault that a list has is want of memory
-no_memory_error : {H : Type 0} (list : ListRepr) (bound : ℕ) (parts : List Part) (order : List ℕ) (hs : List H) (fault : ListFault) (error : LayoutCalculatorError H) → fault_in list bound parts order ≡ Some fault
+-- no fault that a list has is that memory ran out
+no_memory_error : {H : Type 0} (list : FieldsRepr) (bound : ℕ) (parts : List Part) (order : List ℕ) (hs : List H) (fault : FieldsFault) (error : LayoutCalculatorError H) → fault_in list bound parts order ≡ Some fault
     → IsErrorOf hs fault error → error ≡ NoMemory → ⊥
 no_memory_error list bound parts order hs (Unsized i) error e h is = absurd (cc)
 no_memory_error list bound parts order hs TooLarge error e h is = absurd (cc)
@@ -114,7 +114,7 @@ module _ {F V H : Type 0} (layout_of : H → LayoutData F V) (at : ℕ → F) (f
   good_sized : (fields : List H) (list : LayoutData F V) → IsGoodList layout_of at first dl repr (Prefixed size align) fields list → AreSized (map layout_of fields)
   good_sized fields list good =
       let named = good.exact.2.named in
-      fields_sized dl (map layout_of fields) (parts_sized (list_repr dl repr (Prefixed size align)) (size_bound dl) (parts_of dl (map layout_of fields)) named.0 tt refl named.1 named.2)
+      fields_sized dl (map layout_of fields) (parts_sized (fields_repr dl repr (Prefixed size align)) (size_bound dl) (parts_of dl (map layout_of fields)) named.0 tt refl named.1 named.2)
 
   -- and isn't too large in each order without the prefix
   good_small : (fields : List H) (list : LayoutData F V) → IsGoodList layout_of at first dl repr (Prefixed size align) fields list → IsEachOrderTooLarge dl repr AlwaysSized (map layout_of fields) → ⊥
@@ -127,13 +127,13 @@ module _ {F V H : Type 0} (layout_of : H → LayoutData F V) (at : ℕ → F) (f
 
   -- so it has no error
   good_no_error : (fields : List H) (list : LayoutData F V) (error : LayoutCalculatorError H) → All (λ f. IsLawfulLayout dl (layout_of f)) fields
-      → IsGoodList layout_of at first dl repr (Prefixed size align) fields list → IsListError layout_of dl repr AlwaysSized fields error → ⊥
+      → IsGoodList layout_of at first dl repr (Prefixed size align) fields list → IsUnivariantError layout_of dl repr AlwaysSized fields error → ⊥
   good_no_error fields list error law good bad =
       error_cases (sized_error layout_of at first dl repr AlwaysSized fields error (good_sized fields list good) tt bad)
     where
       error_cases : (error ≡ SizeOverflow) ⊎ (error ≡ NoMemory) → ⊥
       error_cases (inl is) = good_small fields list good (large_in_each layout_of at first dl repr AlwaysSized fields error law tt bad is)
-      error_cases (inr is) = no_memory_error (list_repr dl repr AlwaysSized) (size_bound dl) (parts_of dl (map layout_of fields)) bad.0 fields bad.2 error bad.3 bad.4 is
+      error_cases (inr is) = no_memory_error (fields_repr dl repr AlwaysSized) (size_bound dl) (parts_of dl (map layout_of fields)) bad.0 fields bad.2 error bad.3 bad.4 is
 
   -- variants that have lists behind a prefix have always sized lists too
   pub no_first_error : (variants : List (List H)) (lists : List (LayoutData F V)) (error : LayoutCalculatorError H) → All (All (λ f. IsLawfulLayout dl (layout_of f))) variants

@@ -23,7 +23,7 @@ use Rattle.abi_univariant.specs.Apart.{AreApart}
 use Rattle.abi_univariant.specs.ListNiche.{HasLargestNiche, IsNicheOfPart}
 use Rattle.abi_univariant.specs.Least.{IsLeastSize, LiesInSomeOrder}
 use Rattle.abi_univariant.specs.Placement.{start_of}
-use Rattle.abi_univariant.specs.List.{IsListAnswer, IsListError}
+use Rattle.abi_univariant.specs.List.{IsUnivariantAnswer, IsUnivariantError}
 use Rattle.abi_univariant.specs.Fields.{greatest_align}
 use Rattle.abi_calc.specs.Enums.Lists.{AreGoodLists, AreListLayouts, AreListsOf, IsFirstListError, IsGoodList, align_with_all}
 
@@ -102,7 +102,7 @@ good_lawful layout_of at first dl repr kind (v ∷ vs) (l ∷ ls) h = All-cons (
 
 -- the first variant without a layout, after some that have one
 pub first_error : {F V H : Type 0} (layout_of : H → LayoutData F V) (at : ℕ → F) (first : V) (dl : TargetDataLayout) (repr : ReprOptions) (kind : StructKind) (vs : List (List H)) (ls : List (LayoutData F V)) (v : List H) (more : List (List H)) (e : LayoutCalculatorError H)
-    → AreGoodLists layout_of at first dl repr kind vs ls → IsListError layout_of dl repr kind v e → IsFirstListError layout_of at first dl repr kind (vs ++ (v ∷ more)) e
+    → AreGoodLists layout_of at first dl repr kind vs ls → IsUnivariantError layout_of dl repr kind v e → IsFirstListError layout_of at first dl repr kind (vs ++ (v ∷ more)) e
 first_error layout_of at first dl repr kind [] [] v more e h is = inl is
 first_error layout_of at first dl repr kind [] (l ∷ ls) v more e h is = elim h [ ]
 first_error layout_of at first dl repr kind (w ∷ vs) [] v more e h is = elim h [ ]
@@ -115,7 +115,7 @@ is_listed shape offsets order e = rw e tt
 
 -- a list's layout is lawful and has an offset and a place for each field
 pub good_of : {F V H : Type 0} (layout_of : H → LayoutData F V) (at : ℕ → F) (first : V) (dl : TargetDataLayout) (repr : ReprOptions) (kind : StructKind) (fields : List H) (r : Result (LayoutData F V) (LayoutCalculatorError H))
-    → IsListAnswer layout_of at first dl repr kind fields r → IfOk r (IsLawfulLayout dl) → IfOk r (LiesInSomeOrder at dl repr kind (map layout_of fields)) → IfOk r (λ l. HasPlaceForEach l.fields)
+    → IsUnivariantAnswer layout_of at first dl repr kind fields r → IfOk r (IsLawfulLayout dl) → IfOk r (LiesInSomeOrder at dl repr kind (map layout_of fields)) → IfOk r (λ l. HasPlaceForEach l.fields)
     → IfOk r (λ l. IsLeastSize dl repr kind (map layout_of fields) l.size) → IfOk r (λ l. AreApart l.size (listed_offsets l.fields) (map (λ f. (layout_of f).size) fields))
     → IfOk r (λ l. All (λ o. start_of repr.pack kind ≤ o) (listed_offsets l.fields)) → IfOk r (λ l. IfSome l.largest_niche (IsNicheOfPart (listed_offsets l.fields) (map layout_of fields)))
     → IfOk r (λ l. HasLargestNiche dl l.largest_niche (map layout_of fields))
@@ -138,7 +138,7 @@ good_of layout_of at first dl repr kind fields (Ok l) exact lawful placed places
 good_of layout_of at first dl repr kind fields (Err e) exact lawful placed places least apart after niche largest = tt
 
 pub fault_of : {F V H : Type 0} (layout_of : H → LayoutData F V) (at : ℕ → F) (first : V) (dl : TargetDataLayout) (repr : ReprOptions) (kind : StructKind) (fields : List H) (r : Result (LayoutData F V) (LayoutCalculatorError H))
-    → IsListAnswer layout_of at first dl repr kind fields r → IfErr r (λ e. IsListError layout_of dl repr kind fields e ⊎ (e ≡ OutOfMemory))
+    → IsUnivariantAnswer layout_of at first dl repr kind fields r → IfErr r (λ e. IsUnivariantError layout_of dl repr kind fields e ⊎ (e ≡ OutOfMemory))
 fault_of layout_of at first dl repr kind fields (Ok l) exact = tt
 fault_of layout_of at first dl repr kind fields (Err e) exact = exact
 
@@ -154,7 +154,7 @@ good_next layout_of at first dl repr kind vs i ls v l lt is h g =
 
 -- its error is the first
 pub error_next : {F V H : Type 0} (layout_of : H → LayoutData F V) (at : ℕ → F) (first : V) (dl : TargetDataLayout) (repr : ReprOptions) (kind : StructKind) (vs : List (List H)) (i : ℕ) (ls : List (LayoutData F V)) (v : List H) (e : LayoutCalculatorError H)
-    → i < length vs → v ≡ slice_index_or vs i v → AreGoodLists layout_of at first dl repr kind (take i vs) ls → IsListError layout_of dl repr kind v e ⊎ (e ≡ OutOfMemory)
+    → i < length vs → v ≡ slice_index_or vs i v → AreGoodLists layout_of at first dl repr kind (take i vs) ls → IsUnivariantError layout_of dl repr kind v e ⊎ (e ≡ OutOfMemory)
     → IsFirstListError layout_of at first dl repr kind vs e ⊎ (e ≡ OutOfMemory)
 error_next layout_of at first dl repr kind vs i ls v e lt is h (inr want) = inr want
 error_next layout_of at first dl repr kind vs i ls v e lt is h (inl error) =

@@ -33,14 +33,14 @@ use Rattle.abi_scalar.specs.Variant.{variant_of, variants_of}
 use Rattle.abi_univariant.specs.List.{HasLawfulAligns}
 use Rattle.abi_univariant.specs.Part.{is_unsized}
 use Rattle.abi_calc.specs.declared.enums.niche.Room.{Room}
-use Rattle.abi_calc.specs.Enums.Choice.{IsNicheAnswer, better, takes_niche}
-use Rattle.abi_calc.specs.Enums.Discriminants.{counting_of}
-use Rattle.abi_calc.specs.Enums.Growth.{grown_tag, grown_variant, moved, start_align}
+use Rattle.abi_calc.specs.Enums.Choice.{IsNicheAnswer, preferred_layout, takes_niche}
+use Rattle.abi_calc.specs.Enums.Discriminants.{counted_discriminants}
+use Rattle.abi_calc.specs.Enums.Growth.{grown_tag, grown_variant, moved_offset, start_align}
 use Rattle.abi_calc.specs.Enums.Lists.{AreGoodLists, AreListLayouts, behind_tag}
-use Rattle.abi_calc.specs.Enums.Made.{AreBehindTag, AreBesideNiche, AreSeenBehindTag, AreVariantsAligned, HasLeastTag, IsBehindTag, IsBesideNiche, IsMadeOfLists, IsMovedBy, IsSeenBehindTag, takes_view}
+use Rattle.abi_calc.specs.Enums.Made.{AreBehindTag, AreBesideNiche, HaveViewBehindTag, AreVariantsAligned, HasLeastTag, IsBehindTag, IsBesideNiche, IsMadeOfLists, IsMovedBy, IsSeenBehindTag, takes_view}
 use Rattle.abi_calc.specs.Enums.Niche.{beside_niche, moved_on, niche_layout, niche_view, place_after, room_beside, span_count, untagged_of, variants_from, with_first, without_niche}
-use Rattle.abi_calc.specs.Enums.Path.{has_no_value}
-use Rattle.abi_calc.specs.Enums.Payload.{is_memory, is_of_scalars, seen_as, tagged_view}
+use Rattle.abi_calc.specs.Enums.EnumStrategy.{has_no_value}
+use Rattle.abi_calc.specs.Enums.Payload.{is_memory, is_of_scalars, variant_with_view, tagged_view}
 use Rattle.abi_calc.specs.Enums.Promised.{IsGoodEnum}
 use Rattle.abi_calc.specs.Enums.Several.{IsAskedAnswer, IsAskedFor, IsEnumAnswer, IsSeveralAnswer, better_of}
 use Rattle.abi_calc.specs.Enums.Tagged.{IsTaggedBy, lists_align, lists_size, payloads_of}
@@ -62,14 +62,14 @@ module _ {F V H : Type 0} (layout_of : H → LayoutData F V) (at : ℕ → F) (n
   vs = map (map layout_of) variants
 
   abbrev values : List (V × ℕ) → List ℕ
-  values items = counting_of place repr (map (map layout_of) variants) items
+  values items = counted_discriminants place repr (map (map layout_of) variants) items
 
   -- what holds of each layout with a tag
   abbrev pub OfTagged : Type 0
   OfTagged = (items : List (V × ℕ)) (asked : Integer) (signed : Bool) (lists : List (LayoutData F V)) (t : LayoutData F V) → repr.pack ≡ None
-      → IsAskedFor dl repr asks (counting_of place repr (map (map layout_of) variants) items) asked signed
+      → IsAskedFor dl repr asks (counted_discriminants place repr (map (map layout_of) variants) items) asked signed
       → AreListLayouts layout_of at (index 0) dl repr (behind_tag dl repr asked (map (map layout_of) variants)) variants lists
-      → IsTaggedBy number (at 0) dl repr asked signed (counting_of place repr (map (map layout_of) variants) items) (map (map layout_of) variants) lists t → P items t
+      → IsTaggedBy number (at 0) dl repr asked signed (counted_discriminants place repr (map (map layout_of) variants) items) (map (map layout_of) variants) lists t → P items t
 
   -- and of each with a niche
   abbrev pub OfNiche : Type 0
@@ -82,14 +82,14 @@ module _ {F V H : Type 0} (layout_of : H → LayoutData F V) (at : ℕ → F) (n
     niche_holds found m e (inr (inl none)) = let never : found ≡ None = none.3 in absurd (cc)
     niche_holds found m e (inr (inr h)) = other items h.1 m unpacked h.2 (sym h.3 ∙ e)
 
-    better_holds : (t : LayoutData F V) (found : Option (LayoutData F V)) → IsNicheAnswer AreListLayouts layout_of at index dl repr variants found → P items t → P items (better dl t found)
+    better_holds : (t : LayoutData F V) (found : Option (LayoutData F V)) → IsNicheAnswer AreListLayouts layout_of at index dl repr variants found → P items t → P items (preferred_layout dl t found)
     better_holds t None niche p = p
     better_holds t (Some m) niche p = by_both (P items) (takes_niche dl t m) m t (λ takes. niche_holds (Some m) m refl niche) (λ leaves. p)
 
     tagged_holds : (l : LayoutData F V) (found : Option (LayoutData F V)) → IsNicheAnswer AreListLayouts layout_of at index dl repr variants found → (r : Result (LayoutData F V) (LayoutCalculatorError H))
         → IsAskedAnswer layout_of at number (index 0) dl repr asks (values items) variants r → Ok l ≡ better_of dl r found → P items l
     tagged_holds l found niche (Ok t) a e =
-        let same : better dl t found ≡ l = cc in
+        let same : preferred_layout dl t found ≡ l = cc in
         subst (P items) same (better_holds t found niche (one items a.0 a.1 a.3.0 t unpacked a.2 a.3.1 a.3.2))
     tagged_holds l found niche (Err error) a e = absurd (cc)
 
@@ -107,7 +107,7 @@ module _ {F V H : Type 0} (layout_of : H → LayoutData F V) (at : ℕ → F) (n
 -- ---- variants behind a tag
 
 -- where no tag grew, nothing moves
-pub stays : (old new : ℕ) → old ≡ new → (os : List ℕ) → map (moved old new) os ≡ os
+pub stays : (old new : ℕ) → old ≡ new → (os : List ℕ) → map (moved_offset old new) os ≡ os
 stays old new same [] = refl
 stays old new same (o ∷ os) = rw (here (o == old) refl, stays old new same os) refl
   where
@@ -127,22 +127,22 @@ module _ {F V : Type 0} (old new : ℕ) (le : old ≤ new) (view : BackendRepr) 
   seen_by false list v h = h
 
   grown_by : (list : LayoutData F V) (b : Bool) → nat_lt old new ≡ b
-      → IsBehindTag old new whole list (if b then record (variant_of list) { size = max list.size new; field_offsets = map (moved old new) (listed_offsets list.fields) } else variant_of list)
+      → IsBehindTag old new whole list (if b then record (variant_of list) { size = max list.size new; field_offsets = map (moved_offset old new) (listed_offsets list.fields) } else variant_of list)
   grown_by list true e = record { offsets = refl; order = refl; size = omega arith; most = omega arith; niche = refl; uninhabited = refl }
   grown_by list false e =
       let same : old ≡ new = omega (arith, le, ltb-false old new e) in
       record { offsets = sym (stays old new same (listed_offsets list.fields)); order = refl; size = omega arith; most = omega arith; niche = refl; uninhabited = refl }
 
-  pub one_behind : (list : LayoutData F V) → IsBehindTag old new whole list (seen_as view whole (grown_variant old new (variant_of list)))
+  pub one_behind : (list : LayoutData F V) → IsBehindTag old new whole list (variant_with_view view whole (grown_variant old new (variant_of list)))
   one_behind list = seen_by _ list (grown_variant old new (variant_of list)) (grown_by list (nat_lt old new) refl)
 
   -- what the variant is before it is seen as its enum
-  taken_by : (list : LayoutData F V) (b : Bool) → (let w = if b then record (variant_of list) { size = max list.size new; field_offsets = map (moved old new) (listed_offsets list.fields) } else variant_of list in
+  taken_by : (list : LayoutData F V) (b : Bool) → (let w = if b then record (variant_of list) { size = max list.size new; field_offsets = map (moved_offset old new) (listed_offsets list.fields) } else variant_of list in
       (w.backend_repr ≡ list.backend_repr) × (w.size ≡ (if b then max list.size new else list.size)) × (length w.field_offsets ≡ length (listed_offsets list.fields)))
-  taken_by list true = (refl, refl, length-map (listed_offsets list.fields) (moved old new))
+  taken_by list true = (refl, refl, length-map (listed_offsets list.fields) (moved_offset old new))
   taken_by list false = (refl, refl, refl)
 
-  one_seen : (list : LayoutData F V) → IsSeenBehindTag old new whole view list (seen_as view whole (grown_variant old new (variant_of list)))
+  one_seen : (list : LayoutData F V) → IsSeenBehindTag old new whole view list (variant_with_view view whole (grown_variant old new (variant_of list)))
   one_seen list =
       let v = grown_variant old new (variant_of list) in
       let t = taken_by list (nat_lt old new) in
@@ -154,11 +154,11 @@ module _ {F V : Type 0} (old new : ℕ) (le : old ≤ new) (view : BackendRepr) 
         as_list = λ is. ((h.1 (takes ∙ is)).0 ∙ t.0, (h.1 (takes ∙ is)).1 ∙ t.1);
       }
 
-  pub all_seen : (lists : List (LayoutData F V)) → AreSeenBehindTag old new whole view lists (map (λ list. seen_as view whole (grown_variant old new (variant_of list))) lists)
+  pub all_seen : (lists : List (LayoutData F V)) → HaveViewBehindTag old new whole view lists (map (λ list. variant_with_view view whole (grown_variant old new (variant_of list))) lists)
   all_seen [] = tt
   all_seen (l ∷ ls) = (one_seen l, all_seen ls)
 
-  pub all_behind : (lists : List (LayoutData F V)) → AreBehindTag old new whole lists (map (λ list. seen_as view whole (grown_variant old new (variant_of list))) lists)
+  pub all_behind : (lists : List (LayoutData F V)) → AreBehindTag old new whole lists (map (λ list. variant_with_view view whole (grown_variant old new (variant_of list))) lists)
   all_behind [] = tt
   all_behind (l ∷ ls) = (one_behind l, all_behind ls)
 
@@ -251,22 +251,22 @@ module _ {F V H : Type 0} (layout_of : H → LayoutData F V) (at : ℕ → F) (n
       run_of steps s (λ items. P items l) (several_holds layout_of at number index place dl repr asks variants P one other (λ items. WholeRun steps s (λ run. items ≡ run.items)) l h)
   several_run P one other steps s (Err e) h = tt
 
-  -- the same of what tells nothing of these
+  -- the same of what says nothing of these
   pub several_ok : (Q : LayoutData F V → Type 0) → OfTagged layout_of at number index place dl repr asks variants (λ items l. Q l) → OfNiche layout_of at number index place dl repr asks variants (λ items l. Q l)
       → (gives : List (V × ℕ) → Type 0) (r : Result (LayoutData F V) (LayoutCalculatorError H)) → IsSeveralAnswer layout_of at number index place dl repr asks variants gives r → IfOk r Q
   several_ok Q one other gives (Ok l) h = (several_holds layout_of at number index place dl repr asks variants (λ items l. Q l) one other gives l h).2
   several_ok Q one other gives (Err e) h = tt
 
   abbrev own_values : List (V × ℕ) → List ℕ
-  own_values items = counting_of place repr (map (map layout_of) variants) items
+  own_values items = counted_discriminants place repr (map (map layout_of) variants) items
 
   -- the tag's range is the least
-  pub tagged_least : OfTagged layout_of at number index place dl repr asks variants (λ items l. HasLeastTag (counting_of place repr (map (map layout_of) variants) items) l.variants)
+  pub tagged_least : OfTagged layout_of at number index place dl repr asks variants (λ items l. HasLeastTag (counted_discriminants place repr (map (map layout_of) variants) items) l.variants)
   tagged_least items asked signed lists t unpacked is are by =
       subst (λ (m : LayoutData F V). HasLeastTag (own_values items) m.variants) (sym by.ranged.2)
       (grown_tag dl repr asked (start_align number (map (map layout_of) variants) lists), signed, by.ranged.0, refl, by.ranged.1)
 
-  pub niche_least : OfNiche layout_of at number index place dl repr asks variants (λ items l. HasLeastTag (counting_of place repr (map (map layout_of) variants) items) l.variants)
+  pub niche_least : OfNiche layout_of at number index place dl repr asks variants (λ items l. HasLeastTag (counted_discriminants place repr (map (map layout_of) variants) items) l.variants)
   niche_least items lists t unpacked are is =
       subst (λ (m : LayoutData F V). HasLeastTag (own_values items) m.variants) (sym (niche_parts (at 0) index dl repr (map (map layout_of) variants) lists t is).is) tt
 
@@ -281,7 +281,7 @@ module _ {F V H : Type 0} (layout_of : H → LayoutData F V) (at : ℕ → F) (n
   module _ (fields : All (All (λ f. IsLawfulLayout dl (layout_of f))) variants) where
     -- an enum with a tag is made of its lists
     pub tagged_made : OfTagged layout_of at number index place dl repr asks variants
-        (λ items l. IsMadeOfLists at number place dl repr asks (counting_of place repr (map (map layout_of) variants) items) (map (map layout_of) variants) l)
+        (λ items l. IsMadeOfLists at number place dl repr asks (counted_discriminants place repr (map (map layout_of) variants) items) (map (map layout_of) variants) l)
     tagged_made items asked signed lists t unpacked is are by =
         let grown = grown_tag dl repr asked (start_align number (map (map layout_of) variants) lists) in
         let tag : Scalar = Initialized (Int grown signed) by.ranged.0 in
@@ -307,20 +307,20 @@ module _ {F V H : Type 0} (layout_of : H → LayoutData F V) (at : ℕ → F) (n
           grows = refl;
           holds = refl;
           field = at 0;
-          layouts = map (λ list. seen_as view (lists_size dl lists) (grown_variant (integer_size asked) (integer_size grown) (variant_of list))) lists;
-          told = ap (λ m. m.variants) same;
+          layouts = map (λ list. variant_with_view view (lists_size dl lists) (grown_variant (integer_size asked) (integer_size grown) (variant_of list))) lists;
+          tag_distinguishes = ap (λ m. m.variants) same;
           places = subst (λ n. AreBehindTag (integer_size asked) (integer_size grown) n lists
-              (map (λ list. seen_as view (lists_size dl lists) (grown_variant (integer_size asked) (integer_size grown) (variant_of list))) lists)) (sym (ap (λ m. m.size) same))
+              (map (λ list. variant_with_view view (lists_size dl lists) (grown_variant (integer_size asked) (integer_size grown) (variant_of list))) lists)) (sym (ap (λ m. m.size) same))
               (all_behind (integer_size asked) (integer_size grown) (grown_size dl repr asked (start_align number (map (map layout_of) variants) lists)).no_less view (lists_size dl lists) lists);
           view = subst (λ (m : LayoutData F V). m.backend_repr ≡ tagged_view dl tag m.size m.align.abi (payloads_of dl (integer_size asked) (integer_size grown) (map (map layout_of) variants) lists)) (sym same) refl;
-          seen = subst (λ (m : LayoutData F V). AreSeenBehindTag (integer_size asked) (integer_size grown) m.size m.backend_repr lists
-              (map (λ list. seen_as view (lists_size dl lists) (grown_variant (integer_size asked) (integer_size grown) (variant_of list))) lists)) (sym same)
+          seen = subst (λ (m : LayoutData F V). HaveViewBehindTag (integer_size asked) (integer_size grown) m.size m.backend_repr lists
+              (map (λ list. variant_with_view view (lists_size dl lists) (grown_variant (integer_size asked) (integer_size grown) (variant_of list))) lists)) (sym same)
               (all_seen (integer_size asked) (integer_size grown) (grown_size dl repr asked (start_align number (map (map layout_of) variants) lists)).no_less view (lists_size dl lists) lists);
         })
 
     -- and so is one with a niche
     pub niche_made : (most : ℕ) → ((i : ℕ) → i ≤ most → place (index i) ≡ i) → length variants ≤ most + 1 → OfNiche layout_of at number index place dl repr asks variants
-        (λ items l. IsMadeOfLists at number place dl repr asks (counting_of place repr (map (map layout_of) variants) items) (map (map layout_of) variants) l)
+        (λ items l. IsMadeOfLists at number place dl repr asks (counted_discriminants place repr (map (map layout_of) variants) items) (map (map layout_of) variants) l)
     niche_made most named few items lists t unpacked are is =
         let p = niche_parts (at 0) index dl repr (map (map layout_of) variants) lists t is in
         let same = p.is in
@@ -345,7 +345,7 @@ module _ {F V H : Type 0} (layout_of : H → LayoutData F V) (at : ℕ → F) (n
           start = (reserved dl p.niche (span_count p.span)).0;
           field = at 0;
           layouts = p.placed;
-          told = ap (λ m. m.variants) same;
+          tag_distinguishes = ap (λ m. m.variants) same;
           list = p.list;
           there = subst (λ k. slice_get lists k ≡ Some p.list) (sym at_untagged) p.there;
           niche = p.niche;
@@ -383,7 +383,7 @@ module _ {F V H : Type 0} (layout_of : H → LayoutData F V) (at : ℕ → F) (n
       let more = (grown_size dl repr asked (start_align number (map (map layout_of) variants) lists)).no_less in
       subst (λ (m : LayoutData F V). AreVariantsAligned (map (map layout_of) variants) (variants_of m.variants)) (sym by.ranged.2)
       (behind_aligned layout_of at number (index 0) dl repr (behind_tag dl repr asked (map (map layout_of) variants)) unpacked tt (integer_size asked) (integer_size grown) (lists_size dl lists) (size_divides asked grown more) variants lists
-      (map (λ list. seen_as view (lists_size dl lists) (grown_variant (integer_size asked) (integer_size grown) (variant_of list))) lists) are
+      (map (λ list. variant_with_view view (lists_size dl lists) (grown_variant (integer_size asked) (integer_size grown) (variant_of list))) lists) are
       (all_behind (integer_size asked) (integer_size grown) more view (lists_size dl lists) lists))
 
   pub niche_aligned : OfNiche layout_of at number index place dl repr asks variants (λ items l. AreVariantsAligned (map (map layout_of) variants) (variants_of l.variants))
@@ -419,7 +419,7 @@ module _ {F V H : Type 0} (layout_of : H → LayoutData F V) (at : ℕ → F) (n
           subst (IsOrderedWhole number) (sym by.ranged.2) (
             one_field number 0 (at 0),
             behind_ordered layout_of at number (index 0) dl repr (behind_tag dl repr asked (map (map layout_of) variants)) unpacked tt most law (integer_size asked) (integer_size grown) (lists_size dl lists) more variants lists
-                (map (λ list. seen_as view (lists_size dl lists) (grown_variant (integer_size asked) (integer_size grown) (variant_of list))) lists) few
+                (map (λ list. variant_with_view view (lists_size dl lists) (grown_variant (integer_size asked) (integer_size grown) (variant_of list))) lists) few
                 (left_behind asked lists unpacked are (nat_lt (integer_size asked) (integer_size grown)) refl) are
                 (all_behind (integer_size asked) (integer_size grown) more view (lists_size dl lists) lists),
           )

@@ -12,9 +12,9 @@ use Rattle.abi_calc.specs.declared.enums.niche.Room.{Room}
 use Rattle.abi_univariant.specs.Placement.{source_order}
 use Rattle.abi_univariant.proofs.Views.ViewLemmas.{bulky_else, bulky_then}
 use Rattle.abi_calc.specs.Enums.Niche.{beside_niche, last_greatest, last_or, needing_numbers, others_empty, span_of, variants_from, with_first}
-use Rattle.abi_calc.specs.Enums.Path.{is_absent, variant_at}
+use Rattle.abi_calc.specs.Enums.EnumStrategy.{is_absent, variant_at}
 use Rattle.abi_calc.proofs.AtIndex.{left_at}
-use Rattle.abi_calc.proofs.EnumLemmas.Path.{variant_read}
+use Rattle.abi_calc.proofs.EnumLemmas.EnumStrategy.{variant_read}
 
 -- ---- the untagged variant
 
@@ -174,15 +174,15 @@ placed_step done x (Some y) (Some ys) whole before is =
 pub place_step : {A : Type 0} (xs : List A) (i : ℕ) (y : A) (here : Option A) (later whole : Option (List A)) (has_room : Bool) → i < length xs
     → MatchOption here (has_room ≡ false) (λ x. (has_room ≡ true) × (y ≡ x)) → has_room ≡ true
     → option_map (λ more. take i xs ++ more) (with_first here later) ≡ whole → option_map (λ more. take (i + 1) (set xs i y) ++ more) later ≡ whole
-place_step xs i y None later whole has_room short told is before = absurd (cc)
-place_step xs i y (Some x) later whole has_room short told is before =
-    subst (λ done. option_map (λ more. done ++ more) later ≡ whole) (sym (take_more_set xs i y short)) (placed_step (take i xs) y (Some x) later whole before (ap (λ z. Some z) (told.1)))
+place_step xs i y None later whole has_room short tag_distinguishes is before = absurd (cc)
+place_step xs i y (Some x) later whole has_room short tag_distinguishes is before =
+    subst (λ done. option_map (λ more. done ++ more) later ≡ whole) (sym (take_more_set xs i y short)) (placed_step (take i xs) y (Some x) later whole before (ap (λ z. Some z) (tag_distinguishes.1)))
 
 -- where one has no place, there are no variants
 pub place_none : {A : Type 0} (done : List A) (y : A) (here : Option A) (later whole : Option (List A)) (has_room : Bool) → MatchOption here (has_room ≡ false) (λ x. (has_room ≡ true) × (y ≡ x))
     → has_room ≡ false → option_map (λ more. done ++ more) (with_first here later) ≡ whole → None ≡ whole
-place_none done y None later whole has_room told is_not before = before
-place_none done y (Some x) later whole has_room told is_not before = absurd (cc (told.0))
+place_none done y None later whole has_room tag_distinguishes is_not before = before
+place_none done y (Some x) later whole has_room tag_distinguishes is_not before = absurd (cc (tag_distinguishes.0))
 
 -- behind the last one there are all
 pub place_last : {F V : Type 0} (room : Room) (untagged i : ℕ) (xs : List (VariantLayout F)) (lists : List (LayoutData F V)) (whole : Option (List (VariantLayout F))) → length lists ≤ i → length xs ≤ i
@@ -204,9 +204,9 @@ list_behind (x ∷ xs) (l ∷ lists) (suc i) d short left = list_behind xs lists
 pub told_of_list : {F V : Type 0} (room : Room) (own : Bool) (align : ℕ) (v y : VariantLayout F) (list : LayoutData F V) (has_room : Bool) → v ≡ variant_of list → align ≡ list.align.abi
     → MatchOption (if own then Some v else beside_niche room align v) (has_room ≡ false) (λ placed. (has_room ≡ true) × (y ≡ placed))
     → MatchOption (if own then Some (variant_of list) else beside_niche room list.align.abi (variant_of list)) (has_room ≡ false) (λ placed. (has_room ≡ true) × (y ≡ placed))
-told_of_list room own align v y list has_room same beside told =
+told_of_list room own align v y list has_room same beside tag_distinguishes =
     subst (λ a. MatchOption (if own then Some (variant_of list) else beside_niche room a (variant_of list)) (has_room ≡ false) (λ placed. (has_room ≡ true) × (y ≡ placed))) beside
-    (subst (λ w. MatchOption (if own then Some w else beside_niche room align w) (has_room ≡ false) (λ placed. (has_room ≡ true) × (y ≡ placed))) same told)
+    (subst (λ w. MatchOption (if own then Some w else beside_niche room align w) (has_room ≡ false) (λ placed. (has_room ≡ true) × (y ≡ placed))) same tag_distinguishes)
 
 -- what its list gives at that place, and the lists behind it
 pub placed_next : {F V : Type 0} (room : Room) (untagged i : ℕ) (done : List (VariantLayout F)) (lists : List (LayoutData F V)) (list : LayoutData F V) (whole : Option (List (VariantLayout F))) → i < length lists → list ≡ get_or lists i list

@@ -17,23 +17,23 @@ use Rattle.abi_scalar.specs.declared.repr.ReprOptions.{ReprOptions}
 use Rattle.abi_scalar.specs.declared.variants.RangeFrom.{RangeFrom}
 use Rattle.abi_scalar.specs.declared.variants.RangeToInclusive.{RangeToInclusive}
 use Rattle.abi_univariant.specs.declared.order.NicheBias.TheVariants.{Start}
-use Rattle.abi_univariant.specs.declared.placing.ListFault.{ListFault}
-use Rattle.abi_univariant.specs.declared.placing.ListFault.TheVariants.{Unsized, TooLarge, OutOfMemory}
+use Rattle.abi_univariant.specs.declared.placing.FieldsFault.{FieldsFault}
+use Rattle.abi_univariant.specs.declared.placing.FieldsFault.TheVariants.{Unsized, TooLarge, OutOfMemory}
 use Rattle.abi_univariant.specs.Fault.{IsErrorOf, fault_in}
-use Rattle.abi_univariant.specs.List.{IsListAnswer, IsListError}
+use Rattle.abi_univariant.specs.List.{IsUnivariantAnswer, IsUnivariantError}
 use Rattle.abi_univariant.specs.Part.{parts_of}
-use Rattle.abi_univariant.specs.Placement.{IsNonEmptyIfUnsized, IsSized, list_repr}
+use Rattle.abi_univariant.specs.Placement.{IsNonEmptyIfUnsized, IsSized, fields_repr}
 use Rattle.abi_univariant.proofs.Layouts.ListLemmas.{length-parts}
 use Rattle.abi_univariant.proofs.Layouts.OneOrder.{never_refused, one_layout, one_named}
-use Rattle.abi_calc.specs.declared.enums.path.Path.{Path}
-use Rattle.abi_calc.specs.declared.enums.path.Path.TheVariants.{NoValue, OneList, Several}
+use Rattle.abi_calc.specs.declared.enums.strategy.EnumStrategy.{EnumStrategy}
+use Rattle.abi_calc.specs.declared.enums.strategy.EnumStrategy.TheVariants.{NoValue, OneList, Several}
 use Rattle.abi_calc.specs.Enums.Lists.{AreListLayouts, IsFirstListError, behind_tag}
 use Rattle.abi_calc.specs.Enums.Answer.{IsTypeAnswer, kind_at}
 use Rattle.abi_calc.specs.Enums.Choice.{IsNicheAnswer}
-use Rattle.abi_calc.specs.Enums.Discriminants.{IsAskedWith, IsGreatestOf, IsLeastOf, counting_of, meant_by}
+use Rattle.abi_calc.specs.Enums.Discriminants.{IsAskedWith, IsGreatestOf, IsLeastOf, counted_discriminants, meant_by}
 use Rattle.abi_calc.specs.Enums.Growth.{grown_tag, start_align}
 use Rattle.abi_calc.specs.Enums.Niche.{niche_layout}
-use Rattle.abi_calc.specs.Enums.Path.{variant_at}
+use Rattle.abi_calc.specs.Enums.EnumStrategy.{variant_at}
 use Rattle.abi_calc.specs.Enums.Several.{IsAskedAnswer, IsAskedFor, IsEnumAnswer, IsSeveralAnswer, better_of}
 use Rattle.abi_calc.specs.Enums.Single.{IsSingleAnswer, single_kind, single_layout}
 use Rattle.abi_calc.specs.Enums.Tagged.{IsTaggedAnswer, IsTaggedBy, lists_size, tagged_layout}
@@ -42,7 +42,7 @@ use Rattle.abi_calc.proofs.EnumLemmas.OneRange.{one_tag_range}
 -- ---- a list has one answer
 
 -- a fault has one error
-one_error_of : {H : Type 0} (fields : List H) (fault : ListFault) (e f : LayoutCalculatorError H) → IsErrorOf fields fault e → IsErrorOf fields fault f → e ≡ f
+one_error_of : {H : Type 0} (fields : List H) (fault : FieldsFault) (e f : LayoutCalculatorError H) → IsErrorOf fields fault e → IsErrorOf fields fault f → e ≡ f
 one_error_of fields (Unsized i) e f h k =
     let there : slice_get fields i ≡ Some h.0 = h.1 in
     let also : slice_get fields i ≡ Some k.0 = k.1 in
@@ -74,25 +74,25 @@ module _ {H : Type 0} (layout_of : H → LayoutData ℕ ℕ) (dl : TargetDataLay
   full_parts fields some = subst (IsNonEmptyIfUnsized kind) (sym (length-parts layout_of dl fields)) some
 
   pub one_list_layout : (fields : List H) (a b : LayoutData ℕ ℕ) → IsNonEmptyIfUnsized kind (length fields)
-      → IsListAnswer layout_of (λ i. i) 0 dl repr kind fields (Ok a) → IsListAnswer layout_of (λ i. i) 0 dl repr kind fields (Ok b) → a ≡ b
+      → IsUnivariantAnswer layout_of (λ i. i) 0 dl repr kind fields (Ok a) → IsUnivariantAnswer layout_of (λ i. i) 0 dl repr kind fields (Ok b) → a ≡ b
   one_list_layout fields a b some h k = one_layout (λ i. i) 0 dl repr kind (map layout_of fields) h.0 k.0 h.1 k.1 a b (full_parts fields some) h.2 k.2
 
-  pub one_list_error : (fields : List H) (e f : LayoutCalculatorError H) → IsListError layout_of dl repr kind fields e → IsListError layout_of dl repr kind fields f → e ≡ f
+  pub one_list_error : (fields : List H) (e f : LayoutCalculatorError H) → IsUnivariantError layout_of dl repr kind fields e → IsUnivariantError layout_of dl repr kind fields f → e ≡ f
   one_list_error fields e f (order, named, fault, there, of) (order2, named2, fault2, there2, of2) =
       let parts = parts_of dl (map layout_of fields) in
-      let same : order2 ≡ order = one_named (list_repr dl repr kind) Start parts order2 order named2 named in
-      let found : fault_in (list_repr dl repr kind) (size_bound dl) parts order ≡ Some fault2 = ap (fault_in (list_repr dl repr kind) (size_bound dl) parts) (sym same) ∙ there2 in
+      let same : order2 ≡ order = one_named (fields_repr dl repr kind) Start parts order2 order named2 named in
+      let found : fault_in (fields_repr dl repr kind) (size_bound dl) parts order ≡ Some fault2 = ap (fault_in (fields_repr dl repr kind) (size_bound dl) parts) (sym same) ∙ there2 in
       let one : fault2 ≡ fault = cc in
       one_error_of fields fault e f of (subst (λ x. IsErrorOf fields x f) one of2)
 
   pub never_both : (fields : List H) (a : LayoutData ℕ ℕ) (e : LayoutCalculatorError H) → IsNonEmptyIfUnsized kind (length fields)
-      → IsListAnswer layout_of (λ i. i) 0 dl repr kind fields (Ok a) → IsListError layout_of dl repr kind fields e → ⊥
+      → IsUnivariantAnswer layout_of (λ i. i) 0 dl repr kind fields (Ok a) → IsUnivariantError layout_of dl repr kind fields e → ⊥
   never_both fields a e some (order, offsets, made) (first, named, fault, there, of) =
-      never_refused dl (list_repr dl repr kind) (parts_of dl (map layout_of fields)) (full_parts fields some) order offsets first a.size a.align.abi a.largest_niche fault made.named named there
+      never_refused dl (fields_repr dl repr kind) (parts_of dl (map layout_of fields)) (full_parts fields some) order offsets first a.size a.align.abi a.largest_niche fault made.named named there
 
   -- a list of fields has one answer
   pub one_list_answer : (fields : List H) (r s : Result (LayoutData ℕ ℕ) (LayoutCalculatorError H)) → IsNonEmptyIfUnsized kind (length fields)
-      → IsListAnswer layout_of (λ i. i) 0 dl repr kind fields r → IsListAnswer layout_of (λ i. i) 0 dl repr kind fields s → IsMade r → IsMade s → r ≡ s
+      → IsUnivariantAnswer layout_of (λ i. i) 0 dl repr kind fields r → IsUnivariantAnswer layout_of (λ i. i) 0 dl repr kind fields s → IsMade r → IsMade s → r ≡ s
   one_list_answer fields (Ok a) (Ok b) some h k p q = ap (λ l. Ok l) (one_list_layout fields a b some h k)
   one_list_answer fields (Ok a) (Err f) some h (inl k) p q = absurd (never_both fields a f some h k)
   one_list_answer fields (Ok a) (Err f) some h (inr k) p q = absurd (q (ap (λ x. Err x) k))
@@ -166,9 +166,9 @@ pub one_asked_for : (dl : TargetDataLayout) (repr : ReprOptions) (asks : RangeFr
     → IsAskedFor dl repr asks values a s → IsAskedFor dl repr asks values b t → (a ≡ b) × (s ≡ t)
 one_asked_for dl repr asks values a b s t fun (least, greatest, ends, answered) (least2, greatest2, ends2, answered2) =
     let same = one_asked dl repr values least2 least greatest2 greatest ends2 ends in
-    let moved : asks (record { start = least }) (record { last = greatest }) (b, t) =
+    let moved_offset : asks (record { start = least }) (record { last = greatest }) (b, t) =
     subst (λ g. asks (record { start = least }) (record { last = g }) (b, t)) same.1 (subst (λ l. asks (record { start = l }) (record { last = greatest2 }) (b, t)) same.0 answered2) in
-    let one : (a, s) ≡ (b, t) = fun (record { start = least }) (record { last = greatest }) (a, s) (b, t) answered moved in
+    let one : (a, s) ≡ (b, t) = fun (record { start = least }) (record { last = greatest }) (a, s) (b, t) answered moved_offset in
     (ap (λ (x : Integer × Bool). x.0) one, ap (λ (x : Integer × Bool). x.1) one)
 
 -- ---- one enum
@@ -256,7 +256,7 @@ module _ {H : Type 0} (layout_of : H → LayoutData ℕ ℕ) (dl : TargetDataLay
     one_enum items r s (inr h) (inl want) p q = absurd (q want)
     one_enum items r s (inr (niche, found, tagged, answer, is)) (inr (niche2, found2, tagged2, answer2, is2)) p q =
         let one = one_niche niche niche2 found found2 in
-        let same = one_asked_answer (counting_of (λ i. i) repr laid items) tagged tagged2 answer answer2 (not_made tagged niche r is p) (not_made tagged2 niche2 s is2 q) in
+        let same = one_asked_answer (counted_discriminants (λ i. i) repr laid items) tagged tagged2 answer answer2 (not_made tagged niche r is p) (not_made tagged2 niche2 s is2 q) in
         is ∙ (λ i. better_of dl (same i) (one i)) ∙ sym is2
 
     -- where the discriminants are given in one way and the question has one answer, an enum of several variants has one answer
@@ -304,9 +304,9 @@ single_full is_enum always_sized count = full_if (is_enum || always_sized || (co
 -- where the discriminants are given in one way and the question has one answer, a type with variants has one answer
 pub one_type : {H : Type 0} (layout_of : H → LayoutData ℕ ℕ) (dl : TargetDataLayout) (repr : ReprOptions) (variants : List (List H)) (is_enum always_sized : Bool) (optimizations : NicheOptimizations)
     (asks : RangeFrom ℤ → RangeToInclusive ℕ → Integer × Bool → Type 0) → ((from : RangeFrom ℤ) (to : RangeToInclusive ℕ) (x y : Integer × Bool) → asks from to x → asks from to y → x ≡ y)
-    → (gives : List (ℕ × ℕ) → Type 0) → ((xs ys : List (ℕ × ℕ)) → gives xs → gives ys → xs ≡ ys) → (path : Path) (r s : Result (LayoutData ℕ ℕ) (LayoutCalculatorError H))
-    → IsTypeAnswer layout_of (λ i. i) (λ i. i) (λ i. i) (λ i. i) dl repr variants is_enum always_sized optimizations asks gives path r
-    → IsTypeAnswer layout_of (λ i. i) (λ i. i) (λ i. i) (λ i. i) dl repr variants is_enum always_sized optimizations asks gives path s → IsMade r → IsMade s → r ≡ s
+    → (gives : List (ℕ × ℕ) → Type 0) → ((xs ys : List (ℕ × ℕ)) → gives xs → gives ys → xs ≡ ys) → (strategy : EnumStrategy) (r s : Result (LayoutData ℕ ℕ) (LayoutCalculatorError H))
+    → IsTypeAnswer layout_of (λ i. i) (λ i. i) (λ i. i) (λ i. i) dl repr variants is_enum always_sized optimizations asks gives strategy r
+    → IsTypeAnswer layout_of (λ i. i) (λ i. i) (λ i. i) (λ i. i) dl repr variants is_enum always_sized optimizations asks gives strategy s → IsMade r → IsMade s → r ≡ s
 one_type layout_of dl repr variants is_enum always_sized optimizations asks fun gives one NoValue r s h k p q = h ∙ sym k
 one_type layout_of dl repr variants is_enum always_sized optimizations asks fun gives one (OneList i) r s h k p q =
     one_single layout_of dl repr (kind_at is_enum always_sized variants i) i optimizations (variant_at variants i) r s

@@ -52,8 +52,8 @@ record IsTold (width : ℕ) (range other : WrappingRange) : Type 0 where
   fewer : steps_between width range.start range.end ≤ steps_between width other.start other.end
   tied : steps_between width range.start range.end ≡ steps_between width other.start other.end → IsPreferred range other
 
-told : (width : ℕ) (range other : WrappingRange) → AreWithin width range → AreWithin width other → IsNoWorse width range other → IsTold width range other
-told width range other w v h =
+tag_distinguishes : (width : ℕ) (range other : WrappingRange) → AreWithin width range → AreWithin width other → IsNoWorse width range other → IsTold width range other
+tag_distinguishes width range other w v h =
     let few = one_number (IsIn width range) h.0 (steps_between width range.start range.end + 1) h.2 (range_counted width range w) in
     let many = one_number (IsIn width other) h.1 (steps_between width other.start other.end + 1) h.3 (range_counted width other v) in
     record {
@@ -81,7 +81,7 @@ plain_one width values a b some s t p q first last =
     let x = plain_in width a (get_or values i d) s.within p (s.holds i d l) in
     let y = plain_in width b (get_or values i d) t.within q (t.holds i d l) in
     in_from_between width meet (get_or values i d) within (omega (arith, x.1, s.within.1)) (inl (omega (arith, x, y), y.0, x.1)) in
-    let worse = told width a meet s.within within (s.least meet within holds) in
+    let worse = tag_distinguishes width a meet s.within within (s.least meet within holds) in
     let d = steps_are width a.start a.end s.within.0 s.within.1 in
     let e = steps_are width b.start a.end t.within.0 s.within.1 in
     elim d.is [
@@ -95,8 +95,8 @@ plain_one width values a b some s t p q first last =
 -- two least ranges of some values have the same ends
 same_ends : (width : ℕ) (values : List ℕ) (a b : WrappingRange) → 0 < length values → IsLeastRange width values a → IsLeastRange width values b → (a.start ≡ b.start) × (a.end ≡ b.end)
 same_ends width values a b some s t =
-    let there = told width a b s.within t.within (s.least b t.within t.holds) in
-    let here = told width b a t.within s.within (t.least a s.within s.holds) in
+    let there = tag_distinguishes width a b s.within t.within (s.least b t.within t.holds) in
+    let here = tag_distinguishes width b a t.within s.within (t.least a s.within s.holds) in
     let as_far : steps_between width a.start a.end ≡ steps_between width b.start b.end = omega (arith, there.fewer, here.fewer) in
     let d = steps_are width a.start a.end s.within.0 s.within.1 in
     let e = steps_are width b.start b.end t.within.0 t.within.1 in

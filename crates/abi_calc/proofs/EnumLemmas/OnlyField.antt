@@ -15,7 +15,7 @@ use Rattle.abi_scalar.specs.Order.{indices_by_offset}
 use Rattle.abi_scalar.specs.Shape.{listed_offsets}
 use Rattle.abi_univariant.specs.Least.{IsOrderOf}
 use Rattle.abi_univariant.specs.Part.{max_align}
-use Rattle.abi_univariant.specs.Placement.{list_repr}
+use Rattle.abi_univariant.specs.Placement.{fields_repr}
 use Rattle.abi_univariant.proofs.Sorted.Least.{allowed_permutes}
 use Rattle.abi_calc.specs.Enums.Bounds.{least_only, most_tag, only_align}
 use Rattle.abi_calc.specs.Enums.Growth.{align_or, first_align, grown_tag, start_align}
@@ -37,7 +37,7 @@ one_order : (order : List ℕ) → IsPermutation (0 ∷ []) order → order ≡ 
 one_order order same = one_zero order (length_permutation (0 ∷ []) order same) (All-permutation (λ n. n ≡ 0) (0 ∷ []) order same zero_alone)
 
 only_order : (dl : TargetDataLayout) (repr : ReprOptions) (kind : StructKind) (order : List ℕ) → IsOrderOf dl repr kind 1 order → order ≡ 0 ∷ []
-only_order dl repr kind order allowed = one_order order (allowed_permutes (list_repr dl repr kind) 1 order allowed)
+only_order dl repr kind order allowed = one_order order (allowed_permutes (fields_repr dl repr kind) 1 order allowed)
 
 -- ---- a tag that grows
 

@@ -22,15 +22,15 @@ use Rattle.abi_scalar.specs.Shape.{listed_offsets, listed_order}
 use Rattle.abi_scalar.specs.Variant.{IsOrderedVariant, variant_of}
 use Rattle.abi_univariant.specs.declared.part.Part.{Part}
 use Rattle.abi_univariant.specs.Apart.{AreAligned}
-use Rattle.abi_univariant.specs.List.{IsListAnswer}
+use Rattle.abi_univariant.specs.List.{IsUnivariantAnswer}
 use Rattle.abi_univariant.specs.Part.{parts_of}
-use Rattle.abi_univariant.specs.Placement.{IsNonEmptyIfUnsized, IsSized, cut, list_repr, prefix_align}
+use Rattle.abi_univariant.specs.Placement.{IsNonEmptyIfUnsized, IsSized, cut, fields_repr, prefix_align}
 use Rattle.abi_univariant.proofs.Promised.LeastLemmas.{ascends, biased, has_places, lies_aligned, lies_in_order}
 use Rattle.abi_univariant.proofs.Sorted.Least.{allowed_permutes}
 use Rattle.abi_univariant.proofs.Offsets.Rounding.{pow_dvd, rounded_to}
 use Rattle.abi_univariant.proofs.Sorted.Sorting.{within_order}
 use Rattle.abi_univariant.proofs.Sorted.Tight.{greatest_above}
-use Rattle.abi_calc.specs.Enums.Growth.{moved}
+use Rattle.abi_calc.specs.Enums.Growth.{moved_offset}
 use Rattle.abi_calc.specs.Enums.Lists.{AreListLayouts}
 use Rattle.abi_calc.specs.Enums.Made.{AreBehindTag, AreBesideNiche, AreVariantsAligned, IsBesideNiche, IsMovedBy}
 use Rattle.abi_calc.proofs.EnumLemmas.Places.{AreClear, AreClearAmong}
@@ -66,7 +66,7 @@ size_divides i j le =
     (cases_lt (exponent j) (exponent i))
 
 -- fields that moved from the old tag's end to the new one's
-pub aligned_moved : (old new : ℕ) → old ∣ new → (os aligns : List ℕ) → AreAligned os aligns → AreAligned (map (moved old new) os) aligns
+pub aligned_moved : (old new : ℕ) → old ∣ new → (os aligns : List ℕ) → AreAligned os aligns → AreAligned (map (moved_offset old new) os) aligns
 aligned_moved old new d [] [] h = tt
 aligned_moved old new d [] (a ∷ aligns) h = absurd h
 aligned_moved old new d (o ∷ os) [] h = absurd h
@@ -131,18 +131,18 @@ module _ {F V H : Type 0} (layout_of : H → LayoutData F V) (at : ℕ → F) (f
   uncut e [] = refl
   uncut e (h ∷ hs) = ap₂ (λ a aligns. a ∷ aligns) (ap (λ p. cut p (layout_of h).align.abi) e) (uncut e hs)
 
-  pub list_aligned : (hs : List H) (list : LayoutData F V) → repr.pack ≡ None → IsNonEmptyIfUnsized kind (length hs) → IsListAnswer layout_of at first dl repr kind hs (Ok list)
+  pub list_aligned : (hs : List H) (list : LayoutData F V) → repr.pack ≡ None → IsNonEmptyIfUnsized kind (length hs) → IsUnivariantAnswer layout_of at first dl repr kind hs (Ok list)
       → AreAligned (listed_offsets list.fields) (map (λ f. f.align.abi) (map layout_of hs))
   list_aligned hs list e tail (order, offsets, r) = subst (AreAligned (listed_offsets list.fields)) (uncut e hs) (lies_aligned layout_of at first dl repr kind hs order offsets list tail r)
 
   pub list_ordered : (number : F → ℕ) (most : ℕ) → ((i : ℕ) → i ≤ most → number (at i) ≡ i) → (hs : List H) (list : LayoutData F V) → length hs ≤ most + 1 → IsNonEmptyIfUnsized kind (length hs)
-      → IsListAnswer layout_of at first dl repr kind hs (Ok list) → IsOrderedList number list
+      → IsUnivariantAnswer layout_of at first dl repr kind hs (Ok list) → IsOrderedList number list
   list_ordered number most law hs list small tail (order, offsets, r) =
       let lies = lies_in_order layout_of at first dl repr kind hs order offsets list tail r in
       let many : length (map layout_of hs) ≡ length hs = length-map hs layout_of in
       let named : map at lies.0 ≡ listed_order list.fields = sym (ap listed_order lies.1) in
       let below : All (λ i. i < length (map layout_of hs)) lies.0
-      = within_order (length (map layout_of hs)) lies.0 (allowed_permutes (list_repr dl repr kind) (length (map layout_of hs)) lies.0 lies.2.allowed) in
+      = within_order (length (map layout_of hs)) lies.0 (allowed_permutes (fields_repr dl repr kind) (length (map layout_of hs)) lies.0 lies.2.allowed) in
       let each : All (λ i. number (at i) < length (listed_offsets list.fields)) lies.0
       = λ k d short. omega (arith, below k d short, law (get_or lies.0 k d) (omega (arith, below k d short, many, small)), lies.2.count) in
       record {
@@ -159,7 +159,7 @@ abbrev pub IsLeft : (old new offset : ℕ) → Type 0
 IsLeft old new offset = (offset ≡ old) ⊎ (new ≤ offset)
 
 -- fields there keep their order where the tag grows
-keeps_moved : (old new o p : ℕ) → old ≤ new → IsLeft old new o → IsLeft old new p → o ≤ p → moved old new o ≤ moved old new p
+keeps_moved : (old new o p : ℕ) → old ≤ new → IsLeft old new o → IsLeft old new p → o ≤ p → moved_offset old new o ≤ moved_offset old new p
 keeps_moved old new o p le a b up = by (o == old) (p == old) refl refl
   where
     by : (x y : Bool) → (o == old) ≡ x → (p == old) ≡ y → (if x then new else o) ≤ (if y then new else p)
@@ -204,10 +204,10 @@ module _ {F V H : Type 0} (layout_of : H → LayoutData F V) (at : ℕ → F) (n
   )
 
   -- a field's alignment is no greater than its list's
-  below_list : (v : List H) (l : LayoutData F V) → IsListAnswer layout_of at first dl repr kind v (Ok l) → All (λ a. a ≤ l.align.abi) (map (λ f. f.align.abi) (map layout_of v))
+  below_list : (v : List H) (l : LayoutData F V) → IsUnivariantAnswer layout_of at first dl repr kind v (Ok l) → All (λ a. a ≤ l.align.abi) (map (λ f. f.align.abi) (map layout_of v))
   below_list v l (order, offsets, r) =
       let b = biased layout_of at first dl repr kind v order offsets l r in
-      let all = greatest_above (λ (p : Part). cut repr.pack p.align) (max (list_repr dl repr kind).align (prefix_align repr.pack kind)) (parts_of dl (map layout_of v)) in
+      let all = greatest_above (λ (p : Part). cut repr.pack p.align) (max (fields_repr dl repr kind).align (prefix_align repr.pack kind)) (parts_of dl (map layout_of v)) in
       subst (All (λ a. a ≤ l.align.abi)) (uncut_parts v) (All-map (λ a. a ≤ l.align.abi) (λ (p : Part). cut repr.pack p.align) (parts_of dl (map layout_of v)) (λ k d short. omega (arith, all k d short, b.placed.alignment)))
     where
       uncut_parts : (hs : List H) → map (λ (p : Part). cut repr.pack p.align) (parts_of dl (map layout_of hs)) ≡ map (λ f. f.align.abi) (map layout_of hs)
@@ -215,7 +215,7 @@ module _ {F V H : Type 0} (layout_of : H → LayoutData F V) (at : ℕ → F) (n
       uncut_parts (h ∷ hs) = ap₂ (λ a aligns. a ∷ aligns) (ap (λ p. cut p (layout_of h).align.abi) unpacked) (uncut_parts hs)
 
   -- beside a niche
-  beside_one : (v : List H) (l : LayoutData F V) (x : VariantLayout F) (place width whole : ℕ) (b : Bool) → IsListAnswer layout_of at first dl repr kind v (Ok l)
+  beside_one : (v : List H) (l : LayoutData F V) (x : VariantLayout F) (place width whole : ℕ) (b : Bool) → IsUnivariantAnswer layout_of at first dl repr kind v (Ok l)
       → MatchBool b (x ≡ variant_of l) (IsBesideNiche place width whole l x) → AreAligned x.field_offsets (map (λ f. f.align.abi) (map layout_of v))
   beside_one v l x place width whole true h b =
       subst (λ (w : VariantLayout F). AreAligned w.field_offsets (map (λ f. f.align.abi) (map layout_of v))) (sym b) (list_aligned layout_of at first dl repr kind v l unpacked (tail_of_sized kind (length v) sized) h)
@@ -242,7 +242,7 @@ module _ {F V H : Type 0} (layout_of : H → LayoutData F V) (at : ℕ → F) (n
   -- ---- memory order
 
   module _ (most : ℕ) (law : (i : ℕ) → i ≤ most → number (at i) ≡ i) where
-    in_order : (v : List H) (l : LayoutData F V) → length v ≤ most + 1 → IsListAnswer layout_of at first dl repr kind v (Ok l) → IsOrderedList number l
+    in_order : (v : List H) (l : LayoutData F V) → length v ≤ most + 1 → IsUnivariantAnswer layout_of at first dl repr kind v (Ok l) → IsOrderedList number l
     in_order v l small h = list_ordered layout_of at first dl repr kind number most law v l small (tail_of_sized kind (length v) sized) h
 
     pub behind_ordered : (old new whole : ℕ) → old ≤ new → (variants : List (List H)) (lists : List (LayoutData F V)) (layouts : List (VariantLayout F)) → All (λ fields. length fields ≤ most + 1) variants
@@ -255,7 +255,7 @@ module _ {F V H : Type 0} (layout_of : H → LayoutData F V) (at : ℕ → F) (n
     behind_ordered old new whole le (v ∷ vs) (l ∷ ls) (x ∷ xs) few left h b =
         let own : All (IsLeft old new) (listed_offsets l.fields) = All-head (λ list. All (IsLeft old new) (listed_offsets list.fields)) l ls left in
         All-cons (IsOrderedVariant number) x xs
-        (ordered_by number (moved old new) l x (in_order v l (All-head (λ fields. length fields ≤ most + 1) v vs few) h.0) b.0.offsets b.0.order
+        (ordered_by number (moved_offset old new) l x (in_order v l (All-head (λ fields. length fields ≤ most + 1) v vs few) h.0) b.0.offsets b.0.order
         (λ i j low high up. keeps_moved old new (get_or (listed_offsets l.fields) i 0) (get_or (listed_offsets l.fields) j 0) le (own i 0 low) (own j 0 high) up))
         (behind_ordered old new whole le vs ls xs (All-tail (λ fields. length fields ≤ most + 1) v vs few) (All-tail (λ list. All (IsLeft old new) (listed_offsets list.fields)) l ls left) h.1 b.1)
 

@@ -26,16 +26,16 @@ use Rattle.abi_univariant.specs.declared.part.Part.{Part}
 use Rattle.abi_univariant.specs.Apart.{AreApart, IsBeside}
 use Rattle.abi_univariant.specs.Fields.{greatest_size}
 use Rattle.abi_univariant.specs.Part.{is_unsized, max_align, part_of, parts_of}
-use Rattle.abi_univariant.specs.Placement.{IsAllowed, align_of, cut, end_from, in_order, list_repr, no_part, offsets_from, place_of, start_of}
+use Rattle.abi_univariant.specs.Placement.{IsAllowed, align_of, cut, end_from, in_order, fields_repr, no_part, offsets_from, place_of, start_of}
 use Rattle.abi_univariant.proofs.Offsets.Ends.{end_from-above}
 use Rattle.abi_univariant.proofs.Sorted.Least.{allowed_permutes}
 use Rattle.abi_univariant.proofs.Sorted.Sorting.{within_order}
 use Rattle.abi_univariant.proofs.Offsets.Rounding.{round_multiple, rounded_to}
 use Rattle.abi_univariant.proofs.Placed.SourceLemmas.{Lies, field_at, length-in, offset_at, part_in, stands}
-use Rattle.abi_calc.specs.Enums.Growth.{align_or, first_align, grown_tag, grown_variant, moved, start_align}
+use Rattle.abi_calc.specs.Enums.Growth.{align_or, first_align, grown_tag, grown_variant, moved_offset, start_align}
 use Rattle.abi_calc.specs.Enums.Lists.{AreGoodLists, IsGoodList, align_with_all, behind_tag, tag_align}
-use Rattle.abi_calc.specs.Enums.Path.{is_free, takes_no_room}
-use Rattle.abi_calc.specs.Enums.Payload.{is_memory, is_of_scalars, seen_as, tagged_view}
+use Rattle.abi_calc.specs.Enums.EnumStrategy.{is_free, takes_no_room}
+use Rattle.abi_calc.specs.Enums.Payload.{is_memory, is_of_scalars, variant_with_view, tagged_view}
 use Rattle.abi_calc.specs.Enums.Places.{AreApartAmong, AreApartBehind}
 use Rattle.abi_calc.specs.Enums.Tagged.{lists_align, lists_size, payloads_of, tagged_layout}
 use Rattle.abi_calc.proofs.EnumLemmas.Growth.{grown_size}
@@ -56,7 +56,7 @@ module _ {F V H : Type 0} (layout_of : H → LayoutData F V) (at : ℕ → F) (f
       → end_from repr.pack (start_of repr.pack (behind_tag dl repr asked vs)) (in_order (parts_of dl (map layout_of fields)) good.placed.0) ≤ list.size
   list_ends fields list good =
       let up = (rounded_to (end_from repr.pack (start_of repr.pack (behind_tag dl repr asked vs)) (in_order (parts_of dl (map layout_of fields)) good.placed.0))
-      (align_of (list_repr dl repr (behind_tag dl repr asked vs)) (parts_of dl (map layout_of fields)))).above in
+      (align_of (fields_repr dl repr (behind_tag dl repr asked vs)) (parts_of dl (map layout_of fields)))).above in
       omega (arith, up, good.placed.2.extent)
 
   -- the tag lies inside the list
@@ -112,11 +112,11 @@ with_tag tag small whole offsets sizes fits more apart all =
 -- ---- parts that moved
 
 -- a field at the old tag's end moves to the new one's
-moved_same : (old new : ℕ) → moved old new old ≡ new
+moved_same : (old new : ℕ) → moved_offset old new old ≡ new
 moved_same old new = ap (λ b. if b then new else old) (eq-eqb old old refl)
 
 -- a field behind the new tag stays
-moved_not : (old new offset : ℕ) → old < new → new ≤ offset → moved old new offset ≡ offset
+moved_not : (old new offset : ℕ) → old < new → new ≤ offset → moved_offset old new offset ≡ offset
 moved_not old new offset grows far = by (offset == old) refl
   where
     by : (b : Bool) → (offset == old) ≡ b → (if b then new else offset) ≡ offset
@@ -125,31 +125,31 @@ moved_not old new offset grows far = by (offset == old) refl
 
 -- two of them that share no byte share none when they have moved
 pair_moved : (old new o m p n : ℕ) → old < new → IsClear old new o m → IsClear old new p n → (o + m ≤ p) ⊎ (p + n ≤ o)
-    → (moved old new o + m ≤ moved old new p) ⊎ (moved old new p + n ≤ moved old new o)
+    → (moved_offset old new o + m ≤ moved_offset old new p) ⊎ (moved_offset old new p + n ≤ moved_offset old new o)
 pair_moved old new o m p n grows (inl a) (inl b) h = rw (a.0, a.1, b.0, moved_same old new) (inl (omega arith))
 pair_moved old new o m p n grows (inl a) (inr b) h = rw (a.0, a.1, moved_same old new, moved_not old new p grows b) (inl (omega (arith, b)))
 pair_moved old new o m p n grows (inr a) (inl b) h = rw (b.0, b.1, moved_same old new, moved_not old new o grows a) (inr (omega (arith, a)))
 pair_moved old new o m p n grows (inr a) (inr b) h = rw (moved_not old new o grows a, moved_not old new p grows b) h
 
 -- a part is beside the others when all of them have moved
-beside_moved : (old new o m : ℕ) (offsets sizes : List ℕ) → old < new → IsClear old new o m → AreClear old new offsets sizes → IsBeside o m offsets sizes → IsBeside (moved old new o) m (map (moved old new) offsets) sizes
+beside_moved : (old new o m : ℕ) (offsets sizes : List ℕ) → old < new → IsClear old new o m → AreClear old new offsets sizes → IsBeside o m offsets sizes → IsBeside (moved_offset old new o) m (map (moved_offset old new) offsets) sizes
 beside_moved old new o m [] [] grows c cs h = tt
 beside_moved old new o m [] (n ∷ sizes) grows c cs h = absurd h
 beside_moved old new o m (p ∷ offsets) [] grows c cs h = absurd h
 beside_moved old new o m (p ∷ offsets) (n ∷ sizes) grows c cs h = (pair_moved old new o m p n grows c cs.0 h.0, beside_moved old new o m offsets sizes grows c cs.1 h.1)
 
 -- a moved part lies behind the new tag
-clear_moved : (old new o m : ℕ) → old < new → IsClear old new o m → new ≤ moved old new o
+clear_moved : (old new o m : ℕ) → old < new → IsClear old new o m → new ≤ moved_offset old new o
 clear_moved old new o m grows (inl a) = rw (a.0, moved_same old new) (omega arith)
 clear_moved old new o m grows (inr b) = rw (moved_not old new o grows b) b
 
 -- and inside the whole
-inside_moved : (old new small whole o m : ℕ) → old < new → new ≤ whole → small ≤ whole → IsClear old new o m → o + m ≤ small → moved old new o + m ≤ whole
+inside_moved : (old new small whole o m : ℕ) → old < new → new ≤ whole → small ≤ whole → IsClear old new o m → o + m ≤ small → moved_offset old new o + m ≤ whole
 inside_moved old new small whole o m grows fits more (inl a) h = rw (a.0, a.1, moved_same old new) (omega (arith, fits))
 inside_moved old new small whole o m grows fits more (inr b) h = rw (moved_not old new o grows b) (omega (arith, h, more))
 
 -- moved parts share no byte, and end inside the whole
-apart_moved : (old new small whole : ℕ) (offsets sizes : List ℕ) → old < new → new ≤ whole → small ≤ whole → AreClear old new offsets sizes → AreApart small offsets sizes → AreApart whole (map (moved old new) offsets) sizes
+apart_moved : (old new small whole : ℕ) (offsets sizes : List ℕ) → old < new → new ≤ whole → small ≤ whole → AreClear old new offsets sizes → AreApart small offsets sizes → AreApart whole (map (moved_offset old new) offsets) sizes
 apart_moved old new small whole [] [] grows fits more cs h = tt
 apart_moved old new small whole [] (m ∷ sizes) grows fits more cs h = absurd h
 apart_moved old new small whole (o ∷ offsets) [] grows fits more cs h = absurd h
@@ -160,7 +160,7 @@ apart_moved old new small whole (o ∷ offsets) (m ∷ sizes) grows fits more cs
 )
 
 -- the grown tag is beside the moved parts
-tag_moved : (old new : ℕ) (offsets sizes : List ℕ) → old < new → AreClear old new offsets sizes → IsBeside 0 new (map (moved old new) offsets) sizes
+tag_moved : (old new : ℕ) (offsets sizes : List ℕ) → old < new → AreClear old new offsets sizes → IsBeside 0 new (map (moved_offset old new) offsets) sizes
 tag_moved old new [] [] grows cs = tt
 tag_moved old new [] (m ∷ sizes) grows cs = absurd cs
 tag_moved old new (o ∷ offsets) [] grows cs = absurd cs
@@ -168,14 +168,14 @@ tag_moved old new (o ∷ offsets) (m ∷ sizes) grows cs = (inl (omega (arith, c
 
 -- a grown tag and the moved parts
 moved_with_tag : (old new small whole : ℕ) (offsets sizes : List ℕ) → old < new → new ≤ whole → small ≤ whole → AreClear old new offsets sizes → AreApart small offsets sizes
-    → AreApart whole (0 ∷ map (moved old new) offsets) (new ∷ sizes)
+    → AreApart whole (0 ∷ map (moved_offset old new) offsets) (new ∷ sizes)
 moved_with_tag old new small whole offsets sizes grows fits more cs h =
     (omega (arith, fits), tag_moved old new offsets sizes grows cs, apart_moved old new small whole offsets sizes grows fits more cs h)
 
 -- ---- a variant beside the tag
 
 -- how a variant is seen moves no field
-pub seen_offsets : {F : Type 0} (view : BackendRepr) (size : ℕ) (variant : VariantLayout F) → (seen_as view size variant).field_offsets ≡ variant.field_offsets
+pub seen_offsets : {F : Type 0} (view : BackendRepr) (size : ℕ) (variant : VariantLayout F) → (variant_with_view view size variant).field_offsets ≡ variant.field_offsets
 seen_offsets view size variant = by (is_of_scalars view && is_memory variant.backend_repr && nat_lt 0 (length variant.field_offsets))
   where
     by : (b : Bool) → (if b then (record variant { backend_repr = view; size = max variant.size size }) else variant).field_offsets ≡ variant.field_offsets
@@ -185,24 +185,24 @@ seen_offsets view size variant = by (is_of_scalars view && is_memory variant.bac
 -- a tag that stays, and the fields behind it
 not_grown : {F V : Type 0} (view : BackendRepr) (old new whole : ℕ) (list : LayoutData F V) (sizes : List ℕ) → ¬ (old < new) → new ≤ old → new ≤ whole → list.size ≤ whole
     → AreApart list.size (listed_offsets list.fields) sizes → All (λ o. old ≤ o) (listed_offsets list.fields)
-    → AreApart whole (0 ∷ (seen_as view whole (grown_variant old new (variant_of list))).field_offsets) (new ∷ sizes)
+    → AreApart whole (0 ∷ (variant_with_view view whole (grown_variant old new (variant_of list))).field_offsets) (new ∷ sizes)
 not_grown view old new whole list sizes stays same fits more apart after = by (nat_lt old new) refl
   where
     by : (b : Bool) → nat_lt old new ≡ b
-        → AreApart whole (0 ∷ (seen_as view whole (if b then (record (variant_of list) { size = max list.size new; field_offsets = map (moved old new) (listed_offsets list.fields) }) else variant_of list)).field_offsets) (new ∷ sizes)
+        → AreApart whole (0 ∷ (variant_with_view view whole (if b then (record (variant_of list) { size = max list.size new; field_offsets = map (moved_offset old new) (listed_offsets list.fields) }) else variant_of list)).field_offsets) (new ∷ sizes)
     by true less = absurd (stays (ltb-true old new less))
     by false equal = rw (seen_offsets view whole (variant_of list)) (with_tag new list.size whole (listed_offsets list.fields) sizes fits more apart (λ k d short. omega (arith, same, after k d short)))
 
 -- a tag that grew, and the fields behind it
 grown : {F V : Type 0} (view : BackendRepr) (old new whole : ℕ) (list : LayoutData F V) (sizes : List ℕ) → old < new → new ≤ whole → list.size ≤ whole
     → AreApart list.size (listed_offsets list.fields) sizes → AreClear old new (listed_offsets list.fields) sizes
-    → AreApart whole (0 ∷ (seen_as view whole (grown_variant old new (variant_of list))).field_offsets) (new ∷ sizes)
+    → AreApart whole (0 ∷ (variant_with_view view whole (grown_variant old new (variant_of list))).field_offsets) (new ∷ sizes)
 grown view old new whole list sizes grows fits more apart clear = by (nat_lt old new) refl
   where
     by : (b : Bool) → nat_lt old new ≡ b
-        → AreApart whole (0 ∷ (seen_as view whole (if b then (record (variant_of list) { size = max list.size new; field_offsets = map (moved old new) (listed_offsets list.fields) }) else variant_of list)).field_offsets) (new ∷ sizes)
+        → AreApart whole (0 ∷ (variant_with_view view whole (if b then (record (variant_of list) { size = max list.size new; field_offsets = map (moved_offset old new) (listed_offsets list.fields) }) else variant_of list)).field_offsets) (new ∷ sizes)
     by true less =
-        rw (seen_offsets view whole (record (variant_of list) { size = max list.size new; field_offsets = map (moved old new) (listed_offsets list.fields) }))
+        rw (seen_offsets view whole (record (variant_of list) { size = max list.size new; field_offsets = map (moved_offset old new) (listed_offsets list.fields) }))
         (moved_with_tag old new list.size whole (listed_offsets list.fields) sizes grows fits more clear apart)
     by false equal = absurd (omega (arith, grows, ltb-false old new equal))
 
@@ -390,8 +390,8 @@ module _ {F V H : Type 0} (layout_of : H → LayoutData F V) (at : ℕ → F) (n
   lies_good fields list good =
       let many : length (parts_of dl (map layout_of fields)) ≡ length (map layout_of fields) = length-map (map layout_of fields) (λ f. part_of dl f) in
       record {
-        permutes = allowed_permutes (list_repr dl repr (behind_tag dl repr asked vs)) (length (parts_of dl (map layout_of fields))) good.placed.0
-            (subst (λ n. IsAllowed (list_repr dl repr (behind_tag dl repr asked vs)) n good.placed.0) (sym many) good.placed.2.allowed);
+        permutes = allowed_permutes (fields_repr dl repr (behind_tag dl repr asked vs)) (length (parts_of dl (map layout_of fields))) good.placed.0
+            (subst (λ n. IsAllowed (fields_repr dl repr (behind_tag dl repr asked vs)) n good.placed.0) (sym many) good.placed.2.allowed);
         count = good.placed.2.count ∙ sym many;
         places = good.placed.2.places;
       }
@@ -512,7 +512,7 @@ module _ {F V H : Type 0} (layout_of : H → LayoutData F V) (at : ℕ → F) (n
   -- beside a tag that stays the fields of all variants share no byte
   apart_stays : (view : BackendRepr) (new whole : ℕ) (variants : List (List H)) (lists : List (LayoutData F V)) → AreGoodLists layout_of at first dl repr (behind_tag dl repr asked vs) variants lists
       → ¬ (integer_size asked < new) → new ≤ integer_size asked → new ≤ whole → greatest_size lists ≤ whole
-      → AreApartBehind whole new (map (map layout_of) variants) (map (λ list. seen_as view whole (grown_variant (integer_size asked) new (variant_of list))) lists)
+      → AreApartBehind whole new (map (map layout_of) variants) (map (λ list. variant_with_view view whole (grown_variant (integer_size asked) new (variant_of list))) lists)
   apart_stays view new whole [] [] good stays same fits more = tt
   apart_stays view new whole [] (list ∷ lists) good stays same fits more = absurd good
   apart_stays view new whole (fields ∷ variants) [] good stays same fits more = absurd good
@@ -525,7 +525,7 @@ module _ {F V H : Type 0} (layout_of : H → LayoutData F V) (at : ℕ → F) (n
   -- and so do they beside one that grows, where it leaves them clear
   apart_grows : (view : BackendRepr) (new whole : ℕ) (variants : List (List H)) (lists : List (LayoutData F V)) → AreGoodLists layout_of at first dl repr (behind_tag dl repr asked vs) variants lists
       → AreClearAmong layout_of (integer_size asked) new variants lists → integer_size asked < new → new ≤ whole → greatest_size lists ≤ whole
-      → AreApartBehind whole new (map (map layout_of) variants) (map (λ list. seen_as view whole (grown_variant (integer_size asked) new (variant_of list))) lists)
+      → AreApartBehind whole new (map (map layout_of) variants) (map (λ list. variant_with_view view whole (grown_variant (integer_size asked) new (variant_of list))) lists)
   apart_grows view new whole [] [] good clear grows fits more = tt
   apart_grows view new whole [] (list ∷ lists) good clear grows fits more = absurd good
   apart_grows view new whole (fields ∷ variants) [] good clear grows fits more = absurd good
@@ -538,7 +538,7 @@ module _ {F V H : Type 0} (layout_of : H → LayoutData F V) (at : ℕ → F) (n
   pub apart_behind : (view : BackendRepr) (whole : ℕ) (variants : List (List H)) (lists : List (LayoutData F V)) → AreGoodLists layout_of at first dl repr (behind_tag dl repr asked vs) variants lists
       → 0 < length variants → All (λ fields. length fields ≤ most + 1) variants → greatest_size lists ≤ whole
       → AreApartBehind whole (integer_size (grown_tag dl repr asked (start_align number (map (map layout_of) variants) lists))) (map (map layout_of) variants)
-      (map (λ list. seen_as view whole (grown_variant (integer_size asked) (integer_size (grown_tag dl repr asked (start_align number (map (map layout_of) variants) lists))) (variant_of list))) lists)
+      (map (λ list. variant_with_view view whole (grown_variant (integer_size asked) (integer_size (grown_tag dl repr asked (start_align number (map (map layout_of) variants) lists))) (variant_of list))) lists)
   apart_behind view whole variants lists good some small more =
       let new = integer_size (grown_tag dl repr asked (start_align number (map (map layout_of) variants) lists)) in
       let fits : new ≤ whole = omega (arith, more, new_fits variants lists good some small) in

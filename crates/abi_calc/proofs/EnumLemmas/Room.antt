@@ -1,4 +1,4 @@
--- An enum's lists leave room for a niche that tells the variants apart exactly where there is a layout with such a niche.
+-- An enum's lists leave room for a niche that distinguishes the variants exactly where there is a layout with such a niche.
 use Rattle.std.proofs.Common.{◌≡◌, ℕ, zero, suc, ◌+◌, ◌^◌, ◌==◌, ◌<◌, ◌≤◌, ◌∙◌, Bool, true, false, List, [], ◌∷◌, Option, None, Some, ap, ap₂, arith, inl, inr, map, refl, subst, sym, ⊎_elim}
 use Rattle.std.specs.Prelude.{◌≢◌, ◌⊎◌, Contains, IfSome, if◌then◌else◌, nat_le, slice_get}
 use Rattle.std.specs.Int.{next_multiple_of}
@@ -22,7 +22,7 @@ use Rattle.abi_univariant.specs.ListNiche.{HasLargestNiche, HasNoMoreFree, IsNic
 use Rattle.abi_calc.specs.declared.enums.niche.Room.{Room}
 use Rattle.abi_calc.specs.Enums.Lists.{AreGoodLists, IsGoodList}
 use Rattle.abi_calc.specs.Enums.Niche.{beside_niche, if_list, if_niche, if_placed, if_span, moved_on, needing_numbers, niche_layout, niche_of_list, place_after, room_beside, span_count, span_of, untagged_of, variants_from, with_first, without_niche}
-use Rattle.abi_calc.specs.Enums.Path.{variant_at}
+use Rattle.abi_calc.specs.Enums.EnumStrategy.{variant_at}
 use Rattle.abi_calc.specs.Enums.Room.{HasFreeNumbers, HasRoomBeside, LeaveRoom}
 use Rattle.abi_calc.specs.Enums.Tagged.{lists_size}
 use Rattle.abi_calc.proofs.EnumLemmas.InNiche.{enough, niche_known, of_some}

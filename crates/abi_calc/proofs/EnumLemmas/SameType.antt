@@ -16,21 +16,21 @@ use Rattle.abi_scalar.specs.declared.variants.RangeFrom.{RangeFrom}
 use Rattle.abi_scalar.specs.declared.variants.RangeToInclusive.{RangeToInclusive}
 use Rattle.abi_scalar.specs.Simple.{never_layout}
 use Rattle.abi_univariant.specs.declared.order.NicheBias.TheVariants.{Start}
-use Rattle.abi_univariant.specs.declared.placing.ListFault.{ListFault}
-use Rattle.abi_univariant.specs.declared.placing.ListFault.TheVariants as fault
+use Rattle.abi_univariant.specs.declared.placing.FieldsFault.{FieldsFault}
+use Rattle.abi_univariant.specs.declared.placing.FieldsFault.TheVariants as fault
 use Rattle.abi_univariant.specs.Fault.{IsErrorOf, fault_in}
-use Rattle.abi_univariant.specs.List.{IsListAnswer, IsListError, IsListLayout}
+use Rattle.abi_univariant.specs.List.{IsUnivariantAnswer, IsUnivariantError, IsUnivariantLayout}
 use Rattle.abi_univariant.specs.Order.{IsNamedOrder}
 use Rattle.abi_univariant.specs.Part.{parts_of}
-use Rattle.abi_univariant.specs.Placement.{list_repr}
-use Rattle.abi_calc.specs.declared.enums.path.Path.{Path}
-use Rattle.abi_calc.specs.declared.enums.path.Path.TheVariants.{NoValue, OneList, Several}
+use Rattle.abi_univariant.specs.Placement.{fields_repr}
+use Rattle.abi_calc.specs.declared.enums.strategy.EnumStrategy.{EnumStrategy}
+use Rattle.abi_calc.specs.declared.enums.strategy.EnumStrategy.TheVariants.{NoValue, OneList, Several}
 use Rattle.abi_calc.specs.Enums.Answer.{IsTypeAnswer, kind_at}
-use Rattle.abi_calc.specs.Enums.Choice.{IsNicheAnswer, better}
-use Rattle.abi_calc.specs.Enums.Discriminants.{counting_of}
+use Rattle.abi_calc.specs.Enums.Choice.{IsNicheAnswer, preferred_layout}
+use Rattle.abi_calc.specs.Enums.Discriminants.{counted_discriminants}
 use Rattle.abi_calc.specs.Enums.Lists.{AreListLayouts, IsFirstListError, behind_tag}
 use Rattle.abi_calc.specs.Enums.Niche.{niche_layout}
-use Rattle.abi_calc.specs.Enums.Path.{variant_at}
+use Rattle.abi_calc.specs.Enums.EnumStrategy.{variant_at}
 use Rattle.abi_calc.specs.Enums.Several.{IsAskedAnswer, IsEnumAnswer, IsSeveralAnswer, better_of}
 use Rattle.abi_calc.specs.Enums.Single.{IsSingleAnswer, single_kind}
 use Rattle.abi_calc.specs.Enums.Tagged.{IsTaggedAnswer, IsTaggedBy}
@@ -95,7 +95,7 @@ same_error r e error is same = subst (λ x. IsSameResult x (Err error)) (sym is)
 -- the better of two, from one result
 same_better : {H K : Type 0} (dl : TargetDataLayout) (r : Result (LayoutData ℕ ℕ) (LayoutCalculatorError H)) (s : Result (LayoutData ℕ ℕ) (LayoutCalculatorError K)) (niche : Option (LayoutData ℕ ℕ))
     → IsSameResult r s → IsSameResult (better_of dl r niche) (better_of dl s niche)
-same_better dl (Ok a) (Ok b) niche same = ap (λ l. better dl l niche) same
+same_better dl (Ok a) (Ok b) niche same = ap (λ l. preferred_layout dl l niche) same
 same_better dl (Ok a) (Err error) niche same = elim same [ ]
 same_better dl (Err e) (Ok b) niche same = elim same [ ]
 same_better dl (Err e) (Err error) niche same = same
@@ -104,7 +104,7 @@ module _ {H K : Type 0} (f : H → LayoutData ℕ ℕ) (g : K → LayoutData ℕ
   -- ---- one list
 
   -- a fault has an error of one name
-  error_by : (hs : List H) (ks : List K) → map f hs ≡ map g ks → (which : ListFault) (e : LayoutCalculatorError H) → IsErrorOf hs which e → HasSameError e (IsErrorOf ks which)
+  error_by : (hs : List H) (ks : List K) → map f hs ≡ map g ks → (which : FieldsFault) (e : LayoutCalculatorError H) → IsErrorOf hs which e → HasSameError e (IsErrorOf ks which)
   error_by hs ks same (fault.Unsized i) e h =
       let there : slice_get (map g ks) i ≡ Some (f h.0) = ap (λ ls. slice_get ls i) (sym same) ∙ image_of f hs i h.0 h.1 in
       let item = item_of g ks i (f h.0) there in
@@ -115,15 +115,15 @@ module _ {H K : Type 0} (f : H → LayoutData ℕ ℕ) (g : K → LayoutData ℕ
   module _ (dl : TargetDataLayout) (repr : ReprOptions) where
     module _ (kind : StructKind) where
       -- a list has the same layout for the same layouts
-      pub listed_by : (hs : List H) (ks : List K) → map f hs ≡ map g ks → (l : LayoutData ℕ ℕ) → IsListAnswer f (λ i. i) 0 dl repr kind hs (Ok l) → IsListAnswer g (λ i. i) 0 dl repr kind ks (Ok l)
-      listed_by hs ks same l h = subst (λ ls. (order : List ℕ) × (offsets : List ℕ) × IsListLayout (λ i. i) 0 dl repr kind ls order offsets l) same h
+      pub listed_by : (hs : List H) (ks : List K) → map f hs ≡ map g ks → (l : LayoutData ℕ ℕ) → IsUnivariantAnswer f (λ i. i) 0 dl repr kind hs (Ok l) → IsUnivariantAnswer g (λ i. i) 0 dl repr kind ks (Ok l)
+      listed_by hs ks same l h = subst (λ ls. (order : List ℕ) × (offsets : List ℕ) × IsUnivariantLayout (λ i. i) 0 dl repr kind ls order offsets l) same h
 
       -- a list's error is one of the same name for the same layouts
-      pub refused_by : (hs : List H) (ks : List K) → map f hs ≡ map g ks → (e : LayoutCalculatorError H) → IsListError f dl repr kind hs e → HasSameError e (IsListError g dl repr kind ks)
+      pub refused_by : (hs : List H) (ks : List K) → map f hs ≡ map g ks → (e : LayoutCalculatorError H) → IsUnivariantError f dl repr kind hs e → HasSameError e (IsUnivariantError g dl repr kind ks)
       refused_by hs ks same e (order, named, which, there, of) =
           let error = error_by hs ks same which e of in
-          let order_of = subst (λ ls. IsNamedOrder (list_repr dl repr kind) Start (parts_of dl ls) order) same named in
-          let fault_of = subst (λ ls. fault_in (list_repr dl repr kind) (size_bound dl) (parts_of dl ls) order ≡ Some which) same there in
+          let order_of = subst (λ ls. IsNamedOrder (fields_repr dl repr kind) Start (parts_of dl ls) order) same named in
+          let fault_of = subst (λ ls. fault_in (fields_repr dl repr kind) (size_bound dl) (parts_of dl ls) order ≡ Some which) same there in
           (error.0, (order, order_of, which, fault_of, error.1), error.2)
 
       -- ---- the variants' lists
@@ -217,8 +217,8 @@ module _ {H K : Type 0} (f : H → LayoutData ℕ ℕ) (g : K → LayoutData ℕ
             → HasSameResult r (IsEnumAnswer g (λ i. i) (λ i. i) (λ i. i) (λ i. i) dl repr asks ks items)
         enum_by items r (inl want) = (Err OutOfMemory, inl refl, same_error r OutOfMemory OutOfMemory want tt)
         enum_by items r (inr (niche, found, tagged, answer, is)) =
-            let s = asked_by (counting_of (λ i. i) repr (map (map f) hs) items) tagged answer in
-            let counted = subst (λ ls. IsAskedAnswer g (λ i. i) (λ i. i) 0 dl repr asks (counting_of (λ i. i) repr ls items) ks s.0) same s.1 in
+            let s = asked_by (counted_discriminants (λ i. i) repr (map (map f) hs) items) tagged answer in
+            let counted = subst (λ ls. IsAskedAnswer g (λ i. i) (λ i. i) 0 dl repr asks (counted_discriminants (λ i. i) repr ls items) ks s.0) same s.1 in
             (better_of dl s.0 niche, inr (niche, niche_by niche found, s.0, counted, refl), subst (λ x. IsSameResult x (better_of dl s.0 niche)) (sym is) (same_better dl tagged s.0 niche s.2))
 
         -- an enum of several variants has the same answer
@@ -247,9 +247,9 @@ module _ {H K : Type 0} (f : H → LayoutData ℕ ℕ) (g : K → LayoutData ℕ
   module _ (dl : TargetDataLayout) (repr : ReprOptions) (hs : List (List H)) (ks : List (List K)) (same : map (map f) hs ≡ map (map g) ks) (is_enum always_sized : Bool)
       (optimizations : NicheOptimizations) (asks : RangeFrom ℤ → RangeToInclusive ℕ → Integer × Bool → Type 0) (gives : List (ℕ × ℕ) → Type 0) where
     -- a type with variants has the same answer, whatever lends its fields' layouts
-    pub same_answer : (path : Path) (r : Result (LayoutData ℕ ℕ) (LayoutCalculatorError H))
-        → IsTypeAnswer f (λ i. i) (λ i. i) (λ i. i) (λ i. i) dl repr hs is_enum always_sized optimizations asks gives path r
-        → HasSameResult r (IsTypeAnswer g (λ i. i) (λ i. i) (λ i. i) (λ i. i) dl repr ks is_enum always_sized optimizations asks gives path)
+    pub same_answer : (strategy : EnumStrategy) (r : Result (LayoutData ℕ ℕ) (LayoutCalculatorError H))
+        → IsTypeAnswer f (λ i. i) (λ i. i) (λ i. i) (λ i. i) dl repr hs is_enum always_sized optimizations asks gives strategy r
+        → HasSameResult r (IsTypeAnswer g (λ i. i) (λ i. i) (λ i. i) (λ i. i) dl repr ks is_enum always_sized optimizations asks gives strategy)
     same_answer NoValue r h = (Ok (never_layout dl), refl, subst (λ x. IsSameResult {K = K} x (Ok (never_layout dl))) (sym h) refl)
     same_answer (OneList i) r h =
         let there = same_at hs ks same i in
@@ -259,14 +259,14 @@ module _ {H K : Type 0} (f : H → LayoutData ℕ ℕ) (g : K → LayoutData ℕ
     same_answer Several r h = several_by dl repr hs ks same asks gives r h
 
     -- where it has a layout, it has that layout, whatever lends its fields' layouts
-    pub same_type : (path : Path) (l : LayoutData ℕ ℕ) → IsTypeAnswer f (λ i. i) (λ i. i) (λ i. i) (λ i. i) dl repr hs is_enum always_sized optimizations asks gives path (Ok l)
-        → IsTypeAnswer g (λ i. i) (λ i. i) (λ i. i) (λ i. i) dl repr ks is_enum always_sized optimizations asks gives path (Ok l)
-    same_type path l h =
-        of_ok H (IsTypeAnswer g (λ i. i) (λ i. i) (λ i. i) (λ i. i) dl repr ks is_enum always_sized optimizations asks gives path) l (same_answer path (Ok l) h)
+    pub same_type : (strategy : EnumStrategy) (l : LayoutData ℕ ℕ) → IsTypeAnswer f (λ i. i) (λ i. i) (λ i. i) (λ i. i) dl repr hs is_enum always_sized optimizations asks gives strategy (Ok l)
+        → IsTypeAnswer g (λ i. i) (λ i. i) (λ i. i) (λ i. i) dl repr ks is_enum always_sized optimizations asks gives strategy (Ok l)
+    same_type strategy l h =
+        of_ok H (IsTypeAnswer g (λ i. i) (λ i. i) (λ i. i) (λ i. i) dl repr ks is_enum always_sized optimizations asks gives strategy) l (same_answer strategy (Ok l) h)
 
     -- where it is refused, it is refused by an error of the same name
-    pub same_type_error : (path : Path) (e : LayoutCalculatorError H)
-        → IsTypeAnswer f (λ i. i) (λ i. i) (λ i. i) (λ i. i) dl repr hs is_enum always_sized optimizations asks gives path (Err e)
-        → (error : LayoutCalculatorError K) × IsTypeAnswer g (λ i. i) (λ i. i) (λ i. i) (λ i. i) dl repr ks is_enum always_sized optimizations asks gives path (Err error) × IsSameError e error
-    same_type_error path e h =
-        of_err (IsTypeAnswer g (λ i. i) (λ i. i) (λ i. i) (λ i. i) dl repr ks is_enum always_sized optimizations asks gives path) e (same_answer path (Err e) h)
+    pub same_type_error : (strategy : EnumStrategy) (e : LayoutCalculatorError H)
+        → IsTypeAnswer f (λ i. i) (λ i. i) (λ i. i) (λ i. i) dl repr hs is_enum always_sized optimizations asks gives strategy (Err e)
+        → (error : LayoutCalculatorError K) × IsTypeAnswer g (λ i. i) (λ i. i) (λ i. i) (λ i. i) dl repr ks is_enum always_sized optimizations asks gives strategy (Err error) × IsSameError e error
+    same_type_error strategy e h =
+        of_err (IsTypeAnswer g (λ i. i) (λ i. i) (λ i. i) (λ i. i) dl repr ks is_enum always_sized optimizations asks gives strategy) e (same_answer strategy (Err e) h)

@@ -9,26 +9,26 @@ use Rattle.abi_scalar.specs.declared.layout_data.LayoutData.{LayoutData}
 use Rattle.abi_scalar.specs.declared.repr.ReprOptions.{ReprOptions}
 use Rattle.abi_scalar.specs.Lawful.{IsLawfulLayout}
 use Rattle.abi_univariant.specs.Placement.{IsNonEmptyIfUnsized}
-use Rattle.abi_calc.specs.declared.enums.path.Path.{Path}
-use Rattle.abi_calc.specs.declared.enums.path.Path.TheVariants.{OneList}
+use Rattle.abi_calc.specs.declared.enums.strategy.EnumStrategy.{EnumStrategy}
+use Rattle.abi_calc.specs.declared.enums.strategy.EnumStrategy.TheVariants.{OneList}
 use Rattle.abi_calc.specs.Enums.Answer.{kind_at}
-use Rattle.abi_calc.specs.Enums.Path.{variant_at}
+use Rattle.abi_calc.specs.Enums.EnumStrategy.{variant_at}
 use Rattle.abi_calc.specs.Enums.Single.{IsSingleAnswer}
-use Rattle.abi_calc.specs.Seen.{IsSeenAsList}
-use Rattle.abi_calc.proofs.EnumLemmas.Whole.{IsReadAt, at_listed}
+use Rattle.abi_calc.specs.Seen.{HasViewOfFields}
+use Rattle.abi_calc.proofs.EnumLemmas.EnumExtent.{IsReadAt, at_listed}
 use Rattle.abi_calc.proofs.Seen.{single_seen}
 
 -- the place is the one that the type's way names
-same_place : {path : Path} (i j : ℕ) → path ≡ OneList i → path ≡ OneList j → i ≡ j
+same_place : {strategy : EnumStrategy} (i j : ℕ) → strategy ≡ OneList i → strategy ≡ OneList j → i ≡ j
 same_place i j here there = cc
 
 -- the list that was read is seen as that of the variant that the type's way names
 pub seen_at : {F V H : Type 0} (layout_of : H → LayoutData F V) (at : ℕ → F) (index : ℕ → V) (dl : TargetDataLayout) (repr : ReprOptions) (variants : List (List H)) (is_enum always_sized : Bool)
-    (optimizations : NicheOptimizations) (path : Path) (r : Result (LayoutData F V) (LayoutCalculatorError H)) (i : ℕ) (kind : StructKind) (fields : List H) (named : V)
-    → IsReadAt is_enum always_sized variants path i kind fields → named ≡ index i → All (λ f. IsLawfulLayout dl (layout_of f)) fields → IsNonEmptyIfUnsized kind (length fields)
+    (optimizations : NicheOptimizations) (strategy : EnumStrategy) (r : Result (LayoutData F V) (LayoutCalculatorError H)) (i : ℕ) (kind : StructKind) (fields : List H) (named : V)
+    → IsReadAt is_enum always_sized variants strategy i kind fields → named ≡ index i → All (λ f. IsLawfulLayout dl (layout_of f)) fields → IsNonEmptyIfUnsized kind (length fields)
     → IsSingleAnswer layout_of at (index 0) named dl repr kind optimizations fields r
-    → (j : ℕ) → path ≡ OneList j → IfOk r (IsSeenAsList (index j) dl repr (kind_at is_enum always_sized variants j) optimizations (map layout_of (variant_at variants j)))
-seen_at layout_of at index dl repr variants is_enum always_sized optimizations path r i kind fields named read same law tail h j there =
-    let here : IfOk r (IsSeenAsList named dl repr kind optimizations (map layout_of fields)) = single_seen layout_of at (index 0) dl repr kind fields optimizations named r law tail h in
-    at_listed (λ k fs. IfOk r (IsSeenAsList (index j) dl repr k optimizations (map layout_of fs))) is_enum always_sized variants path i kind fields read
-    (subst (λ v. IfOk r (IsSeenAsList v dl repr kind optimizations (map layout_of fields))) (same ∙ ap index (same_place i j read.way there)) here) j there
+    → (j : ℕ) → strategy ≡ OneList j → IfOk r (HasViewOfFields (index j) dl repr (kind_at is_enum always_sized variants j) optimizations (map layout_of (variant_at variants j)))
+seen_at layout_of at index dl repr variants is_enum always_sized optimizations strategy r i kind fields named read same law tail h j there =
+    let here : IfOk r (HasViewOfFields named dl repr kind optimizations (map layout_of fields)) = single_seen layout_of at (index 0) dl repr kind fields optimizations named r law tail h in
+    at_listed (λ k fs. IfOk r (HasViewOfFields (index j) dl repr k optimizations (map layout_of fs))) is_enum always_sized variants strategy i kind fields read
+    (subst (λ v. IfOk r (HasViewOfFields v dl repr kind optimizations (map layout_of fields))) (same ∙ ap index (same_place i j read.way there)) here) j there

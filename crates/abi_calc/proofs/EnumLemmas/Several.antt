@@ -18,12 +18,12 @@ use Rattle.abi_scalar.specs.declared.variants.RangeToInclusive.{RangeToInclusive
 use Rattle.abi_scalar.specs.Lawful.{IsLawfulLayout, IsLawfulNiche}
 use Rattle.abi_univariant.specs.Answer.{IsAnswer}
 use Rattle.abi_univariant.specs.Part.{free_numbers}
-use Rattle.abi_calc.specs.Enums.Beside.{AreToldApart, IsToldByTag}
-use Rattle.abi_calc.specs.Enums.Choice.{IsNicheAnswer, better, takes_niche}
-use Rattle.abi_calc.specs.Enums.Discriminants.{counting_of}
+use Rattle.abi_calc.specs.Enums.Beside.{AreDistinguished, IsToldByTag}
+use Rattle.abi_calc.specs.Enums.Choice.{IsNicheAnswer, preferred_layout, takes_niche}
+use Rattle.abi_calc.specs.Enums.Discriminants.{counted_discriminants}
 use Rattle.abi_calc.specs.Enums.Lists.{AreGoodLists, AreListLayouts, behind_tag, tag_align}
 use Rattle.abi_calc.specs.Enums.Niche.{niche_layout}
-use Rattle.abi_calc.specs.Enums.Path.{is_free}
+use Rattle.abi_calc.specs.Enums.EnumStrategy.{is_free}
 use Rattle.abi_calc.specs.Enums.Promised.{IsSizedEnum}
 use Rattle.abi_calc.specs.Enums.Room.{IsEnumSize}
 use Rattle.abi_calc.specs.Enums.Several.{HasEnumSize, HasTaggedSize, IsAskedAnswer, IsEnumAnswer, better_of}
@@ -85,7 +85,7 @@ module _ {F V H : Type 0} (layout_of : H → LayoutData F V) (at : ℕ → F) (i
 
   -- the better layout is lawful
   pub better_lawful : (tagged : LayoutData F V) (found : Option (LayoutData F V)) → IsLawfulDataLayout dl → IsNicheAnswer AreGoodLists layout_of at index dl repr variants found → IsLawfulLayout dl tagged
-      → IsLawfulLayout dl (better dl tagged found)
+      → IsLawfulLayout dl (preferred_layout dl tagged found)
   better_lawful tagged None law good lawful = lawful
   better_lawful tagged (Some l) law good lawful =
       let h : IsFound l = found_of (Some l) l refl good in
@@ -94,18 +94,18 @@ module _ {F V H : Type 0} (layout_of : H → LayoutData F V) (at : ℕ → F) (i
       (let small : l.size ≤ tagged.size = taken_small dl tagged l takes in let below : tagged.size < size_bound dl = lawful.bound in omega (arith, small, below)))
       (λ leaves. lawful)
 
-  -- its variants are told apart
+  -- its variants are distinguished
   pub better_told : (most : ℕ) → ((i : ℕ) → i ≤ most → place (index i) ≡ i) → length variants ≤ most + 1 → (items : List (V × ℕ)) (tagged : LayoutData F V) (found : Option (LayoutData F V))
       → IsNicheAnswer AreGoodLists layout_of at index dl repr variants found → IsToldByTag dl place (map (map layout_of) variants) items tagged
-      → AreToldApart dl place (map (map layout_of) variants) items (better dl tagged found)
-  better_told most laws few items tagged None good told = inl told
-  better_told most laws few items tagged (Some l) good told =
+      → AreDistinguished dl place (map (map layout_of) variants) items (preferred_layout dl tagged found)
+  better_told most laws few items tagged None good tag_distinguishes = inl tag_distinguishes
+  better_told most laws few items tagged (Some l) good tag_distinguishes =
       let h : IsFound l = found_of (Some l) l refl good in
       let p : IsInNiche (at 0) index dl repr (map (map layout_of) variants) h.lists l = niche_parts (at 0) index dl repr (map (map layout_of) variants) h.lists l h.is in
-      by_both (AreToldApart dl place (map (map layout_of) variants) items) (takes_niche dl tagged l) l tagged
+      by_both (AreDistinguished dl place (map (map layout_of) variants) items) (takes_niche dl tagged l) l tagged
       (λ takes. inr (told_by_niche layout_of at index place dl repr variants h.lists p.niche p.span most laws few h.good h.lawful p.list p.placed p.there p.known p.ends p.enough p.beside l p.is
       (niche_view_tag (at 0) index dl repr (map (map layout_of) variants) h.lists h.lawful l p)))
-      (λ leaves. inl told)
+      (λ leaves. inl tag_distinguishes)
 
   -- ---- the size
 
@@ -116,7 +116,7 @@ module _ {F V H : Type 0} (layout_of : H → LayoutData F V) (at : ℕ → F) (i
     -- the lists leave room, and the size is theirs
     size_taken : (lists : List (LayoutData F V)) (l : LayoutData F V) → 0 < length variants → repr.pack ≡ None → AreGoodLists layout_of at (index 0) dl repr AlwaysSized variants lists
         → niche_layout (at 0) index dl repr (map (map layout_of) variants) lists ≡ Some l → IsTaggedSize dl repr behind (map (map layout_of) variants) tagged.size
-        → IsTaggedSize dl repr AlwaysSized (map (map layout_of) variants) (better dl tagged (Some l)).size
+        → IsTaggedSize dl repr AlwaysSized (map (map layout_of) variants) (preferred_layout dl tagged (Some l)).size
     size_taken lists l some unpacked good is size =
         let whole : l.size ≡ lists_size dl lists = niche_size_is (at 0) index dl repr (map (map layout_of) variants) lists l is in
         let own : IsTaggedSize dl repr AlwaysSized (map (map layout_of) variants) (lists_size dl lists) = tagged_size layout_of at (index 0) dl repr AlwaysSized variants lists some unpacked good in
@@ -128,7 +128,7 @@ module _ {F V H : Type 0} (layout_of : H → LayoutData F V) (at : ℕ → F) (i
 
     by_niche : (lists : List (LayoutData F V)) (found : Option (LayoutData F V)) → 0 < length variants → repr.pack ≡ None → is_free repr ≡ true → AreGoodLists layout_of at (index 0) dl repr AlwaysSized variants lists
         → niche_layout (at 0) index dl repr (map (map layout_of) variants) lists ≡ found → IsTaggedSize dl repr behind (map (map layout_of) variants) tagged.size
-        → IsEnumSize layout_of at (index 0) dl repr behind variants (better dl tagged found).size
+        → IsEnumSize layout_of at (index 0) dl repr behind variants (preferred_layout dl tagged found).size
     by_niche lists None some unpacked free good is size =
         inr (free, lists, good_exact layout_of at (index 0) dl repr AlwaysSized variants lists good, inr (leaves_none layout_of at index dl repr variants lists good is, size))
     by_niche lists (Some l) some unpacked free good is size =
@@ -139,16 +139,16 @@ module _ {F V H : Type 0} (layout_of : H → LayoutData F V) (at : ℕ → F) (i
           inl (
             leaves_room layout_of at index dl repr variants lists good l is,
             size_taken lists l some unpacked good is size,
-            λ t behind_size. tagged_less dl repr (integer_size asked) (tag_align dl repr asked (map (map layout_of) variants)) (map (map layout_of) variants) (better dl tagged (Some l)).size t
+            λ t behind_size. tagged_less dl repr (integer_size asked) (tag_align dl repr asked (map (map layout_of) variants)) (map (map layout_of) variants) (preferred_layout dl tagged (Some l)).size t
                 (size_taken lists l some unpacked good is size) behind_size,
           ),
         )
 
     by_good : (found : Option (LayoutData F V)) (lists : List (LayoutData F V)) → All (All (λ f. IsLawfulLayout dl (layout_of f))) variants → 0 < length variants → repr.pack ≡ None
         → IsNicheAnswer AreGoodLists layout_of at index dl repr variants found → IsTaggedSize dl repr behind (map (map layout_of) variants) tagged.size → AreGoodLists layout_of at (index 0) dl repr behind variants lists
-        → IsEnumSize layout_of at (index 0) dl repr behind variants (better dl tagged found).size
+        → IsEnumSize layout_of at (index 0) dl repr behind variants (preferred_layout dl tagged found).size
     by_good found lists fields some unpacked (inl fixed) size good =
-        subst (λ o. IsEnumSize layout_of at (index 0) dl repr behind variants (better dl tagged o).size) (sym fixed.1) (inl (fixed.0, size))
+        subst (λ o. IsEnumSize layout_of at (index 0) dl repr behind variants (preferred_layout dl tagged o).size) (sym fixed.1) (inl (fixed.0, size))
     by_good found lists fields some unpacked (inr (inl none)) size good =
         absurd (no_first_error layout_of at (index 0) dl repr (integer_size asked) (tag_align dl repr asked (map (map layout_of) variants)) variants lists none.1 fields good none.2)
     by_good found lists fields some unpacked (inr (inr h)) size good = by_niche h.1 found some unpacked h.0 h.2 (sym h.3) size
@@ -156,13 +156,13 @@ module _ {F V H : Type 0} (layout_of : H → LayoutData F V) (at : ℕ → F) (i
   -- the better layout has the enum's size
   pub better_size : (asks : RangeFrom ℤ → RangeToInclusive ℕ → Integer × Bool → Type 0) (values : List ℕ) (tagged : LayoutData F V) (found : Option (LayoutData F V)) → All (All (λ f. IsLawfulLayout dl (layout_of f))) variants
       → 0 < length variants → repr.pack ≡ None → IsNicheAnswer AreGoodLists layout_of at index dl repr variants found
-      → HasTaggedSize layout_of at (index 0) dl repr asks values variants tagged.size → HasEnumSize layout_of at (index 0) dl repr asks values variants (better dl tagged found).size
+      → HasTaggedSize layout_of at (index 0) dl repr asks values variants tagged.size → HasEnumSize layout_of at (index 0) dl repr asks values variants (preferred_layout dl tagged found).size
   better_size asks values tagged found fields some unpacked niche h = (h.0, h.1, h.2, by_good h.0 tagged found h.4.0 fields some unpacked niche h.3 h.4.1)
 
   -- the answer is the better layout, or the error of that with a tag
   pub enum_answer : (number : F → ℕ) (asks : RangeFrom ℤ → RangeToInclusive ℕ → Integer × Bool → Type 0) (items : List (V × ℕ)) (found : Option (LayoutData F V)) → IsNicheAnswer AreListLayouts layout_of at index dl repr variants found
       → (tagged result : Result (LayoutData F V) (LayoutCalculatorError H))
-      → (tagged ≡ Err OutOfMemory) ⊎ IsAskedAnswer layout_of at number (index 0) dl repr asks (counting_of place repr (map (map layout_of) variants) items) variants tagged
+      → (tagged ≡ Err OutOfMemory) ⊎ IsAskedAnswer layout_of at number (index 0) dl repr asks (counted_discriminants place repr (map (map layout_of) variants) items) variants tagged
       → result ≡ better_of dl tagged found → IsEnumAnswer layout_of at number index place dl repr asks variants items result
   enum_answer number asks items found exact tagged result (inl want) is = inl (is ∙ ap (λ r. better_of dl r found) want)
   enum_answer number asks items found exact tagged result (inr asked) is = inr (found, exact, tagged, asked, is)
@@ -172,15 +172,15 @@ pub no_refusal : {A H : Type 0} (e : LayoutCalculatorError H) (a b : A) → IsAn
 no_refusal e a b (inl is) = absurd (cc)
 no_refusal e a b (inr is) = absurd (cc)
 
--- want of memory says nothing of a size
+-- that memory ran out says nothing of a size
 module _ {F V H : Type 0} (layout_of : H → LayoutData F V)
     (HasSize : TargetDataLayout → ReprOptions → (RangeFrom ℤ → RangeToInclusive ℕ → Integer × Bool → Type 0) → List ℕ → List (List H) → ℕ → Type 0)
     (dl : TargetDataLayout) (repr : ReprOptions) (asks : RangeFrom ℤ → RangeToInclusive ℕ → Integer × Bool → Type 0) (values : List ℕ) (variants : List (List H)) where
   pub memory_sized : (r : Result (LayoutData F V) (LayoutCalculatorError H)) → IsErrAnd r (λ e. e ≡ OutOfMemory) → IsSizedEnum layout_of HasSize dl repr asks values variants r
-  memory_sized (Ok l) told = absurd told
-  memory_sized (Err e) told = record {
+  memory_sized (Ok l) tag_distinguishes = absurd tag_distinguishes
+  memory_sized (Err e) tag_distinguishes = record {
     size = tt;
     too_large = λ is. absurd (cc);
-    refused = λ sized large. inr (ap (λ x. Err x) told);
-    no_other = λ sized. inr told;
+    refused = λ sized large. inr (ap (λ x. Err x) tag_distinguishes);
+    no_other = λ sized. inr tag_distinguishes;
   }

@@ -12,17 +12,17 @@ use Rattle.abi_scalar.specs.declared.scalar.Scalar.{Scalar}
 use Rattle.abi_scalar.specs.declared.scalar.Scalar.TheVariants.{Initialized, Union}
 use Rattle.abi_scalar.specs.Lawful.{IsLawfulLayout, IsLawfulView}
 use Rattle.abi_scalar.specs.Scalar.{IsLawfulScalar, scalar_size}
-use Rattle.abi_calc.specs.Enums.Single.{HasLawfulScalars, single_layout, widened, widened_view}
+use Rattle.abi_calc.specs.Enums.Single.{HasWellFormedScalars, single_layout, widened_scalar, widened_view}
 
 -- a scalar that holds every number is as lawful as one that holds some
-pub widened_lawful : (dl : TargetDataLayout) (scalar : Scalar) → IsLawfulScalar dl scalar → IsLawfulScalar dl (widened dl scalar)
+pub widened_lawful : (dl : TargetDataLayout) (scalar : Scalar) → IsLawfulScalar dl scalar → IsLawfulScalar dl (widened_scalar dl scalar)
 widened_lawful dl (Initialized value range) h =
     let some : 0 < 2 ^ (8 * primitive_size dl value) = pow_pos (8 * primitive_size dl value) in
     record { pointer = h.pointer; within = (some, omega arith) }
 widened_lawful dl (Union value) h = h
 
 -- and it is as large
-widened_size : (dl : TargetDataLayout) (scalar : Scalar) → scalar_size dl (widened dl scalar) ≡ scalar_size dl scalar
+widened_size : (dl : TargetDataLayout) (scalar : Scalar) → scalar_size dl (widened_scalar dl scalar) ≡ scalar_size dl scalar
 widened_size dl (Initialized value range) = refl
 widened_size dl (Union value) = refl
 
@@ -38,7 +38,7 @@ widened_view_lawful dl size (SimdScalableVector e n w) h = widened_lawful dl e h
 widened_view_lawful dl size (Memory sized) h = tt
 
 -- the scalars of a lawful view are lawful
-pub scalars_lawful : (dl : TargetDataLayout) (size : ℕ) (view : BackendRepr) → IsLawfulView dl size view → HasLawfulScalars dl view
+pub scalars_lawful : (dl : TargetDataLayout) (size : ℕ) (view : BackendRepr) → IsLawfulView dl size view → HasWellFormedScalars dl view
 scalars_lawful dl size (OneScalar s) h = h.0
 scalars_lawful dl size (ScalarPair a b o) h = (h.0, h.1)
 scalars_lawful dl size (SimdVector e n) h = h

@@ -17,7 +17,7 @@ use Rattle.abi_univariant.specs.Fields.{greatest, greatest_size}
 use Rattle.abi_univariant.specs.Least.{IsEachOrderTooLarge, IsLeastSize, align_by, size_by}
 use Rattle.abi_univariant.specs.List.{AreSized}
 use Rattle.abi_univariant.specs.Part.{parts_of}
-use Rattle.abi_univariant.specs.Placement.{IsNonEmptyIfUnsized, IsSized, cut, list_repr, own_align, prefix_align}
+use Rattle.abi_univariant.specs.Placement.{IsNonEmptyIfUnsized, IsSized, cut, fields_repr, own_align, prefix_align}
 use Rattle.abi_univariant.proofs.Promised.LeastLemmas.{large_in_each, sized_error}
 use Rattle.abi_univariant.proofs.Sorted.Tight.{greatest_from}
 use Rattle.abi_calc.specs.Enums.Lists.{AreGoodLists, IsFirstListError, IsGoodList}
@@ -66,8 +66,8 @@ module _ {F V : Type 0} (dl : TargetDataLayout) (repr : ReprOptions) (kind : Str
   pub align_least : (fields : List (LayoutData F V)) → repr.pack ≡ None → dl.aggregate_align ≤ align_by dl repr kind fields
   align_least fields e =
       let own : own_align dl repr ≡ dl.aggregate_align = own_least dl repr e in
-      let from : max (list_repr dl repr kind).align (prefix_align repr.pack kind) ≤ align_by dl repr kind fields
-      = greatest_from (λ (p : Part). cut repr.pack p.align) (max (list_repr dl repr kind).align (prefix_align repr.pack kind)) (parts_of dl fields) in
+      let from : max (fields_repr dl repr kind).align (prefix_align repr.pack kind) ≤ align_by dl repr kind fields
+      = greatest_from (λ (p : Part). cut repr.pack p.align) (max (fields_repr dl repr kind).align (prefix_align repr.pack kind)) (parts_of dl fields) in
       omega (arith, own, from)
 
   -- and neither are some variants' lists together

@@ -1,4 +1,4 @@
--- A type with variants has an answer that doesn't tell of want of memory.
+-- A type with variants has an answer that doesn't tell of that memory ran out.
 use Rattle.std.proofs.Common.{◌≡◌, ℕ, zero, suc, ◌<◌, List, [], ◌∷◌, Option, Some, None, Bool, true, false, length, map, arith, inl, inr, refl, sym, ap, ◌∙◌, subst}
 use Rattle.std.specs.Prelude.{◌⊎◌, All, fold, ℤ, pos, negsuc, ◌≤ℤ◌, Result, Ok, Err, is_some, slice_get}
 use Rattle.std.specs.Int.{int_max, int_min}
@@ -25,28 +25,28 @@ use Rattle.abi_scalar.specs.Lawful.{IsLawfulLayout}
 use Rattle.abi_scalar.specs.Repr.{is_abi_fixed}
 use Rattle.abi_scalar.specs.Simple.{never_layout}
 use Rattle.abi_univariant.specs.declared.order.NicheBias.TheVariants.{Start}
-use Rattle.abi_univariant.specs.declared.placing.ListFault.{ListFault}
-use Rattle.abi_univariant.specs.declared.placing.ListFault.TheVariants.{Unsized, TooLarge, OutOfMemory}
+use Rattle.abi_univariant.specs.declared.placing.FieldsFault.{FieldsFault}
+use Rattle.abi_univariant.specs.declared.placing.FieldsFault.TheVariants.{Unsized, TooLarge, OutOfMemory}
 use Rattle.abi_univariant.specs.Fault.{IsErrorOf, IsFaultIndex, fault_in}
 use Rattle.abi_univariant.specs.Fields.{greatest_repr_align, lies_as_in_c}
-use Rattle.abi_univariant.specs.List.{IsListAnswer, IsListError, IsListLayout, list_seed, unadjusted_of}
+use Rattle.abi_univariant.specs.List.{IsUnivariantAnswer, IsUnivariantError, IsUnivariantLayout, list_seed, unadjusted_of}
 use Rattle.abi_univariant.specs.ListView.{list_view}
 use Rattle.abi_univariant.specs.Order.{IsNamedOrder}
 use Rattle.abi_univariant.specs.Part.{parts_of}
-use Rattle.abi_univariant.specs.Placement.{IsNonEmptyIfUnsized, list_repr}
+use Rattle.abi_univariant.specs.Placement.{IsNonEmptyIfUnsized, fields_repr}
 use Rattle.abi_univariant.specs.Run.{IsNamedLayout}
 use Rattle.abi_univariant.proofs.Placed.FaultLemmas.{memory_in}
 use Rattle.abi_univariant.proofs.Layouts.ListLemmas.{fault_named, length-parts, parts_lawful}
 use Rattle.abi_univariant.proofs.Layouts.SomeOrder.{some_layout}
-use Rattle.abi_calc.specs.declared.enums.path.Path.{Path}
-use Rattle.abi_calc.specs.declared.enums.path.Path.TheVariants.{NoValue, OneList, Several}
+use Rattle.abi_calc.specs.declared.enums.strategy.EnumStrategy.{EnumStrategy}
+use Rattle.abi_calc.specs.declared.enums.strategy.EnumStrategy.TheVariants.{NoValue, OneList, Several}
 use Rattle.abi_calc.specs.Enums.Answer.{IsTypeAnswer, kind_at}
 use Rattle.abi_calc.specs.Enums.Choice.{IsNicheAnswer}
-use Rattle.abi_calc.specs.Enums.Discriminants.{IsAskedWith, counting_of, meant_by}
+use Rattle.abi_calc.specs.Enums.Discriminants.{IsAskedWith, counted_discriminants, meant_by}
 use Rattle.abi_calc.specs.Enums.Growth.{grown_tag, start_align}
 use Rattle.abi_calc.specs.Enums.Lists.{AreListLayouts, IsFirstListError, behind_tag}
 use Rattle.abi_calc.specs.Enums.Niche.{niche_layout}
-use Rattle.abi_calc.specs.Enums.Path.{is_free, variant_at}
+use Rattle.abi_calc.specs.Enums.EnumStrategy.{is_free, variant_at}
 use Rattle.abi_calc.specs.Enums.Several.{IsAskedAnswer, IsEnumAnswer, IsSeveralAnswer, better_of}
 use Rattle.abi_calc.specs.Enums.Single.{IsSingleAnswer, single_layout}
 use Rattle.abi_calc.specs.Enums.Tagged.{IsTaggedAnswer, lists_size, tagged_layout}
@@ -54,11 +54,11 @@ use Rattle.abi_calc.proofs.EnumLemmas.Discriminants.{greatest_reached, least_rea
 use Rattle.abi_calc.proofs.EnumLemmas.OneEnum.{AreFull, IsMade, all_full, single_full}
 use Rattle.abi_calc.proofs.EnumLemmas.OneRange.{some_tag_range}
 
--- some result has the property, and isn't want of memory
+-- some result has the property, and isn't that memory ran out
 abbrev pub HasAnswer : {H : Type 0} → (Result (LayoutData ℕ ℕ) (LayoutCalculatorError H) → Type 0) → Type 0
 HasAnswer {H} P = (r : Result (LayoutData ℕ ℕ) (LayoutCalculatorError H)) × P r × IsMade r
 
--- some error has the property, and isn't want of memory
+-- some error has the property, and isn't that memory ran out
 abbrev pub HasError : {H : Type 0} → (LayoutCalculatorError H → Type 0) → Type 0
 HasError {H} P = (e : LayoutCalculatorError H) × P e × (e ≡ calculator.OutOfMemory → ⊥)
 
@@ -74,7 +74,7 @@ item_at (x ∷ xs) zero short = (x, refl)
 item_at (x ∷ xs) (suc i) short = item_at xs i (omega arith)
 
 -- a fault of fields has an error
-some_error_of : {H : Type 0} (fields : List H) (fault : ListFault) → IsFaultIndex (length fields) fault → (fault ≡ OutOfMemory → ⊥) → HasError (IsErrorOf fields fault)
+some_error_of : {H : Type 0} (fields : List H) (fault : FieldsFault) → IsFaultIndex (length fields) fault → (fault ≡ OutOfMemory → ⊥) → HasError (IsErrorOf fields fault)
 some_error_of fields (Unsized i) there other =
     let item = item_at fields i there in
     (calculator.UnexpectedUnsized item.0, (item.0, item.1, refl), λ e. cc)
@@ -92,21 +92,21 @@ module _ {F V H : Type 0} (layout_of : H → LayoutData F V) (at : ℕ → F) (h
 
   -- the list has a layout, or an error
   abbrev pub IsListed : List H → Type 0
-  IsListed fields = ((list : LayoutData F V) × IsListAnswer layout_of at head dl repr kind fields (Ok list)) ⊎ HasError (IsListError layout_of dl repr kind fields)
+  IsListed fields = ((list : LayoutData F V) × IsUnivariantAnswer layout_of at head dl repr kind fields (Ok list)) ⊎ HasError (IsUnivariantError layout_of dl repr kind fields)
 
-  refused : (fields : List H) (first : List ℕ) (fault : ListFault) → IsNonEmptyIfUnsized kind (length fields) → IsNamedOrder (list_repr dl repr kind) Start (parts_of dl (map layout_of fields)) first
-      → fault_in (list_repr dl repr kind) (size_bound dl) (parts_of dl (map layout_of fields)) first ≡ Some fault → HasError (IsListError layout_of dl repr kind fields)
+  refused : (fields : List H) (first : List ℕ) (fault : FieldsFault) → IsNonEmptyIfUnsized kind (length fields) → IsNamedOrder (fields_repr dl repr kind) Start (parts_of dl (map layout_of fields)) first
+      → fault_in (fields_repr dl repr kind) (size_bound dl) (parts_of dl (map layout_of fields)) first ≡ Some fault → HasError (IsUnivariantError layout_of dl repr kind fields)
   refused fields first fault some named there =
       let parts = parts_of dl (map layout_of fields) in
-      let list = list_repr dl repr kind in
+      let list = fields_repr dl repr kind in
       let index : IsFaultIndex (length parts) fault = fault_named list dl parts fault (as_many fields some) (inl (first, named, there)) in
       let other : fault ≡ OutOfMemory → ⊥ = λ e. memory_in list (size_bound dl) parts first (there ∙ ap (λ f. Some f) e) in
       let error = some_error_of fields fault (subst (λ n. IsFaultIndex n fault) (length-parts layout_of dl fields) index) other in
       (error.0, (first, named, fault, there, error.1), error.2)
 
   laid : (fields : List H) (order offsets : List ℕ) (size align : ℕ) (niche : Option Niche)
-      → IsNamedLayout dl (list_repr dl repr kind) (parts_of dl (map layout_of fields)) order offsets size align niche
-      → (list : LayoutData F V) × IsListAnswer layout_of at head dl repr kind fields (Ok list)
+      → IsNamedLayout dl (fields_repr dl repr kind) (parts_of dl (map layout_of fields)) order offsets size align niche
+      → (list : LayoutData F V) × IsUnivariantAnswer layout_of at head dl repr kind fields (Ok list)
   laid fields order offsets size align niche named =
       let layouts = map layout_of fields in
       let made : LayoutData F V = record {
@@ -122,7 +122,7 @@ module _ {F V H : Type 0} (layout_of : H → LayoutData F V) (at : ℕ → F) (h
         repr_c = lies_as_in_c repr layouts;
         randomization_seed = list_seed repr kind layouts;
       } in
-      let is : IsListLayout at head dl repr kind layouts order offsets made = record {
+      let is : IsUnivariantLayout at head dl repr kind layouts order offsets made = record {
         named = named;
         shape = refl;
         variants = refl;
@@ -138,12 +138,12 @@ module _ {F V H : Type 0} (layout_of : H → LayoutData F V) (at : ℕ → F) (h
   -- a list of lawful fields has a layout or an error
   pub some_listed : (fields : List H) → AreLawful fields → IsNonEmptyIfUnsized kind (length fields) → IsListed fields
   some_listed fields law some =
-      either (some_layout dl (list_repr dl repr kind) (parts_of dl (map layout_of fields)) (parts_lawful layout_of dl fields law) (as_many fields some))
+      either (some_layout dl (fields_repr dl repr kind) (parts_of dl (map layout_of fields)) (parts_lawful layout_of dl fields law) (as_many fields some))
     where
-      either : ((first : List ℕ) × IsNamedOrder (list_repr dl repr kind) Start (parts_of dl (map layout_of fields)) first
-          × ((fault : ListFault) × (fault_in (list_repr dl repr kind) (size_bound dl) (parts_of dl (map layout_of fields)) first ≡ Some fault)))
+      either : ((first : List ℕ) × IsNamedOrder (fields_repr dl repr kind) Start (parts_of dl (map layout_of fields)) first
+          × ((fault : FieldsFault) × (fault_in (fields_repr dl repr kind) (size_bound dl) (parts_of dl (map layout_of fields)) first ≡ Some fault)))
           ⊎ ((order : List ℕ) × (offsets : List ℕ) × (size : ℕ) × (align : ℕ) × (niche : Option Niche)
-          × IsNamedLayout dl (list_repr dl repr kind) (parts_of dl (map layout_of fields)) order offsets size align niche)
+          × IsNamedLayout dl (fields_repr dl repr kind) (parts_of dl (map layout_of fields)) order offsets size align niche)
           → IsListed fields
       either (inl (first, named, (fault, there))) = inr (refused fields first fault some named there)
       either (inr (order, offsets, size, align, niche, named)) = inl (laid fields order offsets size align niche named)
@@ -232,7 +232,7 @@ module _ {H : Type 0} (layout_of : H → LayoutData ℕ ℕ) (dl : TargetDataLay
     pub some_enum : (items : List (ℕ × ℕ)) → HasAnswer (IsEnumAnswer layout_of (λ i. i) (λ i. i) (λ i. i) (λ i. i) dl repr asks variants items)
     some_enum items =
         let niche = some_niche layout_of (λ i. i) (λ i. i) dl repr variants law in
-        let tagged = some_asked_answer (counting_of (λ i. i) repr (map (map layout_of) variants) items) in
+        let tagged = some_asked_answer (counted_discriminants (λ i. i) repr (map (map layout_of) variants) items) in
         (better_of dl tagged.0 niche.0, inr (niche.0, niche.1, tagged.0, tagged.1, refl), better_made tagged.0 niche.0 tagged.2)
 
     -- where discriminants are given and the question has an answer, an enum of several variants has one
@@ -264,8 +264,8 @@ at_place P (fields ∷ variants) (suc i) all = at_place P variants i (All-tail (
 -- where discriminants are given and the question has an answer, a type with variants has one
 pub some_type : {H : Type 0} (layout_of : H → LayoutData ℕ ℕ) (dl : TargetDataLayout) (repr : ReprOptions) (variants : List (List H)) → All (All (λ f. IsLawfulLayout dl (layout_of f))) variants
     → (is_enum always_sized : Bool) (optimizations : NicheOptimizations) (asks : RangeFrom ℤ → RangeToInclusive ℕ → Integer × Bool → Type 0)
-    → ((from : RangeFrom ℤ) (to : RangeToInclusive ℕ) → (x : Integer × Bool) × asks from to x) → (gives : List (ℕ × ℕ) → Type 0) (items : List (ℕ × ℕ)) → gives items → (path : Path)
-    → HasAnswer (IsTypeAnswer layout_of (λ i. i) (λ i. i) (λ i. i) (λ i. i) dl repr variants is_enum always_sized optimizations asks gives path)
+    → ((from : RangeFrom ℤ) (to : RangeToInclusive ℕ) → (x : Integer × Bool) × asks from to x) → (gives : List (ℕ × ℕ) → Type 0) (items : List (ℕ × ℕ)) → gives items → (strategy : EnumStrategy)
+    → HasAnswer (IsTypeAnswer layout_of (λ i. i) (λ i. i) (λ i. i) (λ i. i) dl repr variants is_enum always_sized optimizations asks gives strategy)
 some_type layout_of dl repr variants law is_enum always_sized optimizations asks total gives items given NoValue = (Ok (never_layout dl), refl, λ e. cc)
 some_type layout_of dl repr variants law is_enum always_sized optimizations asks total gives items given (OneList i) =
     some_single layout_of dl repr (kind_at is_enum always_sized variants i) i optimizations (variant_at variants i)

@@ -18,7 +18,7 @@ use Rattle.abi_univariant.specs.declared.part.Part.{Part}
 use Rattle.abi_univariant.specs.Apart.{AreApart, IsBeside}
 use Rattle.abi_univariant.specs.Least.{IsOrderOf, align_by, size_by}
 use Rattle.abi_univariant.specs.Part.{part_of, parts_of}
-use Rattle.abi_univariant.specs.Placement.{IsAllowed, cut, end_from, in_order, list_repr, place_of, start_of}
+use Rattle.abi_univariant.specs.Placement.{IsAllowed, cut, end_from, in_order, fields_repr, place_of, start_of}
 use Rattle.abi_univariant.proofs.Offsets.Ends.{Capped, end_from-mono}
 use Rattle.abi_univariant.proofs.Offsets.Rounding.{pow_dvd, round_add, round_mono, rounded_to}
 use Rattle.abi_univariant.proofs.Sorted.Least.{allowed_permutes}
@@ -154,7 +154,7 @@ module _ {F V : Type 0} (dl : TargetDataLayout) (repr : ReprOptions) (size align
   parts = parts_of dl fields
 
   abbrev own : ℕ
-  own = (list_repr dl repr AlwaysSized).align
+  own = (fields_repr dl repr AlwaysSized).align
 
   -- no field is aligned to more
   each_below : All (λ (p : Part). cut repr.pack p.align ≤ top) parts
@@ -175,14 +175,14 @@ module _ {F V : Type 0} (dl : TargetDataLayout) (repr : ReprOptions) (size align
       let k : ℕ = next_multiple_of size (2 ^ top) in
       let cuts : cut repr.pack align ≤ align = cut_below repr.pack align in
       let start : start_of repr.pack (Prefixed size align) ≤ k = round_lower size size (cut repr.pack align) top (omega arith) (omega (arith, cuts, small)) in
-      let named : IsAllowed (list_repr dl repr AlwaysSized) (length parts) order = subst (λ n. IsAllowed (list_repr dl repr AlwaysSized) n order) (sym (length-map fields (λ f. part_of dl f))) allowed in
+      let named : IsAllowed (fields_repr dl repr AlwaysSized) (length parts) order = subst (λ n. IsAllowed (fields_repr dl repr AlwaysSized) n order) (sym (length-map fields (λ f. part_of dl f))) allowed in
       let lying : List Part = in_order parts order in
       let caps : Capped repr.pack top lying
-      = capped repr.pack top lying (All-permutation (λ (p : Part). cut repr.pack p.align ≤ top) parts lying (in_order-permutation parts order (allowed_permutes (list_repr dl repr AlwaysSized) (length parts) order named)) each_below) in
+      = capped repr.pack top lying (All-permutation (λ (p : Part). cut repr.pack p.align ≤ top) parts lying (in_order-permutation parts order (allowed_permutes (fields_repr dl repr AlwaysSized) (length parts) order named)) each_below) in
       let end : ℕ = end_from repr.pack 0 lying in
       let later : end_from repr.pack (start_of repr.pack (Prefixed size align)) lying ≤ end_from repr.pack (0 + k) lying = end_from-mono repr.pack (start_of repr.pack (Prefixed size align)) (0 + k) lying (omega (arith, start)) in
-      let moved : end_from repr.pack (0 + k) lying ≡ end + k = shifted repr.pack top k 0 lying caps (rounded_to size top).multiple in
-      let up : size_by dl repr (Prefixed size align) fields order ≤ next_multiple_of (end + k) (2 ^ top) = round_lower _ (end + k) (align_by dl repr (Prefixed size align) fields) top (omega (arith, later, moved)) align_behind in
+      let moved_offset : end_from repr.pack (0 + k) lying ≡ end + k = shifted repr.pack top k 0 lying caps (rounded_to size top).multiple in
+      let up : size_by dl repr (Prefixed size align) fields order ≤ next_multiple_of (end + k) (2 ^ top) = round_lower _ (end + k) (align_by dl repr (Prefixed size align) fields) top (omega (arith, later, moved_offset)) align_behind in
       let apart : next_multiple_of end (2 ^ top) + k ≡ next_multiple_of (end + k) (2 ^ top) = round_add end top k (rounded_to size top).multiple in
       let ends : end ≤ size_by dl repr AlwaysSized fields order = (rounded_to end (align_by dl repr AlwaysSized fields)).above in
       let more : next_multiple_of end (2 ^ top) ≤ next_multiple_of whole (2 ^ top) = round_mono end whole top (omega (arith, ends, fits)) in

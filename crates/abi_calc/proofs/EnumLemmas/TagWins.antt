@@ -29,14 +29,14 @@ use Rattle.abi_univariant.specs.Fields.{greatest, greatest_align, greatest_size}
 use Rattle.abi_univariant.specs.Least.{align_by}
 use Rattle.abi_univariant.specs.List.{HasLawfulAligns}
 use Rattle.abi_univariant.specs.Part.{free_numbers, part_of, parts_of}
-use Rattle.abi_univariant.specs.Placement.{cut, list_repr}
+use Rattle.abi_univariant.specs.Placement.{cut, fields_repr}
 use Rattle.abi_univariant.proofs.Sorted.Prefixes.{round_lower}
 use Rattle.abi_univariant.proofs.Sorted.Tight.{greatest_above}
 use Rattle.abi_calc.specs.Enums.Bounds.{greatest_free, greatest_of_all, least_left, least_whole, left_beside, most_free, tag_wins}
-use Rattle.abi_calc.specs.Enums.Choice.{IsNicheAnswer, better, takes_niche}
+use Rattle.abi_calc.specs.Enums.Choice.{IsNicheAnswer, preferred_layout, takes_niche}
 use Rattle.abi_calc.specs.Enums.Lists.{AreGoodLists, AreListLayouts, IsGoodList, align_with_all}
 use Rattle.abi_calc.specs.Enums.Niche.{span_count, untagged_of}
-use Rattle.abi_calc.specs.Enums.Path.{variant_at}
+use Rattle.abi_calc.specs.Enums.EnumStrategy.{variant_at}
 use Rattle.abi_calc.specs.Enums.Several.{IsBestAnswer, IsBetterAnswer, better_of}
 use Rattle.abi_calc.specs.Enums.Tagged.{IsTaggedAnswer, lists_align, lists_size}
 use Rattle.abi_calc.proofs.EnumLemmas.Bounds.{beside_niche}
@@ -87,17 +87,17 @@ start_free : (all start end count : ℕ) → start < all → end < all → count
     → ((start + all - count) % all + all - (end + 1)) % all ≤ (start + all - (end + 1)) % all
 start_free all start end count s e room =
     let old = free_by_comparison all start end s e in
-    let moved = cut_once all (start + all - count) (omega (arith, s)) in
-    let new = free_by_comparison all ((start + all - count) % all) end moved.below e in
-    grind (arith, old.is, old.below, moved.is, new.is)
+    let moved_offset = cut_once all (start + all - count) (omega (arith, s)) in
+    let new = free_by_comparison all ((start + all - count) % all) end moved_offset.below e in
+    grind (arith, old.is, old.below, moved_offset.is, new.is)
 
 end_free : (all start end count : ℕ) → start < all → end < all → count ≤ (start + all - (end + 1)) % all
     → (start + all - ((end + count) % all + 1)) % all ≤ (start + all - (end + 1)) % all
 end_free all start end count s e room =
     let old = free_by_comparison all start end s e in
-    let moved = cut_once all (end + count) (omega (arith, e, old.below, room)) in
-    let new = free_by_comparison all start ((end + count) % all) s moved.below in
-    grind (arith, old.is, old.below, moved.is, new.is)
+    let moved_offset = cut_once all (end + count) (omega (arith, e, old.below, room)) in
+    let new = free_by_comparison all start ((end + count) % all) s moved_offset.below in
+    grind (arith, old.is, old.below, moved_offset.is, new.is)
 
 -- a scalar's niche has no more free numbers than its range leaves
 niche_free : (dl : TargetDataLayout) (offset : ℕ) (value : Primitive) (range : WrappingRange) → free_numbers dl (niche_at dl offset (Initialized value range)) ≤ free_count (primitive_size dl value) range
@@ -168,7 +168,7 @@ module _ {F V H : Type 0} (layout_of : H → LayoutData F V) (at : ℕ → F) (i
       let is : list.align.abi ≡ align_by dl repr AlwaysSized (map layout_of fields) = good.placed.2.alignment in
       let below : greatest (map (λ f. f.align.abi) (map layout_of fields)) ≤ align_by dl repr AlwaysSized (map layout_of fields)
       = aligns_below (align_by dl repr AlwaysSized (map layout_of fields)) (map layout_of fields) unpacked
-      (greatest_above (λ p. cut repr.pack p.align) (max (list_repr dl repr AlwaysSized).align 0) (parts_of dl (map layout_of fields))) in
+      (greatest_above (λ p. cut repr.pack p.align) (max (fields_repr dl repr AlwaysSized).align 0) (parts_of dl (map layout_of fields))) in
       omega (arith, is, below)
 
   aligns_within : (own top : ℕ) (variants : List (List H)) (lists : List (LayoutData F V)) → repr.pack ≡ None → AreGoodLists layout_of at (index 0) dl repr AlwaysSized variants lists → own ≤ top
@@ -231,7 +231,7 @@ module _ {F V H : Type 0} (layout_of : H → LayoutData F V) (at : ℕ → F) (i
 
     -- a layout with a tag that wins is the better one, whatever else there is
     tag_better : repr.pack ≡ None → (tagged : LayoutData F V) → tag_wins dl (least_whole dl vs) (most_free dl repr vs) tagged ≡ true → (found : Option (LayoutData F V))
-        → IsNicheAnswer AreGoodLists layout_of at index dl repr variants found → better dl tagged found ≡ tagged
+        → IsNicheAnswer AreGoodLists layout_of at index dl repr variants found → preferred_layout dl tagged found ≡ tagged
     tag_better unpacked tagged won None niche = refl
     tag_better unpacked tagged won (Some l) niche =
         let two = and_parts (nat_le tagged.size (least_whole dl vs)) (nat_le (most_free dl repr vs) (free_numbers dl tagged.largest_niche)) won in
@@ -286,7 +286,7 @@ module _ {F V H : Type 0} (layout_of : H → LayoutData F V) (at : ℕ → F) (i
 
         -- the better of a layout with a tag and of one with a niche, if there is one
         pub beside_answer : (tagged : LayoutData F V) → IsByTag (Ok tagged) → (r : Result (LayoutData F V) (LayoutCalculatorError H))
-            → (r ≡ Err OutOfMemory) ⊎ ((niche : Option (LayoutData F V)) × IsNicheAnswer AreListLayouts layout_of at index dl repr variants niche × (r ≡ Ok (better dl tagged niche)))
+            → (r ≡ Err OutOfMemory) ⊎ ((niche : Option (LayoutData F V)) × IsNicheAnswer AreListLayouts layout_of at index dl repr variants niche × (r ≡ Ok (preferred_layout dl tagged niche)))
             → (r ≡ Err OutOfMemory) ⊎ IsBest r
         beside_answer tagged by r (inl want) = inl want
         beside_answer tagged by r (inr (niche, exact, is)) = inr (niche, exact, (Ok tagged, by, is))
@@ -295,14 +295,14 @@ module _ {F V H : Type 0} (layout_of : H → LayoutData F V) (at : ℕ → F) (i
         pub one_answer : (niche : LayoutData F V) → IsNicheAnswer AreListLayouts layout_of at index dl repr variants (Some niche) → (r : Result (LayoutData F V) (LayoutCalculatorError H))
             → (r ≡ Err OutOfMemory) ⊎ IsBetterAnswer layout_of at number (index 0) dl repr asked signed values variants (Some niche) r → (r ≡ Err OutOfMemory) ⊎ IsBest r
         one_answer niche exact r (inl want) = inl want
-        one_answer niche exact r (inr better) = inr (Some niche, exact, better)
+        one_answer niche exact r (inr preferred_layout) = inr (Some niche, exact, preferred_layout)
 
         -- the answer, by the layout with a niche that the rules give
         pub by_niche : (r : Result (LayoutData F V) (LayoutCalculatorError H)) → (r ≡ Err OutOfMemory) ⊎ IsBest r
             → (niche : Option (LayoutData F V)) × IsNicheAnswer AreListLayouts layout_of at index dl repr variants niche
             × ((r ≡ Err OutOfMemory) ⊎ IsBetterAnswer layout_of at number (index 0) dl repr asked signed values variants niche r)
         by_niche r (inl want) = let niche = some_niche layout_of at index dl repr variants fields in (niche.0, niche.1, inl want)
-        by_niche r (inr (niche, exact, better)) = (niche, exact, inr better)
+        by_niche r (inr (niche, exact, preferred_layout)) = (niche, exact, inr preferred_layout)
 
 -- what holds anyway holds of a layout
 pub holds_anyway : {A E : Type 0} (P : Type 0) (r : Result A E) → P → IfOk r (λ l. P)

@@ -29,7 +29,7 @@ use Rattle.abi_scalar.specs.Lawful.{IsLawfulLayout}
 use Rattle.abi_univariant.specs.Fields.{greatest_align, greatest_size}
 use Rattle.abi_univariant.proofs.Views.Lawful.{aggregate_small}
 use Rattle.abi_univariant.proofs.UnionsVectors.UnionLawful.{greatest_size_small}
-use Rattle.abi_calc.specs.Enums.Tagged.{IsTaggedAnswer, IsTaggedBy, layout_seen_as, lists_align, lists_size, payloads_of, tagged_layout}
+use Rattle.abi_calc.specs.Enums.Tagged.{IsTaggedAnswer, IsTaggedBy, layout_with_view, lists_align, lists_size, payloads_of, tagged_layout}
 use Rattle.abi_calc.proofs.EnumLemmas.Lists.{align_small}
 
 -- lawful lists are small
@@ -95,11 +95,11 @@ pub tagged_exact : {F V : Type 0} (number : F → ℕ) (first : F) (dl : TargetD
     (variants : List (List (LayoutData F V))) (lists : List (LayoutData F V)) (old size align : ℕ) (view : BackendRepr) (layout : LayoutData F V)
     → grown ≡ grown_tag dl repr asked (start_align number variants lists) → old ≡ integer_size asked → size ≡ lists_size dl lists → align ≡ lists_align dl lists
     → view ≡ tagged_view dl (Initialized (Int grown signed) range) size align (payloads_of dl old (integer_size grown) variants lists)
-    → layout ≡ layout_seen_as first dl repr old (Initialized (Int grown signed) range) (integer_size grown) lists view
+    → layout ≡ layout_with_view first dl repr old (Initialized (Int grown signed) range) (integer_size grown) lists view
     → layout ≡ tagged_layout number first dl repr asked signed range variants lists
 tagged_exact number first dl repr asked grown signed range variants lists old size align view layout eg eo es ea ev el =
-    el ∙ ap (λ v. layout_seen_as first dl repr old (Initialized (Int grown signed) range) (integer_size grown) lists v) ev
-    ∙ (λ i. layout_seen_as first dl repr (eo i) (Initialized (Int (eg i) signed) range) (integer_size (eg i)) lists
+    el ∙ ap (λ v. layout_with_view first dl repr old (Initialized (Int grown signed) range) (integer_size grown) lists v) ev
+    ∙ (λ i. layout_with_view first dl repr (eo i) (Initialized (Int (eg i) signed) range) (integer_size (eg i)) lists
     (tagged_view dl (Initialized (Int (eg i) signed) range) (es i) (ea i) (payloads_of dl (eo i) (integer_size (eg i)) variants lists)))
 
 -- ---- the answer

@@ -1,4 +1,4 @@
--- What tells the variants of an enum apart, and what follows of its size.
+-- What says the variants of an enum apart, and what follows of its size.
 use Rattle.std.proofs.Common.{◌≢◌, ℕ, ◌%◌, Bool, true, false, List, [], ◌∷◌, ap, map, subst}
 use Rattle.std.specs.Prelude.{◌||◌, All, IfOk, ℤ, Result, Ok, Err, filter, if◌then◌else◌, not}
 use Rattle.std.specs.List.{AllPairs}
@@ -19,15 +19,15 @@ use Rattle.abi_scalar.specs.Repr.{is_c}
 use Rattle.abi_scalar.specs.Scalar.{IsNumberOf, scalar_size}
 use Rattle.abi_scalar.specs.Variant.{variant_of, variants_of}
 use Rattle.abi_calc.specs.Enums.Beside.{IsToldByTag}
-use Rattle.abi_calc.specs.Enums.Discriminants.{counting_of, counts, inhabited_of}
+use Rattle.abi_calc.specs.Enums.Discriminants.{counted_discriminants, counts, inhabited_of}
 use Rattle.abi_calc.specs.Enums.Filled.{IsFilled}
 use Rattle.abi_calc.specs.Enums.Growth.{grown_tag, grown_variant, start_align}
 use Rattle.abi_calc.specs.Enums.Lists.{HaveGoodLists, behind_tag}
-use Rattle.abi_calc.specs.Enums.Payload.{seen_as, tagged_view}
+use Rattle.abi_calc.specs.Enums.Payload.{variant_with_view, tagged_view}
 use Rattle.abi_calc.specs.Enums.Promised.{IsPlacedByTag}
 use Rattle.abi_calc.specs.Enums.Several.{HasTaggedSize, IsAskedFor}
 use Rattle.abi_calc.specs.Enums.Sizes.{IsTaggedSize}
-use Rattle.abi_calc.specs.Enums.Path.{has_no_value, variant_at}
+use Rattle.abi_calc.specs.Enums.EnumStrategy.{has_no_value, variant_at}
 use Rattle.abi_calc.specs.Enums.Places.{AreApartAmong, AreNumbersAmong, BeginsWithTagOf}
 use Rattle.abi_calc.specs.Enums.Tagged.{IsTaggedAnswer, lists_align, lists_size, payloads_of}
 use Rattle.abi_calc.proofs.EnumLemmas.Promised.{differ_wider}
@@ -45,7 +45,7 @@ narrowed P false false item ks js rest all = rest all
 
 -- each of them counts
 pub inhabited_count : {F V : Type 0} (P : ℕ → Type 0) (place : V → ℕ) (repr : ReprOptions) (variants : List (List (LayoutData F V))) (items : List (V × ℕ))
-    → All P (counting_of place repr variants items) → All P (inhabited_of place variants items)
+    → All P (counted_discriminants place repr variants items) → All P (inhabited_of place variants items)
 inhabited_count P place repr variants [] all = All-nil P
 inhabited_count P place repr variants (item ∷ items) all =
     narrowed P (is_c repr) (not (has_no_value (variant_at variants (place item.0)))) item (filter (counts place repr variants) items)
@@ -55,9 +55,9 @@ inhabited_count P place repr variants (item ∷ items) all =
 
 module _ {F V H : Type 0} (layout_of : H → LayoutData F V) (at : ℕ → F) (number : F → ℕ) (first : V) (place : V → ℕ) (dl : TargetDataLayout) (repr : ReprOptions) (asked : Integer) (signed : Bool)
     (variants : List (List H)) (items : List (V × ℕ)) where
-  -- what is promised of an enum with a tag says that it tells the variants apart
-  pub told_by_tag : (r : Result (LayoutData F V) (LayoutCalculatorError H)) → IsTaggedAnswer layout_of at number first dl repr asked signed (counting_of place repr (map (map layout_of) variants) items) variants r
-      → IfOk r (IsPlacedByTag dl asked (counting_of place repr (map (map layout_of) variants) items) (map (map layout_of) variants))
+  -- what is promised of an enum with a tag says that it distinguishes the variants
+  pub told_by_tag : (r : Result (LayoutData F V) (LayoutCalculatorError H)) → IsTaggedAnswer layout_of at number first dl repr asked signed (counted_discriminants place repr (map (map layout_of) variants) items) variants r
+      → IfOk r (IsPlacedByTag dl asked (counted_discriminants place repr (map (map layout_of) variants) items) (map (map layout_of) variants))
       → AllPairs (λ v w. v % numbers_of (integer_size asked) ≢ w % numbers_of (integer_size asked)) (inhabited_of place (map (map layout_of) variants) items)
       → IfOk r (IsToldByTag dl place (map (map layout_of) variants) items)
   told_by_tag (Ok l) exact placed differ =
@@ -65,19 +65,19 @@ module _ {F V H : Type 0} (layout_of : H → LayoutData F V) (at : ℕ → F) (n
       let by = exact.2 in
       let grown = grown_tag dl repr asked (start_align number vs exact.0) in
       let tag : Scalar = Initialized (Int grown signed) by.ranged.0 in
-      let told = ap (λ m. m.variants) by.ranged.2 in
+      let tag_distinguishes = ap (λ m. m.variants) by.ranged.2 in
       record {
         tag = tag;
         field = at 0;
         place = ap (λ m. m.fields) by.ranged.2;
-        layouts = map (λ list. seen_as (tagged_view dl tag (lists_size dl exact.0) (lists_align dl exact.0) (payloads_of dl (integer_size asked) (integer_size grown) vs exact.0)) (lists_size dl exact.0) (grown_variant (integer_size asked) (integer_size grown) (variant_of list))) exact.0;
-        told = told;
-        apart = subst (AreApartAmong dl l.size vs) told placed.apart;
-        numbers = inhabited_count (λ v. IsNumberOf (scalar_size dl tag) tag (v % numbers_of (scalar_size dl tag))) place repr vs items (subst (AreNumbersAmong dl (counting_of place repr vs items)) told placed.numbers);
+        layouts = map (λ list. variant_with_view (tagged_view dl tag (lists_size dl exact.0) (lists_align dl exact.0) (payloads_of dl (integer_size asked) (integer_size grown) vs exact.0)) (lists_size dl exact.0) (grown_variant (integer_size asked) (integer_size grown) (variant_of list))) exact.0;
+        tag_distinguishes = tag_distinguishes;
+        apart = subst (AreApartAmong dl l.size vs) tag_distinguishes placed.apart;
+        numbers = inhabited_count (λ v. IsNumberOf (scalar_size dl tag) tag (v % numbers_of (scalar_size dl tag))) place repr vs items (subst (AreNumbersAmong dl (counted_discriminants place repr vs items)) tag_distinguishes placed.numbers);
         differ = differ_wider (integer_size asked) (integer_size grown) (inhabited_of place vs items) (grown_size dl repr asked (start_align number vs exact.0)).no_less differ;
-        view = subst (λ v. BeginsWithTagOf dl v l.backend_repr) told placed.view;
-        filled = subst (λ v. IsFilled dl l.backend_repr (variants_of v) vs) told
-            (tagged_filled number (at 0) dl repr asked signed (counting_of place repr vs items) vs exact.0 l
+        view = subst (λ v. BeginsWithTagOf dl v l.backend_repr) tag_distinguishes placed.view;
+        filled = subst (λ v. IsFilled dl l.backend_repr (variants_of v) vs) tag_distinguishes
+            (tagged_filled number (at 0) dl repr asked signed (counted_discriminants place repr vs items) vs exact.0 l
             (listed_count layout_of at first dl repr (behind_tag dl repr asked vs) variants exact.0 exact.1) by);
         niche = ap (λ m. m.largest_niche) by.ranged.2;
       }

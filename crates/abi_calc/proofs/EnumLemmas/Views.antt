@@ -25,9 +25,9 @@ use Rattle.abi_univariant.proofs.Views.Lawful.{niche_within}
 use Rattle.abi_univariant.proofs.Views.LawfulList.{by_test, pair_lawful}
 use Rattle.abi_calc.specs.declared.enums.payload.Payload.{Payload}
 use Rattle.abi_calc.specs.declared.enums.payload.Payload.TheVariants.{Nothing, One, Other}
-use Rattle.abi_calc.specs.Enums.Growth.{moved}
-use Rattle.abi_calc.specs.Enums.Payload.{IsLawfulPayload, BeginsWithTag, IsWide, beside, beside_tag, common, common_of, has_same_place, is_initialized, is_same_float, payload_at, payload_of, payload_of_field, payload_of_view, scalar_of, shared_primitive, tagged_view}
-use Rattle.abi_calc.specs.Enums.Single.{widened}
+use Rattle.abi_calc.specs.Enums.Growth.{moved_offset}
+use Rattle.abi_calc.specs.Enums.Payload.{IsWellFormedPayload, BeginsWithTag, IsWide, payload_of_two, beside_tag, common_payload, common_of, has_same_place, is_initialized, is_same_float, payload_at, payload_of, payload_of_field, payload_of_view, scalar_of, shared_primitive, tagged_view}
+use Rattle.abi_calc.specs.Enums.Single.{widened_scalar}
 use Rattle.abi_calc.specs.Enums.Tagged.{payloads_of}
 use Rattle.abi_calc.proofs.EnumLemmas.Payload.{beside_lawful}
 use Rattle.abi_calc.proofs.EnumLemmas.Single.{widened_lawful}
@@ -40,7 +40,7 @@ IsWidePayload dl Other = ⊤
 
 -- ---- wide payloads
 
-widened_wide : (dl : TargetDataLayout) (scalar : Scalar) → IsWide dl (widened dl scalar)
+widened_wide : (dl : TargetDataLayout) (scalar : Scalar) → IsWide dl (widened_scalar dl scalar)
 widened_wide dl (Initialized value range) = refl
 widened_wide dl (Union value) = tt
 
@@ -58,7 +58,7 @@ field_wide dl field offset =
     by_test (is_empty_view field.backend_repr field.size) (IsWidePayload dl) Nothing (payload_of_view dl field.backend_repr offset) (λ e. tt) (view_wide dl field.backend_repr offset)
 
 -- two wide payloads are wide together
-beside_wide : (dl : TargetDataLayout) (p q : Payload) → IsWidePayload dl p → IsWidePayload dl q → IsWidePayload dl (beside p q)
+beside_wide : (dl : TargetDataLayout) (p q : Payload) → IsWidePayload dl p → IsWidePayload dl q → IsWidePayload dl (payload_of_two p q)
 beside_wide dl Nothing q wide other = other
 beside_wide dl (One a i) Nothing wide other = wide
 beside_wide dl (One a i) (One b j) wide other = tt
@@ -77,8 +77,8 @@ pub payloads_wide : {F V : Type 0} (dl : TargetDataLayout) (old new : ℕ) (vari
 payloads_wide dl old new [] lists = All-nil (IsWidePayload dl)
 payloads_wide dl old new (fields ∷ variants) [] = All-nil (IsWidePayload dl)
 payloads_wide dl old new (fields ∷ variants) (list ∷ lists) =
-    All-cons (IsWidePayload dl) (payload_of dl fields (map (moved old new) (listed_offsets list.fields))) (payloads_of dl old new variants lists)
-    (payload_wide dl fields (map (moved old new) (listed_offsets list.fields))) (payloads_wide dl old new variants lists)
+    All-cons (IsWidePayload dl) (payload_of dl fields (map (moved_offset old new) (listed_offsets list.fields))) (payloads_of dl old new variants lists)
+    (payload_wide dl fields (map (moved_offset old new) (listed_offsets list.fields))) (payloads_wide dl old new variants lists)
 
 -- a scalar made for several variants is wide
 scalar_wide : (dl : TargetDataLayout) (initialized : Bool) (value : Primitive) → IsWide dl (scalar_of dl initialized value)
@@ -90,7 +90,7 @@ payload_at_wide dl initialized offset None = tt
 payload_at_wide dl initialized offset (Some value) = scalar_wide dl initialized value
 
 -- what two variants have in common is wide
-common_wide : (dl : TargetDataLayout) (p q : Payload) → IsWidePayload dl (common dl p q)
+common_wide : (dl : TargetDataLayout) (p q : Payload) → IsWidePayload dl (common_payload dl p q)
 common_wide dl Nothing Nothing = tt
 common_wide dl Nothing (One b j) = tt
 common_wide dl Nothing Other = tt
@@ -103,9 +103,9 @@ common_wide dl (One a i) Other = tt
 common_wide dl Other q = tt
 
 -- what is taken together with more variants stays wide
-fold_wide : (dl : TargetDataLayout) (p : Payload) (ps : List Payload) → IsWidePayload dl p → IsWidePayload dl (fold (common dl) p ps)
+fold_wide : (dl : TargetDataLayout) (p : Payload) (ps : List Payload) → IsWidePayload dl p → IsWidePayload dl (fold (common_payload dl) p ps)
 fold_wide dl p [] wide = wide
-fold_wide dl p (q ∷ ps) wide = fold_wide dl (common dl p q) ps (common_wide dl p q)
+fold_wide dl p (q ∷ ps) wide = fold_wide dl (common_payload dl p q) ps (common_wide dl p q)
 
 -- what all variants have in common is wide
 pub common_of_wide : (dl : TargetDataLayout) (ps : List Payload) → All (IsWidePayload dl) ps → IsWidePayload dl (common_of dl ps)
@@ -131,7 +131,7 @@ view_true dl tag size align payloads wide =
 -- ---- lawful payloads
 
 -- what a field with bytes is, is lawful where its view is
-view_payload_lawful : (dl : TargetDataLayout) (size : ℕ) (view : BackendRepr) (offset : ℕ) → IsLawfulView dl size view → IsLawfulPayload dl (payload_of_view dl view offset)
+view_payload_lawful : (dl : TargetDataLayout) (size : ℕ) (view : BackendRepr) (offset : ℕ) → IsLawfulView dl size view → IsWellFormedPayload dl (payload_of_view dl view offset)
 view_payload_lawful dl size (OneScalar scalar) offset h = widened_lawful dl scalar h.0
 view_payload_lawful dl size (ScalarPair a b b_offset) offset h = tt
 view_payload_lawful dl size (SimdScalableVector element count vectors) offset h = tt
@@ -139,13 +139,13 @@ view_payload_lawful dl size (SimdVector element count) offset h = tt
 view_payload_lawful dl size (Memory sized) offset h = tt
 
 -- what a lawful field is, is lawful
-field_payload_lawful : {F V : Type 0} (dl : TargetDataLayout) (field : LayoutData F V) (offset : ℕ) → IsLawfulLayout dl field → IsLawfulPayload dl (payload_of_field dl field offset)
+field_payload_lawful : {F V : Type 0} (dl : TargetDataLayout) (field : LayoutData F V) (offset : ℕ) → IsLawfulLayout dl field → IsWellFormedPayload dl (payload_of_field dl field offset)
 field_payload_lawful dl field offset h =
-    by_test (is_empty_view field.backend_repr field.size) (IsLawfulPayload dl) Nothing (payload_of_view dl field.backend_repr offset) (λ e. tt)
+    by_test (is_empty_view field.backend_repr field.size) (IsWellFormedPayload dl) Nothing (payload_of_view dl field.backend_repr offset) (λ e. tt)
     (view_payload_lawful dl field.size field.backend_repr offset h.view)
 
 -- what a variant's lawful fields are together, is lawful
-payload_lawful : {F V : Type 0} (dl : TargetDataLayout) (fields : List (LayoutData F V)) (offsets : List ℕ) → All (IsLawfulLayout dl) fields → IsLawfulPayload dl (payload_of dl fields offsets)
+payload_lawful : {F V : Type 0} (dl : TargetDataLayout) (fields : List (LayoutData F V)) (offsets : List ℕ) → All (IsLawfulLayout dl) fields → IsWellFormedPayload dl (payload_of dl fields offsets)
 payload_lawful dl [] offsets h = tt
 payload_lawful dl (field ∷ fields) [] h = tt
 payload_lawful dl (field ∷ fields) (offset ∷ offsets) h =
@@ -154,12 +154,12 @@ payload_lawful dl (field ∷ fields) (offset ∷ offsets) h =
 
 -- what each variant's fields are, is lawful
 pub payloads_lawful : {F V : Type 0} (dl : TargetDataLayout) (old new : ℕ) (variants : List (List (LayoutData F V))) (lists : List (LayoutData F V)) → All (All (IsLawfulLayout dl)) variants
-    → All (IsLawfulPayload dl) (payloads_of dl old new variants lists)
-payloads_lawful dl old new [] lists h = All-nil (IsLawfulPayload dl)
-payloads_lawful dl old new (fields ∷ variants) [] h = All-nil (IsLawfulPayload dl)
+    → All (IsWellFormedPayload dl) (payloads_of dl old new variants lists)
+payloads_lawful dl old new [] lists h = All-nil (IsWellFormedPayload dl)
+payloads_lawful dl old new (fields ∷ variants) [] h = All-nil (IsWellFormedPayload dl)
 payloads_lawful dl old new (fields ∷ variants) (list ∷ lists) h =
-    All-cons (IsLawfulPayload dl) (payload_of dl fields (map (moved old new) (listed_offsets list.fields))) (payloads_of dl old new variants lists)
-    (payload_lawful dl fields (map (moved old new) (listed_offsets list.fields)) (All-head (All (IsLawfulLayout dl)) fields variants h))
+    All-cons (IsWellFormedPayload dl) (payload_of dl fields (map (moved_offset old new) (listed_offsets list.fields))) (payloads_of dl old new variants lists)
+    (payload_lawful dl fields (map (moved_offset old new) (listed_offsets list.fields)) (All-head (All (IsLawfulLayout dl)) fields variants h))
     (payloads_lawful dl old new variants lists (All-tail (All (IsLawfulLayout dl)) fields variants h))
 
 -- ---- what lawful payloads have in common is lawful
@@ -190,44 +190,44 @@ scalar_of_lawful dl false value h =
     let some : 0 < 2 ^ (8 * primitive_size dl value) = pow_pos (8 * primitive_size dl value) in
     record { pointer = h; within = (some, omega arith) }
 
-payload_at_lawful : (dl : TargetDataLayout) (initialized : Bool) (offset : ℕ) (value : Option Primitive) → IfSome value (IsLawfulPrimitive dl) → IsLawfulPayload dl (payload_at dl initialized offset value)
+payload_at_lawful : (dl : TargetDataLayout) (initialized : Bool) (offset : ℕ) (value : Option Primitive) → IfSome value (IsLawfulPrimitive dl) → IsWellFormedPayload dl (payload_at dl initialized offset value)
 payload_at_lawful dl initialized offset None h = tt
 payload_at_lawful dl initialized offset (Some value) h = scalar_of_lawful dl initialized value h
 
 -- what two lawful payloads have in common is lawful
-pub common_lawful : (dl : TargetDataLayout) (p q : Payload) → IsLawfulPayload dl p → IsLawfulPayload dl q → IsLawfulPayload dl (common dl p q)
+pub common_lawful : (dl : TargetDataLayout) (p q : Payload) → IsWellFormedPayload dl p → IsWellFormedPayload dl q → IsWellFormedPayload dl (common_payload dl p q)
 common_lawful dl Nothing Nothing hp hq = tt
 common_lawful dl Nothing (One b j) hp hq = scalar_of_lawful dl false (primitive_of b) hq.pointer
 common_lawful dl Nothing Other hp hq = tt
 common_lawful dl (One a i) Nothing hp hq = scalar_of_lawful dl false (primitive_of a) hp.pointer
 common_lawful dl (One a i) (One b j) hp hq =
     let shared : Option Primitive = shared_primitive dl (primitive_of a) (primitive_of b) in
-    by_test (i == j) (IsLawfulPayload dl) (payload_at dl (is_initialized a && is_initialized b) i shared) Other
+    by_test (i == j) (IsWellFormedPayload dl) (payload_at dl (is_initialized a && is_initialized b) i shared) Other
     (λ e. payload_at_lawful dl (is_initialized a && is_initialized b) i shared (shared_lawful dl (primitive_of a) (primitive_of b) hp.pointer hq.pointer)) tt
 common_lawful dl (One a i) Other hp hq = tt
 common_lawful dl Other q hp hq = tt
 
 -- what is taken together with more lawful ones stays lawful
-fold_lawful : (dl : TargetDataLayout) (p : Payload) (ps : List Payload) → IsLawfulPayload dl p → All (IsLawfulPayload dl) ps → IsLawfulPayload dl (fold (common dl) p ps)
+fold_lawful : (dl : TargetDataLayout) (p : Payload) (ps : List Payload) → IsWellFormedPayload dl p → All (IsWellFormedPayload dl) ps → IsWellFormedPayload dl (fold (common_payload dl) p ps)
 fold_lawful dl p [] hp h = hp
 fold_lawful dl p (q ∷ ps) hp h =
-    fold_lawful dl (common dl p q) ps (common_lawful dl p q hp (All-head (IsLawfulPayload dl) q ps h)) (All-tail (IsLawfulPayload dl) q ps h)
+    fold_lawful dl (common_payload dl p q) ps (common_lawful dl p q hp (All-head (IsWellFormedPayload dl) q ps h)) (All-tail (IsWellFormedPayload dl) q ps h)
 
 -- what all variants have in common is lawful
-pub common_of_lawful : (dl : TargetDataLayout) (ps : List Payload) → All (IsLawfulPayload dl) ps → IsLawfulPayload dl (common_of dl ps)
+pub common_of_lawful : (dl : TargetDataLayout) (ps : List Payload) → All (IsWellFormedPayload dl) ps → IsWellFormedPayload dl (common_of dl ps)
 common_of_lawful dl [] h = tt
-common_of_lawful dl (p ∷ ps) h = fold_lawful dl p ps (All-head (IsLawfulPayload dl) p ps h) (All-tail (IsLawfulPayload dl) p ps h)
+common_of_lawful dl (p ∷ ps) h = fold_lawful dl p ps (All-head (IsWellFormedPayload dl) p ps h) (All-tail (IsWellFormedPayload dl) p ps h)
 
 -- ---- the view is lawful
 
 -- the tag and a lawful scalar beside it
-beside_tag_lawful : (dl : TargetDataLayout) (tag : Scalar) (size align : ℕ) (p : Payload) → IsLawfulScalar dl tag → IsLawfulPayload dl p → IsLawfulView dl size (beside_tag dl tag size align p)
+beside_tag_lawful : (dl : TargetDataLayout) (tag : Scalar) (size align : ℕ) (p : Payload) → IsLawfulScalar dl tag → IsWellFormedPayload dl p → IsLawfulView dl size (beside_tag dl tag size align p)
 beside_tag_lawful dl tag size align Nothing ht hp = tt
 beside_tag_lawful dl tag size align (One b j) ht hp = pair_lawful dl size align 0 j tag b (ht, refl) (hp, refl)
 beside_tag_lawful dl tag size align Other ht hp = tt
 
 -- an enum's view is lawful
-pub view_lawful : (dl : TargetDataLayout) (tag : Scalar) (size align : ℕ) (payloads : List Payload) → IsLawfulScalar dl tag → All (IsLawfulPayload dl) payloads
+pub view_lawful : (dl : TargetDataLayout) (tag : Scalar) (size align : ℕ) (payloads : List Payload) → IsLawfulScalar dl tag → All (IsWellFormedPayload dl) payloads
     → IsLawfulView dl size (tagged_view dl tag size align payloads)
 view_lawful dl tag size align payloads ht h =
     by_test (scalar_size dl tag == size) (IsLawfulView dl size) (OneScalar tag) (beside_tag dl tag size align (common_of dl payloads)) (λ e. (ht, eqb-true (scalar_size dl tag) size e))

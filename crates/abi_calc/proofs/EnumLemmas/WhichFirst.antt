@@ -9,7 +9,7 @@ use Rattle.abi_base.specs.Integer.{integer_size}
 use Rattle.abi_scalar.specs.declared.layout_data.LayoutData.{LayoutData}
 use Rattle.abi_scalar.specs.declared.repr.ReprOptions.{ReprOptions}
 use Rattle.abi_scalar.specs.Range.{numbers_of}
-use Rattle.abi_calc.specs.declared.enums.bounds.First.TheVariants.{Niche, OnlyTagged, Tagged}
+use Rattle.abi_calc.specs.declared.enums.bounds.FirstLayout.TheVariants.{Niche, OnlyTagged, Tagged}
 use Rattle.abi_calc.specs.Enums.Bounds.{least_whole, most_free, most_tag, room_of_tag, tag_first, which_first}
 
 -- a tag that has no more numbers than a niche leaves free, however far it grows, isn't made first, whatever the whole

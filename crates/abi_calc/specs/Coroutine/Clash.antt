@@ -42,15 +42,15 @@ AreStatesApart whole shared_offsets shared_sizes locals (state ∷ states) (layo
     × AreStatesApart whole shared_offsets shared_sizes locals states layouts
 AreStatesApart whole shared_offsets shared_sizes locals _ _ = ⊥
 
--- A coroutine whose states are told apart by a tag, which lies behind the prefix fields as one of the shared fields: each state's
+-- A coroutine whose states are distinguished by a tag, which lies behind the prefix fields as one of the shared fields: each state's
 -- number is its index, which the tag may hold.
-pub record IsToldByState {F V : Type 0} (dl : TargetDataLayout) (at : ℕ → F) (prefix locals : List (LayoutData F V)) (states : List (List ℕ)) (layout : LayoutData F V) : Type 0 where
+pub record IsDistinguishedByState {F V : Type 0} (dl : TargetDataLayout) (at : ℕ → F) (prefix locals : List (LayoutData F V)) (states : List (List ℕ)) (layout : LayoutData F V) : Type 0 where
   pub tag : Scalar
   pub offsets : List ℕ
   pub order : List F
   pub fields : layout.fields ≡ Arbitrary offsets order
   pub count : length offsets ≡ length prefix + 1
   pub layouts : List (VariantLayout F)
-  pub told : layout.variants ≡ Multiple tag Direct (at (length prefix)) layouts
+  pub tag_distinguishes : layout.variants ≡ Multiple tag Direct (at (length prefix)) layouts
   pub apart : AreStatesApart layout.size offsets (map (λ f. f.size) prefix ++ scalar_size dl tag ∷ []) locals states layouts
   pub numbers : All (IsNumberOf (scalar_size dl tag) tag) (source_order (length states))

@@ -8,7 +8,7 @@ use Rattle.abi_scalar.specs.declared.error.LayoutCalculatorError.{LayoutCalculat
 use Rattle.abi_scalar.specs.declared.layout_data.LayoutData.{LayoutData}
 use Rattle.abi_scalar.specs.declared.repr.ReprOptions.{ReprOptions}
 use Rattle.abi_index.specs.BitSet.{is_member, members_of}
-use Rattle.abi_univariant.specs.List.{IsListAnswer, IsListError}
+use Rattle.abi_univariant.specs.List.{IsUnivariantAnswer, IsUnivariantError}
 
 -- a `repr` that asks for nothing
 abbrev pub default_repr : ReprOptions
@@ -31,15 +31,15 @@ abbrev pub own_list : {A : Type 0} → (locals : List A) → (promoted : List Bo
 own_list locals promoted state = picked locals (own_of promoted state)
 
 -- each state's list lies behind the first one
-abbrev pub behind : {F V : Type 0} → (first : LayoutData F V) → StructKind
-behind first = Prefixed first.size first.align.abi
+abbrev pub state_list_kind : {F V : Type 0} → (first : LayoutData F V) → StructKind
+state_list_kind first = Prefixed first.size first.align.abi
 
 -- each state's other locals have this layout as a list of the kind
 abbrev pub AreOwnLists : {F V H : Type 0} → (layout_of : H → LayoutData F V) → (at : ℕ → F) → (zeroth : V) → TargetDataLayout → StructKind → (locals : List H) → (promoted : List Bool)
     → (states : List (List ℕ)) → (lists : List (LayoutData F V)) → Type 0
 AreOwnLists layout_of at zeroth dl kind locals promoted [] [] = ⊤
 AreOwnLists layout_of at zeroth dl kind locals promoted (state ∷ states) (list ∷ lists) =
-    IsListAnswer layout_of at zeroth dl default_repr kind (own_list locals promoted state) (Ok list)
+    IsUnivariantAnswer layout_of at zeroth dl default_repr kind (own_list locals promoted state) (Ok list)
     × AreOwnLists layout_of at zeroth dl kind locals promoted states lists
 AreOwnLists layout_of at zeroth dl kind locals promoted _ _ = ⊥
 
@@ -48,6 +48,6 @@ abbrev pub IsFirstOwnError : {F V H : Type 0} → (layout_of : H → LayoutData 
     → (states : List (List ℕ)) → LayoutCalculatorError H → Type 0
 IsFirstOwnError layout_of at zeroth dl kind locals promoted [] error = ⊥
 IsFirstOwnError layout_of at zeroth dl kind locals promoted (state ∷ states) error =
-    IsListError layout_of dl default_repr kind (own_list locals promoted state) error
-    ⊎ ((list : LayoutData _ _) × IsListAnswer layout_of at zeroth dl default_repr kind (own_list locals promoted state) (Ok list)
+    IsUnivariantError layout_of dl default_repr kind (own_list locals promoted state) error
+    ⊎ ((list : LayoutData _ _) × IsUnivariantAnswer layout_of at zeroth dl default_repr kind (own_list locals promoted state) (Ok list)
     × IsFirstOwnError layout_of at zeroth dl kind locals promoted states error)

@@ -12,7 +12,7 @@ use Rattle.abi_scalar.specs.Shape.{listed_offsets, listed_order}
 use Rattle.abi_scalar.specs.Simple.{scalar_layout}
 use Rattle.abi_scalar.specs.Variant.{variants_of}
 use Rattle.abi_calc.specs.Coroutine.Layout.{IsStateTag}
-use Rattle.abi_calc.specs.Coroutine.Lists.{behind, default_repr, first_list}
+use Rattle.abi_calc.specs.Coroutine.Lists.{state_list_kind, default_repr, first_list}
 use Rattle.abi_calc.specs.Coroutine.Promotion.{promoted_of}
 use Rattle.abi_calc.specs.Coroutine.Sizes.{align_of_all, own_lists}
 use Rattle.abi_calc.specs.Coroutine.States.{ranks_of, state_offsets, state_order}
@@ -43,15 +43,15 @@ AreStatesOf at number promoted shared ranks (state ∷ states) (list ∷ lists) 
 AreStatesOf at number promoted shared ranks _ _ _ = ⊥
 
 -- A coroutine is made of its lists: the first one, of the prefix fields, the tag and the promoted locals, and behind it one of
--- each state's other locals. The tag, which tells the states apart, is that of so many; the prefix fields and it lie where the first list has them, and in its order.
+-- each state's other locals. The tag, which distinguishes the states, is that of so many; the prefix fields and it lie where the first list has them, and in its order.
 pub record IsMadeOfStates {F V : Type 0} (at : ℕ → F) (number : F → ℕ) (zeroth : V) (dl : TargetDataLayout) (prefix locals : List (LayoutData F V)) (states : List (List ℕ)) (conflicts : Relation) (layout : LayoutData F V) : Type 0 where
   pub tag : Scalar
-  pub tells : IsStateTag (length states) tag
+  pub is_state_tag : IsStateTag (length states) tag
   pub first : LayoutData F V
   pub shared : IsFieldList at dl default_repr AlwaysSized (first_list prefix (scalar_layout zeroth dl tag) locals (promoted_of states conflicts)) first
   pub lists : List (LayoutData F V)
-  pub own : AreFieldLists at dl default_repr (behind first) (own_lists locals (promoted_of states conflicts) states) lists
-  pub told : layout.variants ≡ Multiple tag Direct (at (length prefix)) (variants_of layout.variants)
+  pub own : AreFieldLists at dl default_repr (state_list_kind first) (own_lists locals (promoted_of states conflicts) states) lists
+  pub tag_distinguishes : layout.variants ≡ Multiple tag Direct (at (length prefix)) (variants_of layout.variants)
   pub fields : listed_offsets layout.fields ≡ take (length prefix + 1) (listed_offsets first.fields)
   pub order : listed_order layout.fields ≡ filter (λ i. nat_lt (number i) (length prefix + 1)) (listed_order first.fields)
   pub layouts : AreStatesOf at number (promoted_of states conflicts) (drop (length prefix + 1) (listed_offsets first.fields)) (ranks_of number (length prefix + 1) (listed_order first.fields)) states lists

@@ -1,4 +1,4 @@
--- What is told of the layout of a coroutine, and of its refusal. `at` makes the index of a field, `number` tells the number of one,
+-- What is promised of the layout of a coroutine, and of its refusal. `at` makes the index of a field, `number` gives the number of one,
 -- and `zeroth` is the index of the layout's one variant; a state is the list of its locals' numbers.
 use Rattle.std.specs.Prelude.{◌≡◌, ◌⊎◌, ℕ, Bool, Err, IfErr, IfOk, List, None, Result, true}
 use Rattle.abi_base.specs.declared.data_layout.TargetDataLayout.{TargetDataLayout}
@@ -10,7 +10,7 @@ use Rattle.abi_scalar.specs.declared.layout_data.LayoutData.{LayoutData}
 use Rattle.abi_scalar.specs.Variant.{variants_of}
 use Rattle.abi_univariant.specs.Answer.{IsAnswer}
 use Rattle.abi_univariant.specs.List.{AreSized}
-use Rattle.abi_calc.specs.Coroutine.Clash.{AreClashingApart, HaveOneOffset, IsToldByState}
+use Rattle.abi_calc.specs.Coroutine.Clash.{AreClashingApart, HaveOneOffset, IsDistinguishedByState}
 use Rattle.abi_calc.specs.Coroutine.Made.{IsAlignedAsLists, IsMadeOfStates}
 use Rattle.abi_calc.specs.Coroutine.Promotion.{promoted_of}
 use Rattle.abi_calc.specs.Coroutine.Sizes.{IsOverlapSize, IsSizeWith, IsTooLargeWith, MayOverlap}
@@ -31,12 +31,12 @@ pub record IsGoodCoroutine {F V : Type 0} (at : ℕ → F) (number : F → ℕ) 
   -- Each of its lists lies in an allowed order of the least size, and its fields lie where the lists have them, in their orders.
   pub made : IsMadeOfStates at number zeroth dl prefix locals states conflicts layout
   -- The prefix fields, the tag and the locals of each state share no byte, and the tag may hold each state's index.
-  pub told : IsToldByState dl at prefix locals states layout
+  pub tag_distinguishes : IsDistinguishedByState dl at prefix locals states layout
   -- Different locals that one state holds, or that conflict in either direction, share no byte, and a local has one offset.
   pub clash : AreClashingApart states conflicts locals (variants_of layout.variants)
   pub one_offset : HaveOneOffset states (variants_of layout.variants)
 
--- These locals are promoted where the states tell it, and conflicts between this count of locals.
+-- These locals are promoted where the states demand it, and conflicts between this count of locals.
 pub record ArePromotedBy (count : ℕ) (states : List (List ℕ)) (promoted : List Bool) (conflicts : Relation) : Type 0 where
   pub by : promoted ≡ promoted_of states conflicts
   pub rows : row_count conflicts ≡ count

@@ -1,8 +1,8 @@
 -- Which locals of a coroutine are promoted: laid out beside the prefix fields and the tag, where they share no byte with any other.
--- A state is the list of the locals that live in it; a set of locals is the list that tells of each whether it is a member.
+-- A state is the list of the locals that live in it; a set of locals is the list that says of each whether it is a member.
 use Rattle.std.specs.Prelude.{ℕ, ◌==◌, ◌&&◌, ◌||◌, not, Bool, true, List, [], ◌∷◌, ◌+◌, filter, fold, length, map, nat_lt, if◌then◌else◌}
 use Rattle.std.specs.List.{list_any}
-use Rattle.abi_index.specs.Ascending.{has_number}
+use Rattle.abi_index.specs.AscendingList.{has_number}
 use Rattle.abi_index.specs.BitSet.{is_member}
 use Rattle.abi_index.specs.Relation.{Relation, columns_of, row_count}
 use Rattle.abi_univariant.specs.Placement.{source_order}
@@ -33,19 +33,19 @@ abbrev pub conflict_count : Relation → (local : ℕ) → ℕ
 conflict_count conflicts local = length (columns_of conflicts local)
 
 -- which of two locals is promoted: the row's where its row has more conflicts, else the column's
-abbrev pub given_up : Relation → (row column : ℕ) → ℕ
-given_up conflicts row column = if nat_lt (conflict_count conflicts column) (conflict_count conflicts row) then row else column
+abbrev pub local_to_promote : Relation → (row column : ℕ) → ℕ
+local_to_promote conflicts row column = if nat_lt (conflict_count conflicts column) (conflict_count conflicts row) then row else column
 
 -- the two locals need no promotion: the column's is promoted already, or both are held by one state, or by none, while the row's
 -- isn't promoted
-abbrev pub are_settled : (states : List (List ℕ)) → (row column : ℕ) → (promoted : List Bool) → Bool
-are_settled states row column promoted =
+abbrev pub need_no_promotion : (states : List (List ℕ)) → (row column : ℕ) → (promoted : List Bool) → Bool
+need_no_promotion states row column promoted =
     is_member promoted column || (not (is_member promoted row) && (holder_of states row == holder_of states column))
 
 -- what is promoted after the conflict of a row's local with a column's
 abbrev pub after_conflict : (states : List (List ℕ)) → Relation → (row : ℕ) → (promoted : List Bool) → (column : ℕ) → List Bool
 after_conflict states conflicts row promoted column =
-    if are_settled states row column promoted then promoted else promote (given_up conflicts row column) promoted
+    if need_no_promotion states row column promoted then promoted else promote (local_to_promote conflicts row column) promoted
 
 -- after a row, whose columns ascend; the row of a local that is promoted already is skipped
 abbrev pub after_row : (states : List (List ℕ)) → Relation → (promoted : List Bool) → (row : ℕ) → List Bool

@@ -12,7 +12,7 @@ use Rattle.abi_univariant.specs.Fields.{greatest}
 use Rattle.abi_univariant.specs.Least.{IsEachOrderTooLarge, IsLeastSize, align_by}
 use Rattle.abi_calc.specs.Coroutine.Lists.{default_repr, first_list, own_list, picked}
 use Rattle.abi_calc.specs.Coroutine.Promotion.{holder_count, holder_of}
-use Rattle.abi_calc.specs.Enums.Path.{variant_at}
+use Rattle.abi_calc.specs.Enums.EnumStrategy.{variant_at}
 use Rattle.abi_calc.specs.Enums.Sizes.{AreLeastSizes}
 
 -- each state's other locals

@@ -37,14 +37,14 @@ state_order promoted ranks own state =
 abbrev pub joined_places : (held : List (Option ℕ)) → (ranks : List ℕ) → (places own : List ℕ) → List ℕ
 joined_places held ranks places own = flat_map (λ rank. option_to_list (slice_index_or held rank None)) ranks ++ map (slice_index places) own
 
--- The layout of a list of so many fields, one by one: it has an offset for each, and in memory order each once. `number` tells a
+-- The layout of a list of so many fields, one by one: it has an offset for each, and in memory order each once. `number` gives a
 -- field's place in the source.
 pub record HasFields {F V : Type 0} (number : F → ℕ) (count : ℕ) (layout : LayoutData F V) : Type 0 where
   pub listed : IsListed layout.fields
   pub offsets : length (listed_offsets layout.fields) ≡ count
   pub order : IsPermutation (source_order count) (map number (listed_order layout.fields))
 
--- Where the promoted locals lie is told: how many of them are below each local, an offset for each of them, and each one's rank in
+-- Where the promoted locals lie: how many of them are below each local, an offset for each of them, and each one's rank in
 -- memory order.
 pub record ArePlaced (promoted : List Bool) (below offsets ranks : List ℕ) : Type 0 where
   pub below_each : below ≡ map (rank_of promoted) (source_order (domain_size promoted))

@@ -15,9 +15,9 @@ use Rattle.abi_scalar.specs.Simple.{never_layout}
 use Rattle.abi_univariant.specs.Apart.{AreApart}
 use Rattle.abi_univariant.specs.Least.{IsLeastSize, LiesInSomeOrder}
 use Rattle.abi_univariant.specs.Placement.{source_order}
-use Rattle.abi_calc.specs.declared.enums.path.Path.{Path}
-use Rattle.abi_calc.specs.declared.enums.path.Path.TheVariants.{NoValue, OneList, Several}
-use Rattle.abi_calc.specs.Enums.Path.{variant_at}
+use Rattle.abi_calc.specs.declared.enums.strategy.EnumStrategy.{EnumStrategy}
+use Rattle.abi_calc.specs.declared.enums.strategy.EnumStrategy.TheVariants.{NoValue, OneList, Several}
+use Rattle.abi_calc.specs.Enums.EnumStrategy.{variant_at}
 use Rattle.abi_calc.specs.Enums.Several.{IsSeveralAnswer}
 use Rattle.abi_calc.specs.Enums.Single.{IsSingleAnswer, single_kind}
 
@@ -30,10 +30,10 @@ abbrev pub kind_at : {H : Type 0} → (is_enum always_sized : Bool) → (variant
 kind_at is_enum always_sized variants place = single_kind is_enum always_sized (length (variant_at variants place))
 
 -- the answer, by the way the type is laid out: nothing has no value; one list is the layout of its fields; and several variants
--- are told apart
+-- are distinguished
 abbrev pub IsTypeAnswer : {F V H : Type 0} → (layout_of : H → LayoutData F V) → (at : ℕ → F) → (number : F → ℕ) → (index : ℕ → V) → (place : V → ℕ) → TargetDataLayout → ReprOptions
     → (variants : List (List H)) → (is_enum always_sized : Bool) → NicheOptimizations
-    → (asks : RangeFrom ℤ → RangeToInclusive ℕ → Integer × Bool → Type 0) → (gives : List (V × ℕ) → Type 0) → Path → Result (LayoutData F V) (LayoutCalculatorError H) → Type 0
+    → (asks : RangeFrom ℤ → RangeToInclusive ℕ → Integer × Bool → Type 0) → (gives : List (V × ℕ) → Type 0) → EnumStrategy → Result (LayoutData F V) (LayoutCalculatorError H) → Type 0
 IsTypeAnswer layout_of at number index place dl repr variants is_enum always_sized optimizations asks gives NoValue result = result ≡ Ok (never_layout dl)
 IsTypeAnswer layout_of at number index place dl repr variants is_enum always_sized optimizations asks gives (OneList i) result =
     IsSingleAnswer layout_of at (index 0) (index i) dl repr (kind_at is_enum always_sized variants i) optimizations (variant_at variants i) result

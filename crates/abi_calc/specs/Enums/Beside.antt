@@ -21,7 +21,7 @@ use Rattle.abi_univariant.specs.Apart.{AreApart}
 use Rattle.abi_univariant.specs.ListNiche.{IsNicheOfPart}
 use Rattle.abi_calc.specs.Enums.Discriminants.{inhabited_of}
 use Rattle.abi_calc.specs.Enums.Filled.{IsFilled}
-use Rattle.abi_calc.specs.Enums.Path.{is_absent, variant_at}
+use Rattle.abi_calc.specs.Enums.EnumStrategy.{is_absent, variant_at}
 use Rattle.abi_calc.specs.Enums.Payload.{BeginsWithTag}
 use Rattle.abi_calc.specs.Enums.Places.{AreApartBehind}
 
@@ -52,7 +52,7 @@ HasTagAt place tag (ScalarPair a b b_offset) =
 HasTagAt place tag (Memory sized) = ⊤
 HasTagAt place tag _ = ⊥
 
--- An enum whose variants are told apart by a tag at its start: each has the fields behind it; the discriminants of the variants
+-- An enum whose variants are distinguished by a tag at its start: each has the fields behind it; the discriminants of the variants
 -- that may have values, cut to the tag's width, are numbers of the tag, and differ. Where a view of two scalars says that a number
 -- lies beside the tag, each variant has one there; the whole has the tag's niche.
 pub record IsToldByTag {F V : Type 0} (dl : TargetDataLayout) (number : V → ℕ) (variants : List (List (LayoutData F V))) (items : List (V × ℕ)) (layout : LayoutData F V) : Type 0 where
@@ -60,7 +60,7 @@ pub record IsToldByTag {F V : Type 0} (dl : TargetDataLayout) (number : V → �
   pub field : F
   pub place : layout.fields ≡ Arbitrary (0 ∷ []) (field ∷ [])
   pub layouts : List (VariantLayout F)
-  pub told : layout.variants ≡ Multiple tag Direct field layouts
+  pub tag_distinguishes : layout.variants ≡ Multiple tag Direct field layouts
   pub apart : AreApartBehind layout.size (scalar_size dl tag) variants layouts
   pub numbers : All (λ v. IsNumberOf (scalar_size dl tag) tag (v % numbers_of (scalar_size dl tag))) (inhabited_of number variants items)
   pub differ : AllPairs (λ v w. v % numbers_of (scalar_size dl tag) ≢ w % numbers_of (scalar_size dl tag)) (inhabited_of number variants items)
@@ -68,8 +68,8 @@ pub record IsToldByTag {F V : Type 0} (dl : TargetDataLayout) (number : V → �
   pub filled : IsFilled dl layout.backend_repr layouts variants
   pub niche : layout.largest_niche ≡ niche_at dl 0 tag
 
--- An enum whose variants are told apart by a niche: it is that of a field of `variant`, the untagged one, and the tag takes its
--- place; what the tag leaves of it is the niche of the whole. `number` tells the place of a variant.
+-- An enum whose variants are distinguished by a niche: it is that of a field of `variant`, the untagged one, and the tag takes its
+-- place; what the tag leaves of it is the niche of the whole. `number` gives the place of a variant.
 pub record IsToldByNiche {F V : Type 0} (dl : TargetDataLayout) (number : V → ℕ) (variants : List (List (LayoutData F V))) (layout : LayoutData F V) : Type 0 where
   pub niche : Niche
   pub tag : Scalar
@@ -79,7 +79,7 @@ pub record IsToldByNiche {F V : Type 0} (dl : TargetDataLayout) (number : V → 
   pub span : RangeInclusive V
   pub start : ℕ
   pub layouts : List (VariantLayout F)
-  pub told : layout.variants ≡ Multiple tag (InNiche untagged span start) field layouts
+  pub tag_distinguishes : layout.variants ≡ Multiple tag (InNiche untagged span start) field layouts
   pub variant : VariantLayout F
   pub own : slice_get layouts (number untagged) ≡ Some variant
   pub niche_of : IsNicheOfPart variant.field_offsets (variant_at variants (number untagged)) niche
@@ -88,6 +88,6 @@ pub record IsToldByNiche {F V : Type 0} (dl : TargetDataLayout) (number : V → 
   pub view : HasTagAt niche.offset tag layout.backend_repr
   pub left : layout.largest_niche ≡ niche_at dl niche.offset tag
 
--- a tag of its own or a niche of one variant tells the variants apart
-abbrev pub AreToldApart : {F V : Type 0} → TargetDataLayout → (number : V → ℕ) → (variants : List (List (LayoutData F V))) → (items : List (V × ℕ)) → LayoutData F V → Type 0
-AreToldApart dl number variants items layout = IsToldByTag dl number variants items layout ⊎ IsToldByNiche dl number variants layout
+-- a tag of its own or a niche of one variant distinguishes the variants
+abbrev pub AreDistinguished : {F V : Type 0} → TargetDataLayout → (number : V → ℕ) → (variants : List (List (LayoutData F V))) → (items : List (V × ℕ)) → LayoutData F V → Type 0
+AreDistinguished dl number variants items layout = IsToldByTag dl number variants items layout ⊎ IsToldByNiche dl number variants layout

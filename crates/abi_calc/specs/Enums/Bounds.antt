@@ -9,11 +9,11 @@ use Rattle.abi_scalar.specs.declared.layout_data.LayoutData.{LayoutData}
 use Rattle.abi_scalar.specs.declared.repr.ReprOptions.{ReprOptions}
 use Rattle.abi_scalar.specs.Range.{numbers_of}
 use Rattle.abi_univariant.specs.Part.{free_numbers, max_align}
-use Rattle.abi_calc.specs.declared.enums.bounds.First.{First}
-use Rattle.abi_calc.specs.declared.enums.bounds.First.TheVariants.{Niche, OnlyTagged, Tagged}
+use Rattle.abi_calc.specs.declared.enums.bounds.FirstLayout.{FirstLayout}
+use Rattle.abi_calc.specs.declared.enums.bounds.FirstLayout.TheVariants.{Niche, OnlyTagged, Tagged}
 use Rattle.abi_calc.specs.Enums.Growth.{align_or}
 use Rattle.abi_calc.specs.Enums.Lists.{align_with_all}
-use Rattle.abi_calc.specs.Enums.Path.{is_free}
+use Rattle.abi_calc.specs.Enums.EnumStrategy.{is_free}
 
 -- how many bytes a whole of this size has beside these fields, none where these are larger
 abbrev pub left_beside : {F V : Type 0} → (whole : ℕ) → List (LayoutData F V) → ℕ
@@ -76,7 +76,7 @@ tag_first asked least free variants = not (outdoes asked (room_of_tag least aske
 
 -- which layout is made first: the one with a tag, and no other, where no niche has a free number; that one too, beside these bounds
 -- of one with a niche, where none within them is sure to be better; else the one with a niche
-abbrev pub which_first : {F V : Type 0} → TargetDataLayout → ReprOptions → (asked : Integer) → (variants : List (List (LayoutData F V))) → First
+abbrev pub which_first : {F V : Type 0} → TargetDataLayout → ReprOptions → (asked : Integer) → (variants : List (List (LayoutData F V))) → FirstLayout
 which_first dl repr asked variants =
     let least = least_whole dl variants in
     let free = most_free dl repr variants in

@@ -9,7 +9,7 @@ use Rattle.abi_scalar.specs.declared.repr.ReprOptions.{ReprOptions}
 use Rattle.abi_univariant.specs.Part.{free_numbers}
 use Rattle.abi_calc.specs.Enums.Lists.{IsFirstListError}
 use Rattle.abi_calc.specs.Enums.Niche.{niche_layout}
-use Rattle.abi_calc.specs.Enums.Path.{is_free}
+use Rattle.abi_calc.specs.Enums.EnumStrategy.{is_free}
 
 -- the niche layout is taken where it is smaller, or as large with more free numbers left
 abbrev pub takes_niche : {F V : Type 0} → TargetDataLayout → (tagged niche : LayoutData F V) → Bool
@@ -17,9 +17,9 @@ takes_niche dl tagged niche =
     nat_lt niche.size tagged.size || ((niche.size == tagged.size) && nat_lt (free_numbers dl tagged.largest_niche) (free_numbers dl niche.largest_niche))
 
 -- the better of both, the tagged one where there is no other
-abbrev pub better : {F V : Type 0} → TargetDataLayout → (tagged : LayoutData F V) → (niche : Option (LayoutData F V)) → LayoutData F V
-better dl tagged None = tagged
-better dl tagged (Some niche) = if takes_niche dl tagged niche then niche else tagged
+abbrev pub preferred_layout : {F V : Type 0} → TargetDataLayout → (tagged : LayoutData F V) → (niche : Option (LayoutData F V)) → LayoutData F V
+preferred_layout dl tagged None = tagged
+preferred_layout dl tagged (Some niche) = if takes_niche dl tagged niche then niche else tagged
 
 -- the layout with a niche, where there is one: none unless the layout is free, nor where some variant's fields have no layout as
 -- an always sized list; `are_lists` says what the variants' lists are

@@ -10,15 +10,15 @@ use Rattle.abi_scalar.specs.declared.wrapping_range.WrappingRange.{WrappingRange
 use Rattle.abi_scalar.specs.LeastRange.{IsSmallestOf}
 use Rattle.abi_scalar.specs.Range.{numbers_of}
 use Rattle.abi_scalar.specs.Repr.{discr_type_of, is_c}
-use Rattle.abi_calc.specs.Enums.Path.{has_no_value, variant_at}
+use Rattle.abi_calc.specs.Enums.EnumStrategy.{has_no_value, variant_at}
 
 -- a discriminant counts under C, and else where each field of its variant may have values
 abbrev pub counts : {F V : Type 0} → (number : V → ℕ) → ReprOptions → List (List (LayoutData F V)) → V × ℕ → Bool
 counts number repr variants item = is_c repr || not (has_no_value (variant_at variants (number item.0)))
 
 -- the discriminants that count
-abbrev pub counting_of : {F V : Type 0} → (number : V → ℕ) → ReprOptions → List (List (LayoutData F V)) → List (V × ℕ) → List ℕ
-counting_of number repr variants items = map (λ item. item.1) (filter (counts number repr variants) items)
+abbrev pub counted_discriminants : {F V : Type 0} → (number : V → ℕ) → ReprOptions → List (List (LayoutData F V)) → List (V × ℕ) → List ℕ
+counted_discriminants number repr variants items = map (λ item. item.1) (filter (counts number repr variants) items)
 
 -- the discriminants of the variants whose every field may have values
 abbrev pub inhabited_of : {F V : Type 0} → (number : V → ℕ) → List (List (LayoutData F V)) → List (V × ℕ) → List ℕ

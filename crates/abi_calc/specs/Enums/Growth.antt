@@ -9,7 +9,7 @@ use Rattle.abi_scalar.specs.declared.repr.ReprOptions.{ReprOptions}
 use Rattle.abi_scalar.specs.declared.variants.VariantLayout.{VariantLayout}
 use Rattle.abi_scalar.specs.Order.{indices_by_offset}
 use Rattle.abi_univariant.specs.Part.{max_align}
-use Rattle.abi_calc.specs.Enums.Path.{is_free, takes_no_room}
+use Rattle.abi_calc.specs.Enums.EnumStrategy.{is_free, takes_no_room}
 
 -- the field's alignment where it takes room, else what comes later
 abbrev pub align_or : {F V : Type 0} → Option (LayoutData F V) → (later : Option ℕ) → Option ℕ
@@ -38,10 +38,10 @@ grown_tag dl repr tag start =
     if is_free repr then larger_integer tag (unwrap_or (find (is_of_align dl start) integers) tag) else tag
 
 -- a field at the end of the old tag lies at that of the new one
-abbrev pub moved : (old new : ℕ) → (offset : ℕ) → ℕ
-moved old new offset = if offset == old then new else offset
+abbrev pub moved_offset : (old new : ℕ) → (offset : ℕ) → ℕ
+moved_offset old new offset = if offset == old then new else offset
 
 -- a variant beside a tag that grew from the old size to the new one, which the variant's size is no less than
 abbrev pub grown_variant : {F : Type 0} → (old new : ℕ) → VariantLayout F → VariantLayout F
 grown_variant old new variant =
-    if nat_lt old new then record variant { size = max variant.size new; field_offsets = map (moved old new) variant.field_offsets } else variant
+    if nat_lt old new then record variant { size = max variant.size new; field_offsets = map (moved_offset old new) variant.field_offsets } else variant

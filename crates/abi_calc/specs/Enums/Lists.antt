@@ -15,7 +15,7 @@ use Rattle.abi_scalar.specs.Shape.{IsListed, listed_offsets}
 use Rattle.abi_univariant.specs.Apart.{AreApart}
 use Rattle.abi_univariant.specs.Fields.{greatest_align}
 use Rattle.abi_univariant.specs.Least.{IsLeastSize, LiesInSomeOrder}
-use Rattle.abi_univariant.specs.List.{IsListAnswer, IsListError}
+use Rattle.abi_univariant.specs.List.{IsUnivariantAnswer, IsUnivariantError}
 use Rattle.abi_univariant.specs.ListNiche.{HasLargestNiche, IsNicheOfPart}
 use Rattle.abi_univariant.specs.Placement.{start_of}
 
@@ -37,7 +37,7 @@ abbrev pub AreListLayouts : {F V H : Type 0} → (layout_of : H → LayoutData F
     → (variants : List (List H)) → (lists : List (LayoutData F V)) → Type 0
 AreListLayouts layout_of at first dl repr kind [] [] = ⊤
 AreListLayouts layout_of at first dl repr kind (fields ∷ variants) (list ∷ lists) =
-    IsListAnswer layout_of at first dl repr kind fields (Ok list) × AreListLayouts layout_of at first dl repr kind variants lists
+    IsUnivariantAnswer layout_of at first dl repr kind fields (Ok list) × AreListLayouts layout_of at first dl repr kind variants lists
 AreListLayouts layout_of at first dl repr kind _ _ = ⊥
 
 -- the error is that of the first variant whose fields have no layout
@@ -45,8 +45,8 @@ abbrev pub IsFirstListError : {F V H : Type 0} → (layout_of : H → LayoutData
     → (variants : List (List H)) → LayoutCalculatorError H → Type 0
 IsFirstListError layout_of at first dl repr kind [] error = ⊥
 IsFirstListError layout_of at first dl repr kind (fields ∷ variants) error =
-    IsListError layout_of dl repr kind fields error
-    ⊎ ((list : LayoutData _ _) × IsListAnswer layout_of at first dl repr kind fields (Ok list) × IsFirstListError layout_of at first dl repr kind variants error)
+    IsUnivariantError layout_of dl repr kind fields error
+    ⊎ ((list : LayoutData _ _) × IsUnivariantAnswer layout_of at first dl repr kind fields (Ok list) × IsFirstListError layout_of at first dl repr kind variants error)
 
 -- The list's fields are listed one by one: an offset for each of these, and a place in memory order.
 pub record ListsFields {A F V : Type 0} (fields : List A) (list : LayoutData F V) : Type 0 where
@@ -58,7 +58,7 @@ pub record ListsFields {A F V : Type 0} (fields : List A) (list : LayoutData F V
 -- order has, with fields that share no byte and lie behind what the list lies behind, and with the niche of a field that has
 -- the most free numbers.
 pub record IsGoodList {F V H : Type 0} (layout_of : H → LayoutData F V) (at : ℕ → F) (first : V) (dl : TargetDataLayout) (repr : ReprOptions) (kind : StructKind) (fields : List H) (list : LayoutData F V) : Type 0 where
-  pub exact : IsListAnswer layout_of at first dl repr kind fields (Ok list)
+  pub exact : IsUnivariantAnswer layout_of at first dl repr kind fields (Ok list)
   pub listed : ListsFields fields list
   pub lawful : IsLawfulLayout dl list
   pub placed : LiesInSomeOrder at dl repr kind (map layout_of fields) list

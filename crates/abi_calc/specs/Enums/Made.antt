@@ -28,7 +28,7 @@ use Rattle.abi_scalar.specs.Variant.{variant_of}
 use Rattle.abi_univariant.specs.Apart.{AreAligned}
 use Rattle.abi_univariant.specs.Fields.{greatest_align}
 use Rattle.abi_calc.specs.Enums.Discriminants.{IsTagRange}
-use Rattle.abi_calc.specs.Enums.Growth.{grown_tag, moved, start_align}
+use Rattle.abi_calc.specs.Enums.Growth.{grown_tag, moved_offset, start_align}
 use Rattle.abi_calc.specs.Enums.Lists.{behind_tag}
 use Rattle.abi_calc.specs.Enums.Niche.{niche_view}
 use Rattle.abi_calc.specs.Enums.Payload.{is_memory, is_of_scalars, tagged_view}
@@ -42,7 +42,7 @@ use Rattle.abi_calc.specs.Marks.{HasEnumMarks}
 -- A variant behind a tag, from its list behind a tag of so many bytes that grew to so many, in a whole of this size: fields at the
 -- old tag's end lie at the new one's.
 pub record IsBehindTag {F V : Type 0} (old new whole : ℕ) (list : LayoutData F V) (layout : VariantLayout F) : Type 0 where
-  pub offsets : layout.field_offsets ≡ map (moved old new) (listed_offsets list.fields)
+  pub offsets : layout.field_offsets ≡ map (moved_offset old new) (listed_offsets list.fields)
   pub order : layout.fields_in_memory_order ≡ listed_order list.fields
   pub size : list.size ≤ layout.size
   pub most : layout.size ≤ max (max list.size new) whole
@@ -66,14 +66,14 @@ pub record IsSeenBehindTag {F V : Type 0} (old new whole : ℕ) (view : BackendR
   pub as_list : takes_view view list ≡ false → (layout.backend_repr ≡ list.backend_repr) × (layout.size ≡ (if nat_lt old new then max list.size new else list.size))
 
 -- each variant from its list
-abbrev pub AreSeenBehindTag : {F V : Type 0} → (old new whole : ℕ) → (view : BackendRepr) → (lists : List (LayoutData F V)) → (layouts : List (VariantLayout F)) → Type 0
-AreSeenBehindTag old new whole view [] [] = ⊤
-AreSeenBehindTag old new whole view (list ∷ lists) (layout ∷ layouts) = IsSeenBehindTag old new whole view list layout × AreSeenBehindTag old new whole view lists layouts
-AreSeenBehindTag old new whole view _ _ = ⊥
+abbrev pub HaveViewBehindTag : {F V : Type 0} → (old new whole : ℕ) → (view : BackendRepr) → (lists : List (LayoutData F V)) → (layouts : List (VariantLayout F)) → Type 0
+HaveViewBehindTag old new whole view [] [] = ⊤
+HaveViewBehindTag old new whole view (list ∷ lists) (layout ∷ layouts) = IsSeenBehindTag old new whole view list layout × HaveViewBehindTag old new whole view lists layouts
+HaveViewBehindTag old new whole view _ _ = ⊥
 
 -- An enum with a tag is made of its variants' lists behind the integer that is asked for: it is aligned as the greatest of them,
 -- and marked as they are. The tag is an integer that is no smaller, with the same sign: where the layout is free, the larger one of the size
--- and the alignment with which the variants' first fields begin. `number` tells the number of a field.
+-- and the alignment with which the variants' first fields begin. `number` gives the number of a field.
 pub record IsMadeByTag {F V : Type 0} (at : ℕ → F) (number : F → ℕ) (dl : TargetDataLayout) (repr : ReprOptions) (asks : RangeFrom ℤ → RangeToInclusive ℕ → Integer × Bool → Type 0) (values : List ℕ)
     (variants : List (List (LayoutData F V))) (layout : LayoutData F V) : Type 0 where
   pub asked : Integer
@@ -90,13 +90,13 @@ pub record IsMadeByTag {F V : Type 0} (at : ℕ → F) (number : F → ℕ) (dl 
   pub holds : primitive_of tag ≡ Int grown signed
   pub field : F
   pub layouts : List (VariantLayout F)
-  pub told : layout.variants ≡ Multiple tag Direct field layouts
+  pub tag_distinguishes : layout.variants ≡ Multiple tag Direct field layouts
   pub places : AreBehindTag (integer_size asked) (integer_size grown) layout.size lists layouts
   -- It is seen as the tag where that is all, else as the tag and the scalar that the variants have in common, where these lie as a pair
   -- does, else as bytes in memory.
   pub view : layout.backend_repr ≡
       tagged_view dl tag layout.size layout.align.abi (payloads_of dl (integer_size asked) (integer_size grown) variants lists)
-  pub seen : AreSeenBehindTag (integer_size asked) (integer_size grown) layout.size layout.backend_repr lists layouts
+  pub seen : HaveViewBehindTag (integer_size asked) (integer_size grown) layout.size layout.backend_repr lists layouts
 
 -- ---- beside a niche
 
@@ -125,7 +125,7 @@ AreBesideNiche place width whole untagged from (list ∷ lists) (layout ∷ layo
 AreBesideNiche place width whole untagged from _ _ = ⊥
 
 -- An enum with a niche is made of its variants' always sized lists: it is aligned as the greatest of them, and marked as they
--- are. The niche is that of the untagged one's list; `number` tells the place of a variant.
+-- are. The niche is that of the untagged one's list; `number` gives the place of a variant.
 pub record IsMadeInNiche {F V : Type 0} (at : ℕ → F) (number : V → ℕ) (dl : TargetDataLayout) (repr : ReprOptions) (variants : List (List (LayoutData F V))) (layout : LayoutData F V) : Type 0 where
   pub lists : List (LayoutData F V)
   pub own : AreFieldLists at dl repr AlwaysSized variants lists
@@ -137,7 +137,7 @@ pub record IsMadeInNiche {F V : Type 0} (at : ℕ → F) (number : V → ℕ) (d
   pub start : ℕ
   pub field : F
   pub layouts : List (VariantLayout F)
-  pub told : layout.variants ≡ Multiple tag (InNiche untagged span start) field layouts
+  pub tag_distinguishes : layout.variants ≡ Multiple tag (InNiche untagged span start) field layouts
   pub list : LayoutData F V
   pub there : slice_get lists (number untagged) ≡ Some list
   pub niche : Niche

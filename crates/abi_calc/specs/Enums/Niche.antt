@@ -24,7 +24,7 @@ use Rattle.abi_univariant.specs.Fields.{greatest_repr_align, greatest_unadjusted
 use Rattle.abi_univariant.specs.Part.{max_align}
 use Rattle.abi_univariant.specs.Placement.{source_order}
 use Rattle.abi_calc.specs.declared.enums.niche.Room.{Room}
-use Rattle.abi_calc.specs.Enums.Path.{is_absent, variant_at}
+use Rattle.abi_calc.specs.Enums.EnumStrategy.{is_absent, variant_at}
 use Rattle.abi_calc.specs.Enums.Tagged.{lists_align, lists_size}
 
 -- the place of the last of the greatest: the first that no later one reaches

@@ -19,11 +19,11 @@ use Rattle.abi_univariant.specs.ListView.{pair_view}
 use Rattle.abi_univariant.specs.Part.{is_empty_view}
 use Rattle.abi_calc.specs.declared.enums.payload.Payload.{Payload}
 use Rattle.abi_calc.specs.declared.enums.payload.Payload.TheVariants.{Nothing, One, Other}
-use Rattle.abi_calc.specs.Enums.Single.{widened}
+use Rattle.abi_calc.specs.Enums.Single.{widened_scalar}
 
 -- what a field with bytes is: one scalar at its offset, or something else
 abbrev pub payload_of_view : TargetDataLayout → BackendRepr → (offset : ℕ) → Payload
-payload_of_view dl (OneScalar scalar) offset = One (widened dl scalar) offset
+payload_of_view dl (OneScalar scalar) offset = One (widened_scalar dl scalar) offset
 payload_of_view dl _ offset = Other
 
 -- what a field is: nothing where it has no bytes
@@ -32,16 +32,16 @@ payload_of_field dl field offset =
     if is_empty_view field.backend_repr field.size then Nothing else payload_of_view dl field.backend_repr offset
 
 -- two of them in one variant
-abbrev pub beside : Payload → Payload → Payload
-beside Nothing p = p
-beside (One scalar offset) Nothing = One scalar offset
-beside (One scalar offset) (One scalar' offset') = Other
-beside (One scalar offset) Other = Other
-beside Other p = Other
+abbrev pub payload_of_two : Payload → Payload → Payload
+payload_of_two Nothing p = p
+payload_of_two (One scalar offset) Nothing = One scalar offset
+payload_of_two (One scalar offset) (One scalar' offset') = Other
+payload_of_two (One scalar offset) Other = Other
+payload_of_two Other p = Other
 
 -- what a variant's fields are together, at these offsets
 abbrev pub payload_of : {F V : Type 0} → TargetDataLayout → List (LayoutData F V) → (offsets : List ℕ) → Payload
-payload_of dl (field ∷ fields) (offset ∷ offsets) = beside (payload_of_field dl field offset) (payload_of dl fields offsets)
+payload_of dl (field ∷ fields) (offset ∷ offsets) = payload_of_two (payload_of_field dl field offset) (payload_of dl fields offsets)
 payload_of dl _ _ = Nothing
 
 -- equally large and equally aligned
@@ -84,20 +84,20 @@ payload_at dl initialized offset (Some value) = One (scalar_of dl initialized va
 payload_at dl initialized offset None = Other
 
 -- what two variants have in common; where one has nothing, the other's scalar may be left without a number
-abbrev pub common : TargetDataLayout → Payload → Payload → Payload
-common dl Nothing Nothing = Nothing
-common dl Nothing (One scalar offset) = One (Union (primitive_of scalar)) offset
-common dl (One scalar offset) Nothing = One (Union (primitive_of scalar)) offset
-common dl (One a offset) (One b offset') =
+abbrev pub common_payload : TargetDataLayout → Payload → Payload → Payload
+common_payload dl Nothing Nothing = Nothing
+common_payload dl Nothing (One scalar offset) = One (Union (primitive_of scalar)) offset
+common_payload dl (One scalar offset) Nothing = One (Union (primitive_of scalar)) offset
+common_payload dl (One a offset) (One b offset') =
     if offset == offset'
     then payload_at dl (is_initialized a && is_initialized b) offset (shared_primitive dl (primitive_of a) (primitive_of b))
     else Other
-common dl _ _ = Other
+common_payload dl _ _ = Other
 
 -- what all variants have in common
 abbrev pub common_of : TargetDataLayout → List Payload → Payload
 common_of dl [] = Nothing
-common_of dl (p ∷ ps) = fold (common dl) p ps
+common_of dl (p ∷ ps) = fold (common_payload dl) p ps
 
 -- the tag and one scalar beside it, where a pair of them lies as they do
 abbrev pub beside_tag : TargetDataLayout → (tag : Scalar) → (size align : ℕ) → Payload → BackendRepr
@@ -121,16 +121,16 @@ is_memory (Memory sized) = true
 is_memory _ = false
 
 -- a variant with fields that is seen as bytes takes a view of scalars over from its enum, and at least the enum's size
-abbrev pub seen_as : {F : Type 0} → (view : BackendRepr) → (size : ℕ) → VariantLayout F → VariantLayout F
-seen_as view size variant =
+abbrev pub variant_with_view : {F : Type 0} → (view : BackendRepr) → (size : ℕ) → VariantLayout F → VariantLayout F
+variant_with_view view size variant =
     if is_of_scalars view && is_memory variant.backend_repr && nat_lt 0 (length variant.field_offsets)
     then record variant { backend_repr = view; size = max variant.size size }
     else variant
 
 -- a payload's scalar is lawful
-abbrev pub IsLawfulPayload : TargetDataLayout → Payload → Type 0
-IsLawfulPayload dl (One scalar offset) = IsLawfulScalar dl scalar
-IsLawfulPayload dl _ = ⊤
+abbrev pub IsWellFormedPayload : TargetDataLayout → Payload → Type 0
+IsWellFormedPayload dl (One scalar offset) = IsLawfulScalar dl scalar
+IsWellFormedPayload dl _ = ⊤
 
 -- a scalar that holds any number of its width, or any bytes
 abbrev pub IsWide : TargetDataLayout → Scalar → Type 0

@@ -19,7 +19,7 @@ AreApartBehind whole tag (fields ∷ variants) (layout ∷ layouts) =
     AreApart whole (0 ∷ layout.field_offsets) (tag ∷ map (λ f. f.size) fields) × AreApartBehind whole tag variants layouts
 AreApartBehind whole tag _ _ = ⊥
 
--- the same of the variants that a tag tells apart
+-- the same of the variants that a tag distinguishes
 abbrev pub AreApartAmong : {F V : Type 0} → TargetDataLayout → (whole : ℕ) → (variants : List (List (LayoutData F V))) → Variants F V → Type 0
 AreApartAmong dl whole variants (Multiple tag encoding field layouts) = AreApartBehind whole (scalar_size dl tag) variants layouts
 AreApartAmong dl whole variants _ = ⊥
@@ -37,7 +37,7 @@ DifferAmong dl width values (Multiple tag encoding field layouts) =
     → AllPairs (λ v w. v % numbers_of (scalar_size dl tag) ≢ w % numbers_of (scalar_size dl tag)) values
 DifferAmong dl width values _ = ⊥
 
--- a view of scalars begins with the tag that tells the variants apart
+-- a view of scalars begins with the tag that distinguishes the variants
 abbrev pub BeginsWithTagOf : {F V : Type 0} → TargetDataLayout → Variants F V → BackendRepr → Type 0
 BeginsWithTagOf dl (Multiple tag encoding field layouts) view = BeginsWithTag dl tag view
 BeginsWithTagOf dl _ view = ⊥

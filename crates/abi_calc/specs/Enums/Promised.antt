@@ -1,4 +1,4 @@
--- What is told of a struct or an enum: of a type that is the list of its fields, and of one of several variants.
+-- What is promised of a struct or an enum: of a type that is the list of its fields, and of one of several variants.
 use Rattle.std.specs.Prelude.{◌≡◌, ◌⊎◌, ℕ, All, Bool, Err, IfErr, IfOk, IsSome, IsTrue, List, None, Ok, Option, Result, ℤ, false, map}
 use Rattle.std.specs.Iterator.Runs.{EachRunFrom, WholeRun}
 use Rattle.std.specs.List.{list_all}
@@ -20,17 +20,17 @@ use Rattle.abi_univariant.specs.Least.{IsEachOrderTooLarge}
 use Rattle.abi_univariant.specs.List.{AreSized}
 use Rattle.abi_univariant.specs.Part.{is_unsized}
 use Rattle.abi_calc.specs.Enums.Answer.{IsGoodSingle, kind_at}
-use Rattle.abi_calc.specs.Enums.Beside.{AreToldApart}
-use Rattle.abi_calc.specs.Enums.Discriminants.{counting_of}
+use Rattle.abi_calc.specs.Enums.Beside.{AreDistinguished}
+use Rattle.abi_calc.specs.Enums.Discriminants.{counted_discriminants}
 use Rattle.abi_calc.specs.Enums.Lists.{HaveGoodLists, behind_tag}
 use Rattle.abi_calc.specs.Enums.Made.{AreVariantsAligned, HasLeastTag, IsMadeOfLists}
-use Rattle.abi_calc.specs.declared.enums.path.Path.TheVariants.{NoValue, OneList, Several}
-use Rattle.abi_calc.specs.Enums.Path.{has_no_value, path_of, variant_at}
+use Rattle.abi_calc.specs.declared.enums.strategy.EnumStrategy.TheVariants.{NoValue, OneList, Several}
+use Rattle.abi_calc.specs.Enums.EnumStrategy.{has_no_value, strategy_of, variant_at}
 use Rattle.abi_calc.specs.Enums.Places.{AreApartAmong, AreNumbersAmong, DifferAmong, HasViewOfTag}
 use Rattle.abi_calc.specs.Enums.Several.{HasEnumSize, IsAlwaysTooLarge, IsAskedTooLarge}
 use Rattle.abi_calc.specs.Enums.Sizes.{IsTaggedSize, IsTaggedTooLarge}
 use Rattle.abi_calc.specs.Ordered.{IsOrderedWhole, IsTagField}
-use Rattle.abi_calc.specs.Seen.{IsSeenAsList}
+use Rattle.abi_calc.specs.Seen.{HasViewOfFields}
 
 -- A type that is one list is laid out and refused as `layout_of_univariant` does it. `index` is that of its variant.
 pub record IsListedType {F V H : Type 0} (layout_of : H → LayoutData F V) (at : ℕ → F) (number : F → ℕ) (index : V)
@@ -38,7 +38,7 @@ pub record IsListedType {F V H : Type 0} (layout_of : H → LayoutData F V) (at 
     (result : Result (LayoutData F V) (LayoutCalculatorError H)) : Type 0 where
   pub good : IfOk result (IsGoodSingle layout_of at number dl repr kind fields)
   -- It has one variant, and the niche, the view and the marks of the list, where niches may be used.
-  pub seen : IfOk result (IsSeenAsList index dl repr kind optimizations (map layout_of fields))
+  pub seen : IfOk result (HasViewOfFields index dl repr kind optimizations (map layout_of fields))
   -- It is refused for its size only where every allowed order is too large, and a list of sized fields always then; sized fields
   -- are refused by no other name.
   pub too_large : result ≡ Err SizeOverflow → IsEachOrderTooLarge dl repr kind (map layout_of fields)
@@ -85,7 +85,7 @@ pub record IsPlacedByTag {F V : Type 0} (dl : TargetDataLayout) (asked : Integer
   pub numbers : AreNumbersAmong dl values layout.variants
   pub differ : DifferAmong dl (integer_size asked) values layout.variants
 
--- How large an enum that isn't packed is, and when it is refused for its size. `HasSize` tells the size by the data layout, what the
+-- How large an enum that isn't packed is, and when it is refused for its size. `HasSize` gives the size by the data layout, what the
 -- enum asks for, which integer the tag gets, the discriminants that count, and the variants' fields.
 pub record IsSizedEnum {F V H : Type 0} (layout_of : H → LayoutData F V)
     (HasSize : TargetDataLayout → ReprOptions → (RangeFrom ℤ → RangeToInclusive ℕ → Integer × Bool → Type 0) → List ℕ → List (List H) → ℕ → Type 0)
@@ -99,43 +99,43 @@ pub record IsSizedEnum {F V H : Type 0} (layout_of : H → LayoutData F V)
       IsAnswer (Err SizeOverflow) result
   pub no_other : All AreSized (map (map layout_of) variants) → IfErr result (λ e. (e ≡ SizeOverflow) ⊎ (e ≡ OutOfMemory))
 
--- How large several variants are, and when they are refused. `first` is the index of the first variant and `place` tells the number
--- of one; `asks` tells the tag's integer, and `gives`, from `given` on, the discriminants.
+-- How large several variants are, and when they are refused. `first` is the index of the first variant and `place` gives the number
+-- of one; `asks` gives the tag's integer, and `gives`, from `given` on, the discriminants.
 pub record AreSizedVariants {F V H S : Type 0} (layout_of : H → LayoutData F V) (at : ℕ → F) (first : V) (place : V → ℕ)
     (dl : TargetDataLayout) (repr : ReprOptions) (asks : RangeFrom ℤ → RangeToInclusive ℕ → Integer × Bool → Type 0)
     (gives : S → Option (V × ℕ) → S → Type 0) (given : S) (variants : List (List H))
     (result : Result (LayoutData F V) (LayoutCalculatorError H)) : Type 0 where
   -- The size is that of the variants' always sized lists where these leave room for a niche, else the tagged size.
   pub size : IfOk result (λ l. WholeRun gives given (λ run.
-      HasEnumSize layout_of at first dl repr asks (counting_of place repr (map (map layout_of) variants) run.items) variants l.size))
+      HasEnumSize layout_of at first dl repr asks (counted_discriminants place repr (map (map layout_of) variants) run.items) variants l.size))
   -- They are refused where they are packed, and for their size only where a list behind the tag, or the tagged size, is too large,
   -- and sized fields always then; sized fields are refused by no other name.
   pub packed : IsSome repr.pack → result ≡ Err ReprConflict
   pub too_large : result ≡ Err SizeOverflow → WholeRun gives given (λ run.
-      IsAskedTooLarge dl repr asks (counting_of place repr (map (map layout_of) variants) run.items) (map (map layout_of) variants))
+      IsAskedTooLarge dl repr asks (counted_discriminants place repr (map (map layout_of) variants) run.items) (map (map layout_of) variants))
   pub refused : repr.pack ≡ None → All AreSized (map (map layout_of) variants) →
       EachRunFrom gives given (λ run. IsTrue run.whole →
-      IsAlwaysTooLarge dl repr asks (counting_of place repr (map (map layout_of) variants) run.items) (map (map layout_of) variants)) →
+      IsAlwaysTooLarge dl repr asks (counted_discriminants place repr (map (map layout_of) variants) run.items) (map (map layout_of) variants)) →
       IsAnswer (Err SizeOverflow) result
   pub no_other : repr.pack ≡ None → All AreSized (map (map layout_of) variants) →
       IfErr result (λ e. (e ≡ SizeOverflow) ⊎ (e ≡ OutOfMemory))
 
--- The answer to several variants. `first` is the index of the first variant and `place` tells the number of one; `asks` tells the
+-- The answer to several variants. `first` is the index of the first variant and `place` gives the number of one; `asks` gives the
 -- tag's integer, and `gives`, from `given` on, the discriminants.
 pub record AreSeveralVariants {F V H S : Type 0} (layout_of : H → LayoutData F V) (at : ℕ → F) (number : F → ℕ) (first : V) (place : V → ℕ)
     (dl : TargetDataLayout) (repr : ReprOptions) (asks : RangeFrom ℤ → RangeToInclusive ℕ → Integer × Bool → Type 0)
     (gives : S → Option (V × ℕ) → S → Type 0) (given : S) (variants : List (List H))
     (result : Result (LayoutData F V) (LayoutCalculatorError H)) : Type 0 where
   pub good : IfOk result (IsGoodEnum number (map (map layout_of) variants))
-  -- They are told apart by a tag of its own, behind which their fields lie, or by a niche of the untagged one.
-  pub told : IfOk result (λ l. WholeRun gives given (λ run. AreToldApart dl place (map (map layout_of) variants) run.items l))
+  -- They are distinguished by a tag of its own, behind which their fields lie, or by a niche of the untagged one.
+  pub tag_distinguishes : IfOk result (λ l. WholeRun gives given (λ run. AreDistinguished dl place (map (map layout_of) variants) run.items l))
   -- Each variant is laid out as a list, in an allowed order of the least size; the alignment is the greatest of these lists', and
   -- the marks are theirs.
   pub made : IfOk result (λ l. WholeRun gives given (λ run.
-      IsMadeOfLists at number place dl repr asks (counting_of place repr (map (map layout_of) variants) run.items) (map (map layout_of) variants) l))
+      IsMadeOfLists at number place dl repr asks (counted_discriminants place repr (map (map layout_of) variants) run.items) (map (map layout_of) variants) l))
   -- A tag of its own holds the least range of the discriminants that count.
   pub tag : IfOk result (λ l. WholeRun gives given (λ run.
-      HasLeastTag (counting_of place repr (map (map layout_of) variants) run.items) l.variants))
+      HasLeastTag (counted_discriminants place repr (map (map layout_of) variants) run.items) l.variants))
   -- How large they are, and when they are refused.
   pub sized : AreSizedVariants layout_of at first place dl repr asks gives given variants result
 
@@ -145,8 +145,8 @@ pub record IsStructOrEnum {F V H S : Type 0} (layout_of : H → LayoutData F V) 
     (dl : TargetDataLayout) (repr : ReprOptions) (is_enum always_sized : Bool) (optimizations : NicheOptimizations)
     (asks : RangeFrom ℤ → RangeToInclusive ℕ → Integer × Bool → Type 0) (gives : S → Option (V × ℕ) → S → Type 0) (given : S)
     (variants : List (List H)) (result : Result (LayoutData F V) (LayoutCalculatorError H)) : Type 0 where
-  pub never : path_of is_enum repr (map (map layout_of) variants) ≡ NoValue → result ≡ Ok (never_layout dl)
-  pub listed : (i : ℕ) → path_of is_enum repr (map (map layout_of) variants) ≡ OneList i →
+  pub never : strategy_of is_enum repr (map (map layout_of) variants) ≡ NoValue → result ≡ Ok (never_layout dl)
+  pub listed : (i : ℕ) → strategy_of is_enum repr (map (map layout_of) variants) ≡ OneList i →
       IsListedType layout_of at number (index i) dl repr optimizations (kind_at is_enum always_sized variants i) (variant_at variants i) result
-  pub several : path_of is_enum repr (map (map layout_of) variants) ≡ Several →
+  pub several : strategy_of is_enum repr (map (map layout_of) variants) ≡ Several →
       AreSeveralVariants layout_of at number (index 0) place dl repr asks gives given variants result

@@ -1,4 +1,4 @@
--- Whether the lists of an enum's variants leave room for a niche that tells the variants apart, and how large the enum then is.
+-- Whether the lists of an enum's variants leave room for a niche that distinguishes the variants, and how large the enum then is.
 use Rattle.std.specs.Prelude.{◌≡◌, ◌≢◌, ℕ, ◌+◌, ◌^◌, ◌≤◌, ◌⊎◌, Contains, false, List, map, Some, slice_get, true}
 use Rattle.std.specs.Int.{next_multiple_of}
 use Rattle.abi_base.specs.declared.data_layout.TargetDataLayout.{TargetDataLayout}
@@ -11,7 +11,7 @@ use Rattle.abi_scalar.specs.Niche.{niche_size}
 use Rattle.abi_univariant.specs.ListNiche.{HasFree}
 use Rattle.abi_calc.specs.Enums.Lists.{AreListLayouts}
 use Rattle.abi_calc.specs.Enums.Niche.{needing_numbers, niche_of_list, span_count, span_of, untagged_of}
-use Rattle.abi_calc.specs.Enums.Path.{is_free, variant_at}
+use Rattle.abi_calc.specs.Enums.EnumStrategy.{is_free, variant_at}
 use Rattle.abi_calc.specs.Enums.Sizes.{IsTaggedSize}
 use Rattle.abi_calc.specs.Enums.Tagged.{lists_size}
 
@@ -26,7 +26,7 @@ abbrev pub HasRoomBeside : {F V : Type 0} → (place width whole : ℕ) → Layo
 HasRoomBeside place width whole list =
     (list.size ≤ place) ⊎ (next_multiple_of (place + width) (2 ^ list.align.abi) + list.size ≤ whole)
 
--- The lists leave room for a niche that tells the variants apart: a field of the last greatest variant has as many free numbers
+-- The lists leave room for a niche that distinguishes the variants: a field of the last greatest variant has as many free numbers
 -- as there are variants from the first to the last other one that isn't absent, and every other list has room beside that
 -- variant's niche.
 pub record LeaveRoom {F V : Type 0} (dl : TargetDataLayout) (variants : List (List (LayoutData F V))) (lists : List (LayoutData F V)) : Type 0 where

@@ -13,8 +13,8 @@ use Rattle.abi_scalar.specs.declared.variants.RangeFrom.{RangeFrom}
 use Rattle.abi_scalar.specs.declared.variants.RangeToInclusive.{RangeToInclusive}
 use Rattle.abi_scalar.specs.Range.{numbers_of}
 use Rattle.abi_scalar.specs.Repr.{discr_type_of}
-use Rattle.abi_calc.specs.Enums.Choice.{IsNicheAnswer, better}
-use Rattle.abi_calc.specs.Enums.Discriminants.{IsAskedWith, counting_of, inhabited_of}
+use Rattle.abi_calc.specs.Enums.Choice.{IsNicheAnswer, preferred_layout}
+use Rattle.abi_calc.specs.Enums.Discriminants.{IsAskedWith, counted_discriminants, inhabited_of}
 use Rattle.abi_calc.specs.Enums.Lists.{AreListLayouts, HaveGoodLists, behind_tag}
 use Rattle.abi_calc.specs.Enums.Room.{IsEnumSize}
 use Rattle.abi_calc.specs.Enums.Sizes.{IsTaggedSize, IsTaggedTooLarge}
@@ -38,15 +38,15 @@ pub record IsLawfulTag (dl : TargetDataLayout) (repr : ReprOptions) (values : Li
   pub most : integer_size asked ≤ integer_size (integer_of_type dl (discr_type_of repr))
   pub differ : AllPairs (λ v w. v % numbers_of (integer_size asked) ≢ w % numbers_of (integer_size asked)) values
 
--- each answer is such an integer; `number` tells the place of a variant
-abbrev pub AreLawfulTags : {F V : Type 0} → (number : V → ℕ) → TargetDataLayout → ReprOptions → (asks : RangeFrom ℤ → RangeToInclusive ℕ → Integer × Bool → Type 0)
+-- each answer is such an integer; `number` gives the place of a variant
+abbrev pub AreWellFormedTags : {F V : Type 0} → (number : V → ℕ) → TargetDataLayout → ReprOptions → (asks : RangeFrom ℤ → RangeToInclusive ℕ → Integer × Bool → Type 0)
     → (variants : List (List (LayoutData F V))) → (items : List (V × ℕ)) → Type 0
-AreLawfulTags number dl repr asks variants items =
-    (asked : Integer) (signed : Bool) → IsAskedFor dl repr asks (counting_of number repr variants items) asked signed → IsLawfulTag dl repr (inhabited_of number variants items) asked
+AreWellFormedTags number dl repr asks variants items =
+    (asked : Integer) (signed : Bool) → IsAskedFor dl repr asks (counted_discriminants number repr variants items) asked signed → IsLawfulTag dl repr (inhabited_of number variants items) asked
 
 -- the better of the layout with a tag, where it is there, and of the one with a niche
 abbrev pub better_of : {F V H : Type 0} → TargetDataLayout → (tagged : Result (LayoutData F V) (LayoutCalculatorError H)) → (niche : Option (LayoutData F V)) → Result (LayoutData F V) (LayoutCalculatorError H)
-better_of dl (Ok tagged) niche = Ok (better dl tagged niche)
+better_of dl (Ok tagged) niche = Ok (preferred_layout dl tagged niche)
 better_of dl (Err error) niche = Err error
 
 -- the better of the answer with a tag that is asked for as this integer and of this layout with a niche
@@ -64,13 +64,13 @@ IsBestAnswer layout_of at number index dl repr asked signed values variants resu
     × IsBetterAnswer layout_of at number (index 0) dl repr asked signed values variants niche result
 
 -- the answer to an enum of several variants that isn't packed, memory aside: that with a tag, or the layout with a niche where that
--- is the better one; `index` makes the index of a variant, and `place` tells its number
+-- is the better one; `index` makes the index of a variant, and `place` gives its number
 abbrev pub IsEnumAnswer : {F V H : Type 0} → (layout_of : H → LayoutData F V) → (at : ℕ → F) → (number : F → ℕ) → (index : ℕ → V) → (place : V → ℕ) → TargetDataLayout → ReprOptions
     → (asks : RangeFrom ℤ → RangeToInclusive ℕ → Integer × Bool → Type 0) → (variants : List (List H)) → (items : List (V × ℕ)) → Result (LayoutData F V) (LayoutCalculatorError H) → Type 0
 IsEnumAnswer layout_of at number index place dl repr asks variants items result =
     (result ≡ Err OutOfMemory)
     ⊎ ((niche : Option (LayoutData _ _)) × IsNicheAnswer AreListLayouts layout_of at index dl repr variants niche
-    × (tagged : Result (LayoutData _ _) (LayoutCalculatorError _)) × IsAskedAnswer layout_of at number (index 0) dl repr asks (counting_of place repr (map (map layout_of) variants) items) variants tagged
+    × (tagged : Result (LayoutData _ _) (LayoutCalculatorError _)) × IsAskedAnswer layout_of at number (index 0) dl repr asks (counted_discriminants place repr (map (map layout_of) variants) items) variants tagged
     × (result ≡ better_of dl tagged niche))
 
 -- packed variants are refused, whatever their fields; else it is that answer for the discriminants that are given

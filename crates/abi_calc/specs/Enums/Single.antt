@@ -17,31 +17,31 @@ use Rattle.abi_scalar.specs.declared.scalar.Scalar.TheVariants.{Initialized, Uni
 use Rattle.abi_scalar.specs.declared.variants.Variants.TheVariants.{Single}
 use Rattle.abi_scalar.specs.Range.{full_range}
 use Rattle.abi_scalar.specs.Scalar.{IsLawfulScalar}
-use Rattle.abi_univariant.specs.List.{IsListAnswer}
+use Rattle.abi_univariant.specs.List.{IsUnivariantAnswer}
 
 -- an enum's list is always sized; a struct's may lose its size where it has fields and isn't said to be sized
 abbrev pub single_kind : (is_enum always_sized : Bool) → (count : ℕ) → StructKind
 single_kind is_enum always_sized count = if is_enum || always_sized || (count == 0) then AlwaysSized else MaybeUnsized
 
 -- the scalar, holding every number of its width; a union's scalar stays one
-abbrev pub widened : TargetDataLayout → Scalar → Scalar
-widened dl (Initialized value range) = Initialized value (full_range (primitive_size dl value))
-widened dl (Union value) = Union value
+abbrev pub widened_scalar : TargetDataLayout → Scalar → Scalar
+widened_scalar dl (Initialized value range) = Initialized value (full_range (primitive_size dl value))
+widened_scalar dl (Union value) = Union value
 
 -- the scalars of the view are lawful
-abbrev pub HasLawfulScalars : TargetDataLayout → BackendRepr → Type 0
-HasLawfulScalars dl (OneScalar scalar) = IsLawfulScalar dl scalar
-HasLawfulScalars dl (ScalarPair a b b_offset) = IsLawfulScalar dl a × IsLawfulScalar dl b
-HasLawfulScalars dl (SimdVector element count) = IsLawfulScalar dl element
-HasLawfulScalars dl (SimdScalableVector element count vectors) = IsLawfulScalar dl element
-HasLawfulScalars dl (Memory sized) = ⊤
+abbrev pub HasWellFormedScalars : TargetDataLayout → BackendRepr → Type 0
+HasWellFormedScalars dl (OneScalar scalar) = IsLawfulScalar dl scalar
+HasWellFormedScalars dl (ScalarPair a b b_offset) = IsLawfulScalar dl a × IsLawfulScalar dl b
+HasWellFormedScalars dl (SimdVector element count) = IsLawfulScalar dl element
+HasWellFormedScalars dl (SimdScalableVector element count vectors) = IsLawfulScalar dl element
+HasWellFormedScalars dl (Memory sized) = ⊤
 
 -- the view without free numbers
 abbrev pub widened_view : TargetDataLayout → BackendRepr → BackendRepr
-widened_view dl (OneScalar scalar) = OneScalar (widened dl scalar)
-widened_view dl (ScalarPair a b b_offset) = ScalarPair (widened dl a) (widened dl b) b_offset
-widened_view dl (SimdVector element count) = SimdVector (widened dl element) count
-widened_view dl (SimdScalableVector element count vectors) = SimdScalableVector (widened dl element) count vectors
+widened_view dl (OneScalar scalar) = OneScalar (widened_scalar dl scalar)
+widened_view dl (ScalarPair a b b_offset) = ScalarPair (widened_scalar dl a) (widened_scalar dl b) b_offset
+widened_view dl (SimdVector element count) = SimdVector (widened_scalar dl element) count
+widened_view dl (SimdScalableVector element count vectors) = SimdScalableVector (widened_scalar dl element) count vectors
 widened_view dl (Memory sized) = Memory sized
 
 -- where niches may not be used, the type has none
@@ -66,5 +66,5 @@ single_layout index dl optimizations list = record list {
 abbrev pub IsSingleAnswer : {F V H : Type 0} → (layout_of : H → LayoutData F V) → (at : ℕ → F) → (first index : V) → TargetDataLayout → ReprOptions → StructKind → NicheOptimizations
     → List H → Result (LayoutData F V) (LayoutCalculatorError H) → Type 0
 IsSingleAnswer layout_of at first index dl repr kind optimizations fields (Ok layout) =
-    (list : LayoutData _ _) × IsListAnswer layout_of at first dl repr kind fields (Ok list) × (layout ≡ single_layout index dl optimizations list)
-IsSingleAnswer layout_of at first index dl repr kind optimizations fields (Err error) = IsListAnswer layout_of at first dl repr kind fields (Err error)
+    (list : LayoutData _ _) × IsUnivariantAnswer layout_of at first dl repr kind fields (Ok list) × (layout ≡ single_layout index dl optimizations list)
+IsSingleAnswer layout_of at first index dl repr kind optimizations fields (Err error) = IsUnivariantAnswer layout_of at first dl repr kind fields (Err error)

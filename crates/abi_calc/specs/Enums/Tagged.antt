@@ -25,9 +25,9 @@ use Rattle.abi_scalar.specs.Variant.{variant_of}
 use Rattle.abi_univariant.specs.Fields.{greatest_align, greatest_repr_align, greatest_size, greatest_unadjusted, seed_with}
 use Rattle.abi_calc.specs.declared.enums.payload.Payload.{Payload}
 use Rattle.abi_calc.specs.Enums.Discriminants.{IsTagRange}
-use Rattle.abi_calc.specs.Enums.Growth.{grown_tag, grown_variant, moved, start_align}
+use Rattle.abi_calc.specs.Enums.Growth.{grown_tag, grown_variant, moved_offset, start_align}
 use Rattle.abi_calc.specs.Enums.Lists.{AreListLayouts, IsFirstListError, behind_tag}
-use Rattle.abi_calc.specs.Enums.Payload.{payload_of, seen_as, tagged_view}
+use Rattle.abi_calc.specs.Enums.Payload.{payload_of, variant_with_view, tagged_view}
 
 -- the greatest alignment of the variants' lists, and no less than that of aggregates
 abbrev pub lists_align : {F V : Type 0} → TargetDataLayout → List (LayoutData F V) → ℕ
@@ -40,15 +40,15 @@ lists_size dl lists = next_multiple_of (greatest_size lists) (2 ^ lists_align dl
 -- what each variant's fields are beside a tag that grew from the old size to the new one
 abbrev pub payloads_of : {F V : Type 0} → TargetDataLayout → (old new : ℕ) → (variants : List (List (LayoutData F V))) → (lists : List (LayoutData F V)) → List Payload
 payloads_of dl old new (fields ∷ variants) (list ∷ lists) =
-    payload_of dl fields (map (moved old new) (listed_offsets list.fields)) ∷ payloads_of dl old new variants lists
+    payload_of dl fields (map (moved_offset old new) (listed_offsets list.fields)) ∷ payloads_of dl old new variants lists
 payloads_of dl old new _ _ = []
 
 -- the layout with this view, whose tag has grown from so many bytes, and whose variants have these lists; `first` is the index
 -- of the tag's field
-abbrev pub layout_seen_as : {F V : Type 0} → (first : F) → TargetDataLayout → ReprOptions → (old : ℕ) → (tag : Scalar) → (new : ℕ) → (lists : List (LayoutData F V)) → BackendRepr → LayoutData F V
-layout_seen_as first dl repr old tag new lists view = record {
+abbrev pub layout_with_view : {F V : Type 0} → (first : F) → TargetDataLayout → ReprOptions → (old : ℕ) → (tag : Scalar) → (new : ℕ) → (lists : List (LayoutData F V)) → BackendRepr → LayoutData F V
+layout_with_view first dl repr old tag new lists view = record {
   fields = Arbitrary (0 ∷ []) (first ∷ []);
-  variants = Multiple tag Direct first (map (λ list. seen_as view (lists_size dl lists) (grown_variant old new (variant_of list))) lists);
+  variants = Multiple tag Direct first (map (λ list. variant_with_view view (lists_size dl lists) (grown_variant old new (variant_of list))) lists);
   backend_repr = view;
   largest_niche = niche_at dl 0 tag;
   uninhabited = list_all (λ list. list.uninhabited) lists;
@@ -67,7 +67,7 @@ abbrev pub tagged_layout : {F V : Type 0} → (number : F → ℕ) → (first : 
 tagged_layout number first dl repr asked signed range variants lists =
     let grown : Integer = grown_tag dl repr asked (start_align number variants lists) in
     let tag : Scalar = Initialized (Int grown signed) range in
-    layout_seen_as first dl repr (integer_size asked) tag (integer_size grown) lists
+    layout_with_view first dl repr (integer_size asked) tag (integer_size grown) lists
     (tagged_view dl tag (lists_size dl lists) (lists_align dl lists) (payloads_of dl (integer_size asked) (integer_size grown) variants lists))
 
 -- The enum is laid out by these lists of its variants: the size is below the bound, and the tag has the least range of the

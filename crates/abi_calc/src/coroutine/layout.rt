@@ -11,19 +11,19 @@ ghost use Rattle.abi_calc.specs.Coroutine.Layout.{IsStateTag, coroutine_layout, 
 ghost use Rattle.abi_calc.specs.Coroutine.Lists.{own_of};
 ghost use Rattle.abi_calc.specs.Coroutine.States.{HasFields, ranks_of, state_layouts};
 
-use crate::coroutine::states::{Promoted, place_state, ranks_below};
+use crate::coroutine::states::{PromotedLocals, place_state, ranks_below};
 use abi_base::{AbiAlign, Align, HasDataLayout, Integer, Primitive, Size, TargetDataLayout};
 use abi_index::{DenseBitSet, Hash64, Idx, IndexList, IndexVec};
 use abi_scalar::{
     BackendRepr, FieldsShape, LayoutCalculatorError, LayoutData, Scalar, TagEncoding,
     VariantLayout, Variants, WrappingRange,
 };
-use abi_univariant::{ListLayout, ListLayouts, field_offsets, rounded};
+use abi_univariant::{UnivariantLayout, UnivariantLayouts, field_offsets, round_up};
 use std::alloc::{AllocError, Global};
 
 /// The states of a coroutine, and which of its locals, of so many, are promoted.
 #[derive_where(Clone, Copy)]
-pub(crate) struct Saved<'a, FieldIdx: Idx, LocalIdx: Idx> {
+pub(crate) struct CoroutineStates<'a, FieldIdx: Idx, LocalIdx: Idx> {
     pub(crate) promoted: &'a DenseBitSet<LocalIdx>,
     pub(crate) count: usize,
     pub(crate) states: &'a [IndexVec<FieldIdx, LocalIdx>],
@@ -54,19 +54,19 @@ pub fn state_tag(count: usize) -> Scalar
 
 /// The greatest alignment of the lists.
 fn whole_align<FieldIdx: Idx, VariantIdx: Idx>(
-    first: &ListLayout<FieldIdx, VariantIdx>,
-    lists: &ListLayouts<FieldIdx, VariantIdx>,
+    first: &UnivariantLayout<FieldIdx, VariantIdx>,
+    lists: &UnivariantLayouts<FieldIdx, VariantIdx>,
 ) -> Align
     ensures { result ≡ whole_align first.now lists.now }
 {
-    lists.overall().align_with(first.align())
+    lists.summary().align_with(first.align())
 }
 
 /// The size of the greatest list in bytes, rounded up to the greatest alignment.
 fn whole_size<FieldIdx: Idx, VariantIdx: Idx>(
     dl: &TargetDataLayout,
-    first: &ListLayout<FieldIdx, VariantIdx>,
-    lists: &ListLayouts<FieldIdx, VariantIdx>,
+    first: &UnivariantLayout<FieldIdx, VariantIdx>,
+    lists: &UnivariantLayouts<FieldIdx, VariantIdx>,
     align: Align,
 ) -> Size
     requires data_layout { IsLawfulDataLayout dl.now }
@@ -75,17 +75,17 @@ fn whole_size<FieldIdx: Idx, VariantIdx: Idx>(
     requires align { align ≡ whole_align first.now lists.now }
     ensures { result ≡ whole_size first.now lists.now }
 {
-    rounded(first.size().max(lists.overall().size), align)
+    round_up(first.size().max(lists.summary().size), align)
 }
 
 /// Whether the coroutine has no values: the first list has none, or no state has any.
 fn is_uninhabited<FieldIdx: Idx, VariantIdx: Idx>(
-    first: &ListLayout<FieldIdx, VariantIdx>,
-    lists: &ListLayouts<FieldIdx, VariantIdx>,
+    first: &UnivariantLayout<FieldIdx, VariantIdx>,
+    lists: &UnivariantLayouts<FieldIdx, VariantIdx>,
 ) -> bool
     ensures { result ≡ (first.now.uninhabited || list_all (λ list. list.uninhabited) lists.now) }
 {
-    first.uninhabited() | lists.overall().uninhabited
+    first.uninhabited() | lists.summary().uninhabited
 }
 
 /// The fields that stand before the promoted locals, as they follow one another in memory.
@@ -130,7 +130,7 @@ fn ranks_of<FieldIdx: Idx>(
 fn shared_fields<FieldIdx: Idx, VariantIdx: Idx>(
     alloc: Global,
     before: usize,
-    first: &ListLayout<FieldIdx, VariantIdx>,
+    first: &UnivariantLayout<FieldIdx, VariantIdx>,
 ) -> Result<FieldsShape<FieldIdx>, AllocError>
     requires within { before ≤ length (listed_offsets first.now.fields) }
     requires few { before ≤ FieldIdx.MAX_INDEX + 1 }
@@ -151,9 +151,9 @@ fn shared_fields<FieldIdx: Idx, VariantIdx: Idx>(
 fn state_layouts<FieldIdx: Idx, VariantIdx: Idx, LocalIdx: Idx>(
     alloc: Global,
     before: usize,
-    saved: Saved<'_, FieldIdx, LocalIdx>,
-    first: &ListLayout<FieldIdx, VariantIdx>,
-    lists: ListLayouts<FieldIdx, VariantIdx>,
+    saved: CoroutineStates<'_, FieldIdx, LocalIdx>,
+    first: &UnivariantLayout<FieldIdx, VariantIdx>,
+    lists: UnivariantLayouts<FieldIdx, VariantIdx>,
 ) -> Result<IndexList<VariantIdx, VariantLayout<FieldIdx>>, AllocError>
     requires count { saved.count ≡ domain_size saved.promoted.now }
     requires named { saved.count ≤ LocalIdx.MAX_INDEX + 1 }
@@ -169,14 +169,14 @@ fn state_layouts<FieldIdx: Idx, VariantIdx: Idx, LocalIdx: Idx>(
         FieldIdx.number before saved.entry.promoted.now first.now
         (map (map LocalIdx.number) saved.entry.states.now) lists) }
 {
-    let Saved {
+    let CoroutineStates {
         promoted,
         count,
         states,
     } = saved;
     let below = ranks_below(alloc, promoted, count)?;
     let ranks = ranks_of(alloc, before, first.in_memory_order())?;
-    let promoted = Promoted {
+    let promoted = PromotedLocals {
         locals: promoted,
         below: &below,
         offsets: &first.offsets()[before..],
@@ -194,9 +194,9 @@ fn layout_of_size<FieldIdx: Idx, VariantIdx: Idx, LocalIdx: Idx>(
     alloc: Global,
     prefix: usize,
     tag: Scalar,
-    saved: Saved<'_, FieldIdx, LocalIdx>,
-    first: ListLayout<FieldIdx, VariantIdx>,
-    lists: ListLayouts<FieldIdx, VariantIdx>,
+    saved: CoroutineStates<'_, FieldIdx, LocalIdx>,
+    first: UnivariantLayout<FieldIdx, VariantIdx>,
+    lists: UnivariantLayouts<FieldIdx, VariantIdx>,
     extent: Extent,
 ) -> Result<LayoutData<FieldIdx, VariantIdx>, AllocError>
     requires prefix { prefix + length (members_of saved.promoted.now) ≤ FieldIdx.MAX_INDEX }
@@ -247,9 +247,9 @@ pub(crate) fn layout_of_lists<FieldIdx: Idx, VariantIdx: Idx, LocalIdx: Idx, F>(
     dl: &TargetDataLayout,
     prefix: usize,
     tag: Scalar,
-    saved: Saved<'_, FieldIdx, LocalIdx>,
-    first: ListLayout<FieldIdx, VariantIdx>,
-    lists: ListLayouts<FieldIdx, VariantIdx>,
+    saved: CoroutineStates<'_, FieldIdx, LocalIdx>,
+    first: UnivariantLayout<FieldIdx, VariantIdx>,
+    lists: UnivariantLayouts<FieldIdx, VariantIdx>,
 ) -> Result<LayoutData<FieldIdx, VariantIdx>, LayoutCalculatorError<F>>
     requires data_layout { IsLawfulDataLayout dl.now }
     requires prefix { prefix + length (members_of saved.promoted.now) ≤ FieldIdx.MAX_INDEX }

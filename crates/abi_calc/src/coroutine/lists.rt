@@ -4,9 +4,9 @@ ghost use Rattle.std.specs.Prelude.{◌≡◌, ◌+◌, ◌<◌, ◌≤◌, ◌�
 ghost use Rattle.abi_base.specs.DataLayout.{IsLawfulDataLayout, size_bound};
 ghost use Rattle.abi_index.specs.BitSet.{domain_size};
 ghost use Rattle.abi_scalar.specs.Lawful.{IsLawfulLayout};
-ghost use Rattle.abi_univariant.specs.List.{IsListError};
-ghost use Rattle.abi_univariant.specs.Placement.{IsLawfulPrefix, IsSized};
-ghost use Rattle.abi_calc.specs.Coroutine.Lists.{behind, default_repr, first_list, own_list};
+ghost use Rattle.abi_univariant.specs.List.{IsUnivariantError};
+ghost use Rattle.abi_univariant.specs.Placement.{IsWellFormedPrefix, IsSized};
+ghost use Rattle.abi_calc.specs.Coroutine.Lists.{state_list_kind, default_repr, first_list, own_list};
 ghost use Rattle.abi_calc.specs.Coroutine.Sizes.{own_lists};
 ghost use Rattle.abi_calc.specs.Enums.Lists.{AreGoodLists, IsFirstListError, IsGoodList};
 
@@ -14,7 +14,7 @@ use crate::calculator::LayoutCalculator;
 use abi_base::{HasDataLayout, StructKind};
 use abi_index::{DenseBitSet, Idx, IndexVec};
 use abi_scalar::{LayoutCalculatorError, LayoutHandle, ReprOptions};
-use abi_univariant::{ListLayout, ListLayouts};
+use abi_univariant::{UnivariantLayout, UnivariantLayouts};
 use std::alloc::{AllocError, Global};
 
 /// The `repr` of each list: it asks for nothing.
@@ -25,10 +25,10 @@ pub(crate) fn default_repr() -> ReprOptions
 }
 
 /// Of which kind the states' lists are: each lies behind the first one.
-pub(crate) fn behind<FieldIdx: Idx, VariantIdx: Idx>(
-    first: &ListLayout<FieldIdx, VariantIdx>,
+pub(crate) fn state_list_kind<FieldIdx: Idx, VariantIdx: Idx>(
+    first: &UnivariantLayout<FieldIdx, VariantIdx>,
 ) -> StructKind
-    ensures { result ≡ behind first.now }
+    ensures { result ≡ state_list_kind first.now }
 {
     StructKind::Prefixed(first.size(), first.align())
 }
@@ -90,13 +90,13 @@ impl<Cx: HasDataLayout> LayoutCalculator<Cx> {
         promoted: &DenseBitSet<LocalIdx>,
         state: &IndexVec<FieldIdx, LocalIdx>,
         kind: &StructKind,
-    ) -> Result<ListLayout<FieldIdx, VariantIdx>, LayoutCalculatorError<F>>
+    ) -> Result<UnivariantLayout<FieldIdx, VariantIdx>, LayoutCalculatorError<F>>
         requires data_layout { IsLawfulDataLayout (Cx.target self.now.cx) }
         requires locals { All (λ f. IsLawfulLayout (Cx.target self.now.cx)
             (F.layout_of f)) locals.now }
         requires within { All (λ l. LocalIdx.number l < length locals.now) state.now }
         requires same { domain_size promoted.now ≡ length locals.now }
-        requires prefix { IsLawfulPrefix kind.now (size_bound (Cx.target self.now.cx)) }
+        requires prefix { IsWellFormedPrefix kind.now (size_bound (Cx.target self.now.cx)) }
         requires sized { IsSized kind.now }
         ensures within { IfOk result (λ list. length (own_list locals.now promoted.now
             (map LocalIdx.number state.now)) ≤ FieldIdx.MAX_INDEX + 1) }
@@ -104,7 +104,7 @@ impl<Cx: HasDataLayout> LayoutCalculator<Cx> {
             (Cx.target self.now.cx) default_repr kind.now
             (own_list locals.now promoted.now (map LocalIdx.number state.now))) }
         ensures fault { IfErr result (λ e.
-            IsListError F.layout_of (Cx.target self.now.cx) default_repr kind.now
+            IsUnivariantError F.layout_of (Cx.target self.now.cx) default_repr kind.now
             (own_list locals.now promoted.now (map LocalIdx.number state.now)) e ⊎
             (e ≡ LayoutCalculatorError.OutOfMemory)) }
     {
@@ -126,13 +126,13 @@ impl<Cx: HasDataLayout> LayoutCalculator<Cx> {
         promoted: &DenseBitSet<LocalIdx>,
         states: &[IndexVec<FieldIdx, LocalIdx>],
         kind: &StructKind,
-    ) -> Result<ListLayouts<FieldIdx, VariantIdx>, LayoutCalculatorError<F>>
+    ) -> Result<UnivariantLayouts<FieldIdx, VariantIdx>, LayoutCalculatorError<F>>
         requires data_layout { IsLawfulDataLayout (Cx.target self.now.cx) }
         requires locals { All (λ f. IsLawfulLayout (Cx.target self.now.cx)
             (F.layout_of f)) locals.now }
         requires within { All (All (λ l. LocalIdx.number l < length locals.now)) states.now }
         requires same { domain_size promoted.now ≡ length locals.now }
-        requires prefix { IsLawfulPrefix kind.now (size_bound (Cx.target self.now.cx)) }
+        requires prefix { IsWellFormedPrefix kind.now (size_bound (Cx.target self.now.cx)) }
         requires sized { IsSized kind.now }
         ensures good { IfOk result (λ lists. AreGoodLists F.layout_of FieldIdx.at (VariantIdx.at 0)
             (Cx.target self.now.cx) default_repr kind.now
@@ -144,7 +144,7 @@ impl<Cx: HasDataLayout> LayoutCalculator<Cx> {
             0) (Cx.target self.now.cx) default_repr kind.now (own_lists locals.now promoted.now
             (map (map LocalIdx.number) states.now)) e ⊎ (e ≡ LayoutCalculatorError.OutOfMemory)) }
     {
-        let mut lists = ListLayouts::with_capacity(alloc, states.len())?;
+        let mut lists = UnivariantLayouts::with_capacity(alloc, states.len())?;
         for state in states {
             let list = match self.list_of_own(alloc, locals, promoted, state, kind) {
                 Ok(list) => list,

@@ -2,11 +2,11 @@
 
 ghost use Rattle.std.specs.Prelude.{◌≡◌, ℕ, ◌+◌, ◌<◌, ◌≤◌, ◌==◌, ◌&&◌, ◌||◌, not, All, IfOk, List, fold, if◌then◌else◌, length, map, nat_lt, slice_index, true};
 ghost use Rattle.std.specs.List.{list_any};
-ghost use Rattle.abi_index.specs.Ascending.{has_number};
+ghost use Rattle.abi_index.specs.AscendingList.{has_number};
 ghost use Rattle.abi_index.specs.BitSet.{domain_size, is_member};
 ghost use Rattle.abi_index.specs.Relation.{column_count, row_count};
 ghost use Rattle.abi_univariant.specs.Placement.{source_order};
-ghost use Rattle.abi_calc.specs.Coroutine.Promotion.{after_conflict, after_row, are_settled, given_up, held_by_several, holder_of, holders_of, promote, promoted_of, used_count};
+ghost use Rattle.abi_calc.specs.Coroutine.Promotion.{after_conflict, after_row, need_no_promotion, local_to_promote, held_by_several, holder_of, holders_of, promote, promoted_of, used_count};
 
 use abi_index::{BitMatrix, DenseBitSet, Idx, IndexVec};
 use std::alloc::{AllocError, Global};
@@ -98,7 +98,7 @@ fn have_same_holder<LocalIdx: Idx>(holders: &[usize], a: LocalIdx, b: LocalIdx) 
 
 /// Whether a row's local and a column's need no promotion: the column's is promoted already, or one state is the first
 /// that holds both, or none is, while the row's isn't promoted.
-fn are_settled<LocalIdx: Idx>(
+fn need_no_promotion<LocalIdx: Idx>(
     holders: &[usize],
     row: LocalIdx,
     column: LocalIdx,
@@ -108,20 +108,20 @@ fn are_settled<LocalIdx: Idx>(
     requires column { LocalIdx.number column < length holders.now }
     requires size { domain_size promoted.now ≡ length holders.now }
     ensures { (states : List (List ℕ)) → holders.now ≡ holders_of states (length holders.now)
-        → result ≡ are_settled states (LocalIdx.number row) (LocalIdx.number column) promoted.now }
+        → result ≡ need_no_promotion states (LocalIdx.number row) (LocalIdx.number column) promoted.now }
 {
     promoted.contains(column) || (!promoted.contains(row) && have_same_holder(holders, row, column))
 }
 
 /// Which of two locals is promoted: the row's where its row has more conflicts, else the column's.
-fn given_up<LocalIdx: Idx>(
+fn local_to_promote<LocalIdx: Idx>(
     conflicts: &BitMatrix<LocalIdx, LocalIdx>,
     row: LocalIdx,
     column: LocalIdx,
 ) -> LocalIdx
     requires row { LocalIdx.number row < row_count conflicts.now }
     requires column { LocalIdx.number column < row_count conflicts.now }
-    ensures { LocalIdx.number result ≡ given_up conflicts.now (LocalIdx.number row)
+    ensures { LocalIdx.number result ≡ local_to_promote conflicts.now (LocalIdx.number row)
         (LocalIdx.number column) }
 {
     if conflicts.count(row) > conflicts.count(column) {
@@ -142,7 +142,7 @@ fn promote<LocalIdx: Idx>(local: LocalIdx, promoted: &mut DenseBitSet<LocalIdx>)
 
 /// Settles the conflict of a row's local with a column's: promotes one of them where that is needed.
 #[tactic(auto, using(crate::proofs::CoroutineLemmas::Steps::promoted_size))]
-fn settle<LocalIdx: Idx>(
+fn resolve_conflict<LocalIdx: Idx>(
     holders: &[usize],
     conflicts: &BitMatrix<LocalIdx, LocalIdx>,
     row: LocalIdx,
@@ -158,13 +158,13 @@ fn settle<LocalIdx: Idx>(
         (row_count conflicts.now) → promoted.new ≡ after_conflict states conflicts.now
         (LocalIdx.number row) promoted.old (LocalIdx.number column) }
 {
-    if !are_settled(holders, row, column, promoted) {
-        promote(given_up(conflicts, row, column), promoted);
+    if !need_no_promotion(holders, row, column, promoted) {
+        promote(local_to_promote(conflicts, row, column), promoted);
     }
 }
 
 /// Settles the conflicts of a row, unless its local is promoted already.
-fn settle_row<LocalIdx: Idx>(
+fn resolve_row<LocalIdx: Idx>(
     holders: &[usize],
     conflicts: &BitMatrix<LocalIdx, LocalIdx>,
     row: LocalIdx,
@@ -184,12 +184,12 @@ fn settle_row<LocalIdx: Idx>(
         return;
     }
     for column in conflicts.iter(row) {
-        settle(holders, conflicts, row, column, promoted);
+        resolve_conflict(holders, conflicts, row, column, promoted);
     }
 }
 
 /// Settles the conflicts of all rows.
-fn settle_rows<LocalIdx: Idx>(
+fn resolve_rows<LocalIdx: Idx>(
     holders: &[usize],
     conflicts: &BitMatrix<LocalIdx, LocalIdx>,
     promoted: &mut DenseBitSet<LocalIdx>,
@@ -204,7 +204,7 @@ fn settle_rows<LocalIdx: Idx>(
         (after_row states conflicts.now) promoted.old (source_order (row_count conflicts.now)) }
 {
     for row in conflicts.rows() {
-        settle_row(holders, conflicts, row, promoted);
+        resolve_row(holders, conflicts, row, promoted);
     }
 }
 
@@ -282,7 +282,7 @@ pub(crate) fn promoted_locals<FieldIdx: Idx, LocalIdx: Idx>(
 {
     let holders = holders_of(alloc, states, local_count(conflicts))?;
     let mut promoted = held_by_several(alloc, states, &holders)?;
-    settle_rows(&holders, conflicts, &mut promoted);
+    resolve_rows(&holders, conflicts, &mut promoted);
     promote_if_few(states, &mut promoted);
     Ok(promoted)
 }

@@ -196,7 +196,7 @@ fn state_order<FieldIdx: Idx, LocalIdx: Idx>(
 /// The promoted locals: which they are, how many of them are below each local, and by that rank their offsets, in
 /// bytes; and their ranks as they follow one another in memory.
 #[derive_where(Clone, Copy)]
-pub(crate) struct Promoted<'a, LocalIdx: Idx> {
+pub(crate) struct PromotedLocals<'a, LocalIdx: Idx> {
     pub(crate) locals: &'a DenseBitSet<LocalIdx>,
     pub(crate) below: &'a [usize],
     pub(crate) offsets: &'a [Size],
@@ -206,7 +206,7 @@ pub(crate) struct Promoted<'a, LocalIdx: Idx> {
 /// Places the fields of a state in the whole: those of its own list, and the promoted locals that it holds.
 pub(crate) fn place_state<FieldIdx: Idx, LocalIdx: Idx>(
     alloc: Global,
-    promoted: Promoted<'_, LocalIdx>,
+    promoted: PromotedLocals<'_, LocalIdx>,
     state: &IndexVec<FieldIdx, LocalIdx>,
     variant: &mut VariantLayout<FieldIdx>,
 ) -> Result<(), AllocError>
@@ -223,7 +223,7 @@ pub(crate) fn place_state<FieldIdx: Idx, LocalIdx: Idx>(
         promoted.entry.locals.now promoted.entry.offsets.now promoted.entry.ranks.now
         (map LocalIdx.number state.now) variant.old) }
 {
-    let Promoted {
+    let PromotedLocals {
         locals,
         below,
         offsets,

@@ -1,4 +1,4 @@
-//! Which of a layout with a tag and one with a niche is the better one, told by sums of sizes before both are made.
+//! Which of a layout with a tag and one with a niche is the better one: what sums of sizes decide before both are made.
 
 ghost use Rattle.std.specs.Prelude.{◌≡◌, ◌-◌, ◌^◌, ◌<◌, ◌≤◌, All, IfSome, map, nat_le};
 ghost use Rattle.abi_base.specs.DataLayout.{IsLawfulDataLayout};
@@ -9,15 +9,15 @@ ghost use Rattle.abi_calc.specs.Enums.Bounds.{fits_behind, greatest_free, greate
 
 use crate::enums::growth::align_at;
 use crate::enums::lists::align_with_all;
-use crate::enums::path::is_free;
+use crate::enums::strategy::is_free;
 use abi_base::{Align, Integer, Size, TargetDataLayout};
 use abi_index::{Idx, IndexVec};
 use abi_scalar::{LayoutData, LayoutHandle, ReprOptions};
-use abi_univariant::{free_numbers, rounded};
+use abi_univariant::{free_numbers, round_up};
 
 /// Which layout of an enum is made first.
 #[derive(Clone, Copy)]
-pub enum First {
+pub enum FirstLayout {
     /// The one with a tag: there is none with a niche.
     OnlyTagged,
     /// The one with a tag: one with a niche has at least so many bytes, and at most so many free numbers.
@@ -27,7 +27,7 @@ pub enum First {
 }
 
 /// So many bytes without these, none where these are more.
-fn without(whole: Size, part: Size) -> Size
+fn size_without(whole: Size, part: Size) -> Size
     ensures { result ≡ whole - part }
 {
     if part < whole {
@@ -46,7 +46,7 @@ fn left_beside<FieldIdx: Idx, VariantIdx: Idx, F: LayoutHandle<FieldIdx, Variant
 {
     let mut left = whole;
     for field in fields {
-        left = without(left, field.layout().size);
+        left = size_without(left, field.layout().size);
     }
     left
 }
@@ -145,8 +145,8 @@ fn fits_behind<FieldIdx: Idx, VariantIdx: Idx>(
     ensures { result ≡ fits_behind dl.now asked layout.now }
 {
     let align = layout.align.abi.max(asked.align(dl));
-    let tag = rounded(asked.size(), align);
-    let whole = rounded(layout.size, align);
+    let tag = round_up(asked.size(), align);
+    let whole = round_up(layout.size, align);
     (tag + whole).bytes() < dl.obj_size_bound()
 }
 
@@ -228,8 +228,8 @@ fn least_whole<FieldIdx: Idx, VariantIdx: Idx, F: LayoutHandle<FieldIdx, Variant
     ensures { result ≡ least_whole dl.now (map (map F.layout_of) variants.now) }
 {
     let bound = Size::from_bytes(dl.obj_size_bound());
-    let most = without(bound, least_left(bound, variants));
-    rounded(most, align_with_all(Align::ONE, variants))
+    let most = size_without(bound, least_left(bound, variants));
+    round_up(most, align_with_all(Align::ONE, variants))
 }
 
 /// Whether a tag that is asked for as this integer has no more numbers than a niche leaves free, however far it grows: then
@@ -264,23 +264,23 @@ pub(crate) fn which_first<FieldIdx: Idx, VariantIdx: Idx, F: LayoutHandle<FieldI
     repr: &ReprOptions,
     asked: Integer,
     variants: &[IndexVec<FieldIdx, F>],
-) -> First
+) -> FirstLayout
     requires data_layout { IsLawfulDataLayout dl.now }
     requires fields { All (All (λ f. IsLawfulLayout dl.now (F.layout_of f))) variants.now }
     ensures { result ≡ which_first dl.now repr.now asked (map (map F.layout_of) variants.now) }
 {
     let free = most_free(dl, repr, variants);
     if free == 0 {
-        return First::OnlyTagged;
+        return FirstLayout::OnlyTagged;
     }
     if is_outnumbered(asked, free, variants) {
-        return First::Niche;
+        return FirstLayout::Niche;
     }
     let least = least_whole(dl, variants);
     if tag_first(asked, least, free, variants) {
-        First::Tagged { least, free }
+        FirstLayout::Tagged { least, free }
     } else {
-        First::Niche
+        FirstLayout::Niche
     }
 }
 

@@ -2,7 +2,7 @@
 
 ghost use Rattle.std.specs.Prelude.{◌≡◌, IfSome, Some};
 ghost use Rattle.abi_scalar.specs.Lawful.{IsLawfulNiche};
-ghost use Rattle.abi_calc.specs.Enums.Choice.{better, takes_niche};
+ghost use Rattle.abi_calc.specs.Enums.Choice.{preferred_layout, takes_niche};
 
 use abi_base::TargetDataLayout;
 use abi_index::Idx;
@@ -26,14 +26,14 @@ fn takes_niche<FieldIdx: Idx, VariantIdx: Idx>(
 }
 
 /// The better of both layouts.
-pub(crate) fn better<FieldIdx: Idx, VariantIdx: Idx>(
+pub(crate) fn preferred_layout<FieldIdx: Idx, VariantIdx: Idx>(
     dl: &TargetDataLayout,
     tagged: LayoutData<FieldIdx, VariantIdx>,
     niche: LayoutData<FieldIdx, VariantIdx>,
 ) -> LayoutData<FieldIdx, VariantIdx>
     requires tagged { IfSome tagged.largest_niche (IsLawfulNiche dl.now tagged.size) }
     requires niche { IfSome niche.largest_niche (IsLawfulNiche dl.now niche.size) }
-    ensures { result ≡ better dl.now tagged (Some niche) }
+    ensures { result ≡ preferred_layout dl.now tagged (Some niche) }
 {
     if takes_niche(dl, &tagged, &niche) {
         niche

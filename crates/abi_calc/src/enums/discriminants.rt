@@ -5,7 +5,7 @@ ghost use Rattle.std.specs.Iterator.{IsFinite};
 ghost use Rattle.std.specs.Iterator.Runs.{WholeRun};
 ghost use Rattle.abi_base.specs.DataLayout.{IsLawfulDataLayout};
 ghost use Rattle.abi_base.specs.Size.{signed_value};
-ghost use Rattle.abi_calc.specs.Enums.Discriminants.{IsAskedWith, IsGreatestOf, IsLeastOf, IsTagRange, counting_of, counts};
+ghost use Rattle.abi_calc.specs.Enums.Discriminants.{IsAskedWith, IsGreatestOf, IsLeastOf, IsTagRange, counted_discriminants, counts};
 
 use abi_base::{Integer, Size, TargetDataLayout};
 use abi_index::{Idx, IndexVec};
@@ -15,14 +15,23 @@ use std::alloc::{AllocError, Global};
 
 /// The least and the greatest number that a tag has to hold.
 #[derive(Clone, Copy)]
-pub struct Asked {
+pub struct DiscrRange {
     /// 0 or less.
     pub least: i128,
     pub greatest: u128,
 }
 
+/// A tag that is asked for: its integer, and whether that is signed; and the discriminants that it has to hold, those that
+/// count.
+#[derive(Clone, Copy)]
+pub(crate) struct TagRequest<'a> {
+    pub(crate) integer: Integer,
+    pub(crate) is_signed: bool,
+    pub(crate) values: &'a [u128],
+}
+
 /// The discriminants that the iterator gives; there is room for `count` of them before any is asked for.
-pub(crate) fn listed<VariantIdx: Idx, I: Iterator<Item = (VariantIdx, u128)>>(
+pub(crate) fn collect_discriminants<VariantIdx: Idx, I: Iterator<Item = (VariantIdx, u128)>>(
     alloc: Global,
     count: usize,
     discriminants: I,
@@ -55,14 +64,18 @@ fn counts<FieldIdx: Idx, VariantIdx: Idx, F: LayoutHandle<FieldIdx, VariantIdx>>
 }
 
 /// The discriminants that count.
-pub(crate) fn counting_of<FieldIdx: Idx, VariantIdx: Idx, F: LayoutHandle<FieldIdx, VariantIdx>>(
+pub(crate) fn counted_discriminants<
+    FieldIdx: Idx,
+    VariantIdx: Idx,
+    F: LayoutHandle<FieldIdx, VariantIdx>,
+>(
     alloc: Global,
     repr: &ReprOptions,
     variants: &[IndexVec<FieldIdx, F>],
     items: &[(VariantIdx, u128)],
 ) -> Result<Vec<u128>, AllocError>
     requires { All (λ item. VariantIdx.number item.0 < length variants.now) items.now }
-    ensures { IfOk result (λ values. values.items ≡ counting_of VariantIdx.number repr.now
+    ensures { IfOk result (λ values. values.items ≡ counted_discriminants VariantIdx.number repr.now
         (map (map F.layout_of) variants.now) items.now) }
 {
     let mut values = Vec::with_capacity(alloc, items.len())?;
@@ -86,7 +99,7 @@ fn greatest_of(values: &[u128]) -> u128
 }
 
 /// The least and the greatest of 0 and what the discriminants stand for as signed integers of so many bytes.
-fn signed_ends(size: Size, values: &[u128]) -> Asked
+fn signed_ends(size: Size, values: &[u128]) -> DiscrRange
     requires { size ≤ 16 }
     ensures least { IsLeastOf
         (pos 0 ∷ map (λ v. signed_value (size * 8) (v % 2 ^ (size * 8))) values.now) result.least }
@@ -100,14 +113,14 @@ fn signed_ends(size: Size, values: &[u128]) -> Asked
         least = least.min(meant);
         greatest = greatest.max(meant);
     }
-    Asked {
+    DiscrRange {
         least,
         greatest: greatest as u128,
     }
 }
 
 /// The least and the greatest of 0 and what the discriminants stand for: the tag's integer has to hold them.
-pub(crate) fn asked_with(dl: &TargetDataLayout, repr: &ReprOptions, values: &[u128]) -> Asked
+pub(crate) fn discr_range(dl: &TargetDataLayout, repr: &ReprOptions, values: &[u128]) -> DiscrRange
     requires { IsLawfulDataLayout dl.now }
     ensures { IsAskedWith dl.now repr.now values.now result.least result.greatest }
 {
@@ -115,7 +128,7 @@ pub(crate) fn asked_with(dl: &TargetDataLayout, repr: &ReprOptions, values: &[u1
     if discr_type.is_signed() {
         signed_ends(Integer::from_attr(dl, discr_type).size(), values)
     } else {
-        Asked {
+        DiscrRange {
             least: 0,
             greatest: greatest_of(values),
         }

@@ -2,14 +2,14 @@
 
 ghost use Rattle.std.specs.Prelude.{◌≡◌, ◌+◌, ◌≤◌, IfOk, None, OnOk, Some, length, map, min, slice_get, unwrap_or};
 ghost use Rattle.abi_univariant.specs.Part.{max_align};
-ghost use Rattle.abi_calc.specs.Enums.Growth.{align_or, first_align, grown_tag, grown_variant, moved, start_align};
+ghost use Rattle.abi_calc.specs.Enums.Growth.{align_or, first_align, grown_tag, grown_variant, moved_offset, start_align};
 ghost use Rattle.abi_calc.specs.Enums.Lists.{AreListsOf};
 
-use crate::enums::path::{is_free, takes_no_room};
+use crate::enums::strategy::{is_free, takes_no_room};
 use abi_base::{Align, Integer, Size, TargetDataLayout};
 use abi_index::{Idx, IndexVec};
 use abi_scalar::{LayoutData, LayoutHandle, ReprOptions, VariantLayout};
-use abi_univariant::ListLayouts;
+use abi_univariant::UnivariantLayouts;
 use std::alloc::{AllocError, Global};
 
 /// The field's alignment, if it takes room.
@@ -68,7 +68,7 @@ fn least_with(least: Align, other: Option<Align>) -> Align
 /// is, which no integer has.
 pub(crate) fn start_align<FieldIdx: Idx, VariantIdx: Idx, F: LayoutHandle<FieldIdx, VariantIdx>>(
     variants: &[IndexVec<FieldIdx, F>],
-    lists: &ListLayouts<FieldIdx, VariantIdx>,
+    lists: &UnivariantLayouts<FieldIdx, VariantIdx>,
 ) -> Align
     requires { AreListsOf variants.now lists.now }
     ensures { result ≡ start_align FieldIdx.number (map (map F.layout_of) variants.now) lists.now }
@@ -101,8 +101,8 @@ pub(crate) fn grown_tag(
 }
 
 /// Where a field lies beside a tag that grew from the old size to the new one.
-pub(crate) fn moved(old: Size, new: Size, offset: Size) -> Size
-    ensures { result ≡ moved old new offset }
+pub(crate) fn moved_offset(old: Size, new: Size, offset: Size) -> Size
+    ensures { result ≡ moved_offset old new offset }
 {
     if offset == old { new } else { offset }
 }
@@ -115,11 +115,11 @@ fn moved_offsets<FieldIdx: Idx>(
     offsets: &[Size],
 ) -> Result<IndexVec<FieldIdx, Size>, AllocError>
     requires { length offsets.now ≤ FieldIdx.MAX_INDEX + 1 }
-    ensures { IfOk result (λ list. list ≡ map (moved old new) offsets.now) }
+    ensures { IfOk result (λ list. list ≡ map (moved_offset old new) offsets.now) }
 {
     let mut list = IndexVec::with_capacity(alloc, offsets.len())?;
     for offset in offsets {
-        let _index = list.push(moved(old, new, *offset))?;
+        let _index = list.push(moved_offset(old, new, *offset))?;
     }
     Ok(list)
 }

@@ -5,7 +5,7 @@ ghost use Rattle.abi_base.specs.DataLayout.{IsLawfulDataLayout};
 ghost use Rattle.abi_scalar.specs.Lawful.{IsLawfulLayout};
 ghost use Rattle.abi_scalar.specs.declared.backend_repr.BackendRepr.TheVariants.{Memory};
 ghost use Rattle.abi_scalar.specs.declared.variants.TagEncoding.TheVariants.{Niche as InNiche};
-ghost use Rattle.abi_scalar.specs.Niche.{IsReadableNiche, niche_size};
+ghost use Rattle.abi_scalar.specs.Niche.{IsWellFormedNiche, niche_size};
 ghost use Rattle.abi_scalar.specs.Reserve.{reserved};
 ghost use Rattle.abi_scalar.specs.Scalar.{IsLawfulScalar};
 ghost use Rattle.abi_univariant.specs.List.{HasLawfulAligns};
@@ -15,7 +15,7 @@ ghost use Rattle.abi_calc.specs.Enums.Niche.{IsRoomy, IsSmallList, if_placed, ni
 
 use crate::calculator::LayoutCalculator;
 use crate::enums::niche::{Room, others_empty, placed_variants, span_of, untagged_of, view_with};
-use crate::enums::path::is_free;
+use crate::enums::strategy::is_free;
 use crate::enums::tagged::{lists_align, lists_size};
 use abi_base::{AbiAlign, Align, HasDataLayout, Size, StructKind, TargetDataLayout};
 use abi_index::{Idx, IndexList, IndexVec};
@@ -23,12 +23,12 @@ use abi_scalar::{
     BackendRepr, FieldsShape, LayoutCalculatorError, LayoutData, LayoutHandle, Niche,
     RangeInclusive, ReprOptions, Scalar, TagEncoding, VariantLayout, Variants,
 };
-use abi_univariant::{LentList, ListLayouts, one};
+use abi_univariant::{FieldsRef, UnivariantLayouts, one};
 use std::alloc::{AllocError, Global};
 
 /// The room beside a niche of the untagged variant, in an enum of this size.
 fn room_beside(dl: &TargetDataLayout, niche: Niche, whole: Size) -> Room
-    requires readable { IsReadableNiche dl.now niche }
+    requires readable { IsWellFormedNiche dl.now niche }
     requires offset { niche.offset < 2 ^ 61 }
     ensures before { result.before ≡ niche.offset }
     ensures after { result.after ≡ niche.offset + niche_size dl.now niche }
@@ -86,7 +86,7 @@ fn niche_view<FieldIdx: Idx, VariantIdx: Idx>(
 
 /// Whether the list fills an enum of this size and alignment.
 fn fills<FieldIdx: Idx, VariantIdx: Idx>(
-    list: &LentList<'_, FieldIdx, VariantIdx>,
+    list: &FieldsRef<'_, FieldIdx, VariantIdx>,
     size: Size,
     align: Align,
 ) -> bool
@@ -97,7 +97,7 @@ fn fills<FieldIdx: Idx, VariantIdx: Idx>(
 
 /// Whether the list at a place fills an enum of this size and alignment, and its view.
 fn untagged_view<FieldIdx: Idx, VariantIdx: Idx>(
-    lists: &ListLayouts<FieldIdx, VariantIdx>,
+    lists: &UnivariantLayouts<FieldIdx, VariantIdx>,
     untagged: usize,
     size: Size,
     align: Align,
@@ -112,9 +112,9 @@ fn untagged_view<FieldIdx: Idx, VariantIdx: Idx>(
     (fills(&list, size, align), list.backend_repr())
 }
 
-/// The variants that a niche tells apart: the one that has the niche, and the first and the last of the others.
+/// The variants that a niche distinguishes: the one that has the niche, and the first and the last of the others.
 #[derive(Clone, Copy)]
-struct Among {
+struct NicheVariants {
     untagged: usize,
     span: (usize, usize),
 }
@@ -125,10 +125,10 @@ fn layout_in_niche<FieldIdx: Idx, VariantIdx: Idx>(
     alloc: Global,
     dl: &TargetDataLayout,
     repr: &ReprOptions,
-    among: Among,
+    among: NicheVariants,
     niche: Niche,
     handed: (u128, Scalar),
-    lists: ListLayouts<FieldIdx, VariantIdx>,
+    lists: UnivariantLayouts<FieldIdx, VariantIdx>,
 ) -> Result<Option<LayoutData<FieldIdx, VariantIdx>>, AllocError>
     requires data_layout { IsLawfulDataLayout dl.now }
     requires lawful { All (IsLawfulLayout dl.now) lists }
@@ -137,7 +137,7 @@ fn layout_in_niche<FieldIdx: Idx, VariantIdx: Idx>(
     requires untagged { among.untagged < length lists }
     requires first { among.span.0 ≤ VariantIdx.MAX_INDEX }
     requires last { among.span.1 ≤ VariantIdx.MAX_INDEX }
-    requires readable { IsReadableNiche dl.now niche }
+    requires readable { IsWellFormedNiche dl.now niche }
     requires offset { niche.offset < 2 ^ 61 }
     requires handed { handed ≡ reserved dl.now niche (span_count among.span) }
     requires tag { IsLawfulScalar dl.now handed.1 }
@@ -150,10 +150,10 @@ fn layout_in_niche<FieldIdx: Idx, VariantIdx: Idx>(
     let align = lists_align(dl, &lists);
     let size = lists_size(dl, &lists, align);
     let (fills, own_view) = untagged_view(&lists, untagged, size, align);
-    let overall = lists.overall();
-    let max_repr_align = overall.max_repr_align_with(repr.align);
-    let unadjusted_abi_align = overall.unadjusted_align_with(dl.aggregate_align);
-    let randomization_seed = overall.seed_with(repr.field_shuffle_seed);
+    let summary = lists.summary();
+    let max_repr_align = summary.max_repr_align_with(repr.align);
+    let unadjusted_abi_align = summary.unadjusted_align_with(dl.aggregate_align);
+    let randomization_seed = summary.seed_with(repr.field_shuffle_seed);
     let offset = niche.offset;
     let room = room_beside(dl, niche, size);
     let Some(variants) = placed_variants(alloc, &room, untagged, lists)? else {
@@ -175,7 +175,7 @@ fn layout_in_niche<FieldIdx: Idx, VariantIdx: Idx>(
         },
         backend_repr,
         largest_niche: Niche::from_scalar(dl, offset, tag),
-        uninhabited: overall.uninhabited,
+        uninhabited: summary.uninhabited,
         align: AbiAlign::new(align),
         size,
         max_repr_align,
@@ -187,7 +187,7 @@ fn layout_in_niche<FieldIdx: Idx, VariantIdx: Idx>(
 
 /// The greatest niche of the list at a place.
 fn niche_at<FieldIdx: Idx, VariantIdx: Idx>(
-    lists: &ListLayouts<FieldIdx, VariantIdx>,
+    lists: &UnivariantLayouts<FieldIdx, VariantIdx>,
     place: usize,
 ) -> Option<Niche>
     ensures { result ≡ niche_of_list (slice_get lists.now place) }
@@ -213,7 +213,7 @@ pub(crate) fn niche_of_lists<FieldIdx: Idx, VariantIdx: Idx, F: LayoutHandle<Fie
     dl: &TargetDataLayout,
     repr: &ReprOptions,
     variants: &[IndexVec<FieldIdx, F>],
-    lists: ListLayouts<FieldIdx, VariantIdx>,
+    lists: UnivariantLayouts<FieldIdx, VariantIdx>,
 ) -> Result<Option<LayoutData<FieldIdx, VariantIdx>>, AllocError>
     requires data_layout { IsLawfulDataLayout dl.now }
     requires lawful { All (IsLawfulLayout dl.now) lists }
@@ -233,7 +233,7 @@ pub(crate) fn niche_of_lists<FieldIdx: Idx, VariantIdx: Idx, F: LayoutHandle<Fie
     let Some(handed) = niche.reserve(dl, span_count(span)) else {
         return Ok(None);
     };
-    let among = Among { untagged, span };
+    let among = NicheVariants { untagged, span };
     layout_in_niche(alloc, dl, repr, among, niche, handed, lists)
 }
 
@@ -247,7 +247,7 @@ fn wants_memory<H>(error: &LayoutCalculatorError<H>) -> bool
 
 impl<Cx: HasDataLayout> LayoutCalculator<Cx> {
     /// The layout of an enum with a niche, where there is one: none where C or an integer is asked for, or where some
-    /// variant's fields have no layout as an always sized list. Only want of memory is an error.
+    /// variant's fields have no layout as an always sized list. Only that memory ran out is an error.
     pub(crate) fn layout_of_niche<
         FieldIdx: Idx,
         VariantIdx: Idx,

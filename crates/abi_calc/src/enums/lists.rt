@@ -3,15 +3,15 @@
 ghost use Rattle.std.specs.Prelude.{◌≡◌, ◌+◌, ◌≤◌, ◌⊎◌, All, IfErr, IfOk, length, map};
 ghost use Rattle.abi_base.specs.DataLayout.{IsLawfulDataLayout, size_bound};
 ghost use Rattle.abi_scalar.specs.Lawful.{IsLawfulLayout};
-ghost use Rattle.abi_univariant.specs.List.{HasLawfulAligns, IsListError};
-ghost use Rattle.abi_univariant.specs.Placement.{IsLawfulPrefix, IsSized};
+ghost use Rattle.abi_univariant.specs.List.{HasLawfulAligns, IsUnivariantError};
+ghost use Rattle.abi_univariant.specs.Placement.{IsWellFormedPrefix, IsSized};
 ghost use Rattle.abi_calc.specs.Enums.Lists.{AreGoodLists, AreListLayouts, AreListsOf, IsFirstListError, IsGoodList, align_with_all, behind_tag};
 
 use crate::calculator::LayoutCalculator;
 use abi_base::{Align, HasDataLayout, Integer, StructKind, TargetDataLayout};
 use abi_index::{Idx, IndexVec};
 use abi_scalar::{LayoutCalculatorError, LayoutHandle, ReprOptions};
-use abi_univariant::{ListLayout, ListLayouts, greatest_align, list_of_fields};
+use abi_univariant::{UnivariantLayout, UnivariantLayouts, greatest_align, list_of_fields};
 use std::alloc::Global;
 
 /// The greatest alignment of all variants' fields, and no less than this one.
@@ -38,7 +38,7 @@ pub(crate) fn behind_tag<FieldIdx: Idx, VariantIdx: Idx, F: LayoutHandle<FieldId
     requires data_layout { IsLawfulDataLayout dl.now }
     requires fields { All (All (λ f. IsLawfulLayout dl.now (F.layout_of f))) variants.now }
     ensures kind { result ≡ behind_tag dl.now repr.now tag (map (map F.layout_of) variants.now) }
-    ensures prefix { IsLawfulPrefix result (size_bound dl.now) }
+    ensures prefix { IsWellFormedPrefix result (size_bound dl.now) }
 {
     let own = tag.align(dl);
     let align = if repr.c() {
@@ -62,18 +62,18 @@ impl<Cx: HasDataLayout> LayoutCalculator<Cx> {
         fields: &IndexVec<FieldIdx, F>,
         repr: &ReprOptions,
         kind: &StructKind,
-    ) -> Result<ListLayout<FieldIdx, VariantIdx>, LayoutCalculatorError<F>>
+    ) -> Result<UnivariantLayout<FieldIdx, VariantIdx>, LayoutCalculatorError<F>>
         requires data_layout { IsLawfulDataLayout (Cx.target self.now.cx) }
         requires fields { All (λ f. IsLawfulLayout (Cx.target self.now.cx)
             (F.layout_of f)) fields.now }
         requires repr { HasLawfulAligns repr.now }
-        requires prefix { IsLawfulPrefix kind.now (size_bound (Cx.target self.now.cx)) }
+        requires prefix { IsWellFormedPrefix kind.now (size_bound (Cx.target self.now.cx)) }
         requires sized { IsSized kind.now }
         ensures within { length fields.now ≤ FieldIdx.MAX_INDEX + 1 }
         ensures good { IfOk result (IsGoodList F.layout_of FieldIdx.at (VariantIdx.at 0)
             (Cx.target self.now.cx) repr.now kind.now fields.now) }
         ensures fault { IfErr result (λ e.
-            IsListError F.layout_of (Cx.target self.now.cx) repr.now kind.now fields.now e ⊎
+            IsUnivariantError F.layout_of (Cx.target self.now.cx) repr.now kind.now fields.now e ⊎
             (e ≡ LayoutCalculatorError.OutOfMemory)) }
     {
         list_of_fields(alloc, self.cx.data_layout(), fields.as_slice(), repr, *kind)
@@ -91,12 +91,12 @@ impl<Cx: HasDataLayout> LayoutCalculator<Cx> {
         variants: &[IndexVec<FieldIdx, F>],
         repr: &ReprOptions,
         kind: &StructKind,
-    ) -> Result<ListLayouts<FieldIdx, VariantIdx>, LayoutCalculatorError<F>>
+    ) -> Result<UnivariantLayouts<FieldIdx, VariantIdx>, LayoutCalculatorError<F>>
         requires data_layout { IsLawfulDataLayout (Cx.target self.now.cx) }
         requires fields { All (All (λ f. IsLawfulLayout (Cx.target self.now.cx)
             (F.layout_of f))) variants.now }
         requires repr { HasLawfulAligns repr.now }
-        requires prefix { IsLawfulPrefix kind.now (size_bound (Cx.target self.now.cx)) }
+        requires prefix { IsWellFormedPrefix kind.now (size_bound (Cx.target self.now.cx)) }
         requires sized { IsSized kind.now }
         ensures exact { IfOk result (λ lists.
             AreListLayouts F.layout_of FieldIdx.at (VariantIdx.at 0)
@@ -112,7 +112,7 @@ impl<Cx: HasDataLayout> LayoutCalculator<Cx> {
             (VariantIdx.at 0) (Cx.target self.now.cx) repr.now kind.now variants.now e ⊎
             (e ≡ LayoutCalculatorError.OutOfMemory)) }
     {
-        let mut lists = ListLayouts::with_capacity(alloc, variants.len())?;
+        let mut lists = UnivariantLayouts::with_capacity(alloc, variants.len())?;
         for fields in variants {
             let list = match self.list_of_variant(alloc, fields, repr, kind) {
                 Ok(list) => list,

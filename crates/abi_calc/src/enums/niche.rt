@@ -2,15 +2,15 @@
 
 ghost use Rattle.std.specs.Prelude.{◌≡◌, ◌==◌, ◌&&◌, ◌||◌, ◌+◌, ◌++◌, ◌∷◌, ◌^◌, ◌<◌, ◌≤◌, [], All, IfOk, List, MatchOption, OnOk, Some, false, if◌then◌else◌, length, map, nat_le, not, true, ℕ};
 ghost use Rattle.abi_univariant.specs.Part.{max_align};
-ghost use Rattle.abi_calc.specs.Enums.Path.{is_absent};
+ghost use Rattle.abi_calc.specs.Enums.EnumStrategy.{is_absent};
 ghost use Rattle.abi_calc.specs.Enums.Niche.{IsRoomy, IsSmallList, beside_niche, moved_on, needing_numbers, others_empty, place_after, span_of, untagged_of, variants_from, view_with};
 
-use crate::enums::path::is_absent;
+use crate::enums::strategy::is_absent;
 use abi_base::{Align, Size};
 use abi_index::{Idx, IndexList, IndexVec};
 use abi_scalar::variant_parts::forget_niche;
 use abi_scalar::{BackendRepr, LayoutHandle, Scalar, VariantLayout};
-use abi_univariant::{LentList, ListLayouts, rounded};
+use abi_univariant::{FieldsRef, UnivariantLayouts, round_up};
 use std::alloc::{AllocError, Global};
 
 /// Where a niche of the untagged variant leaves room.
@@ -26,8 +26,8 @@ pub struct Room {
 
 /// Whether this list is no smaller than the other.
 fn reaches<FieldIdx: Idx, VariantIdx: Idx>(
-    list: &LentList<'_, FieldIdx, VariantIdx>,
-    other: &LentList<'_, FieldIdx, VariantIdx>,
+    list: &FieldsRef<'_, FieldIdx, VariantIdx>,
+    other: &FieldsRef<'_, FieldIdx, VariantIdx>,
 ) -> bool
     ensures { result ≡ nat_le other.now.size list.now.size }
 {
@@ -36,7 +36,7 @@ fn reaches<FieldIdx: Idx, VariantIdx: Idx>(
 
 /// The variant to which no number is given: the last of those whose lists are greatest.
 pub(crate) fn untagged_of<FieldIdx: Idx, VariantIdx: Idx>(
-    lists: &ListLayouts<FieldIdx, VariantIdx>,
+    lists: &UnivariantLayouts<FieldIdx, VariantIdx>,
 ) -> usize
     ensures { result ≡ untagged_of lists.now }
 {
@@ -129,7 +129,7 @@ fn place_after(room: &Room, align: Align) -> Size
     ensures value { result ≡ place_after room.now align }
     ensures bound { result < 2 ^ 63 }
 {
-    rounded(room.after, align)
+    round_up(room.after, align)
 }
 
 /// Places a variant of this alignment beside the niche, if there is room for it. Whether there is.
@@ -187,7 +187,7 @@ pub(crate) fn placed_variants<FieldIdx: Idx, VariantIdx: Idx>(
     alloc: Global,
     room: &Room,
     untagged: usize,
-    lists: ListLayouts<FieldIdx, VariantIdx>,
+    lists: UnivariantLayouts<FieldIdx, VariantIdx>,
 ) -> Result<Option<IndexList<VariantIdx, VariantLayout<FieldIdx>>>, AllocError>
     requires roomy { IsRoomy room.now }
     requires small { All IsSmallList lists }

@@ -6,17 +6,17 @@ ghost use Rattle.abi_base.specs.Primitive.{IsLawfulPrimitive};
 ghost use Rattle.abi_scalar.specs.Lawful.{IsLawfulLayout};
 ghost use Rattle.abi_scalar.specs.Scalar.{IsLawfulScalar, primitive_of, scalar_size};
 ghost use Rattle.abi_calc.specs.declared.enums.payload.Payload.TheVariants.{Nothing, One};
-ghost use Rattle.abi_calc.specs.Enums.Growth.{moved};
-ghost use Rattle.abi_calc.specs.Enums.Payload.{IsLawfulPayload, beside, beside_tag, common, common_of, has_same_place, is_initialized, is_memory, is_of_scalars, payload_at, payload_of, payload_of_field, scalar_of, seen_as, shared_primitive, tagged_view};
+ghost use Rattle.abi_calc.specs.Enums.Growth.{moved_offset};
+ghost use Rattle.abi_calc.specs.Enums.Payload.{IsWellFormedPayload, payload_of_two, beside_tag, common_payload, common_of, has_same_place, is_initialized, is_memory, is_of_scalars, payload_at, payload_of, payload_of_field, scalar_of, variant_with_view, shared_primitive, tagged_view};
 ghost use Rattle.abi_calc.specs.Enums.Lists.{AreListsOf};
 ghost use Rattle.abi_calc.specs.Enums.Tagged.{payloads_of};
 
-use crate::enums::growth::moved;
-use crate::enums::single::widened;
+use crate::enums::growth::moved_offset;
+use crate::enums::single::widened_scalar;
 use abi_base::{Align, HasDataLayout, Primitive, Size, TargetDataLayout};
 use abi_index::{Idx, IndexVec};
 use abi_scalar::{BackendRepr, LayoutData, LayoutHandle, Scalar, VariantLayout, WrappingRange};
-use abi_univariant::{ListLayouts, pair_view};
+use abi_univariant::{UnivariantLayouts, pair_view};
 
 /// What one variant holds beside the tag.
 #[derive(Clone, Copy)]
@@ -38,20 +38,20 @@ fn payload_of_field<FieldIdx: Idx, VariantIdx: Idx>(
     requires data_layout { IsLawfulDataLayout dl.now }
     requires field { IsLawfulLayout dl.now field.now }
     ensures value { result ≡ payload_of_field dl.now field.now offset }
-    ensures lawful { IsLawfulPayload dl.now result }
+    ensures lawful { IsWellFormedPayload dl.now result }
 {
     if field.is_zst() {
         return Payload::Nothing;
     }
     match field.backend_repr {
-        BackendRepr::Scalar(scalar) => Payload::One(widened(dl, scalar), offset),
+        BackendRepr::Scalar(scalar) => Payload::One(widened_scalar(dl, scalar), offset),
         _ => Payload::Other,
     }
 }
 
 /// Two of them in one variant.
-fn beside(first: Payload, second: Payload) -> Payload
-    ensures { result ≡ beside first second }
+fn payload_of_two(first: Payload, second: Payload) -> Payload
+    ensures { result ≡ payload_of_two first second }
 {
     match (first, second) {
         (Payload::Nothing, p) => p,
@@ -73,13 +73,13 @@ pub(crate) fn payload_of<FieldIdx: Idx, VariantIdx: Idx, F: LayoutHandle<FieldId
     requires fields { All (λ f. IsLawfulLayout dl.now (F.layout_of f)) fields.now }
     requires count { length offsets.now ≡ length fields.now }
     ensures value { result ≡ payload_of dl.now (map F.layout_of fields.now)
-        (map (moved old new) offsets.now) }
-    ensures lawful { IsLawfulPayload dl.now result }
+        (map (moved_offset old new) offsets.now) }
+    ensures lawful { IsWellFormedPayload dl.now result }
 {
     let mut payload = Payload::Nothing;
     for index in 0..fields.len() {
-        let offset = moved(old, new, offsets[index]);
-        payload = beside(
+        let offset = moved_offset(old, new, offsets[index]);
+        payload = payload_of_two(
             payload,
             payload_of_field(dl, fields[index].layout(), offset),
         );
@@ -148,7 +148,7 @@ fn common_scalar(dl: &TargetDataLayout, a: Scalar, b: Scalar, offset: Size) -> P
     requires second { IsLawfulScalar dl.now b }
     ensures value { result ≡ payload_at dl.now (is_initialized a && is_initialized b) offset
         (shared_primitive dl.now (primitive_of a) (primitive_of b)) }
-    ensures lawful { IsLawfulPayload dl.now result }
+    ensures lawful { IsWellFormedPayload dl.now result }
 {
     match shared_primitive(dl, a.primitive(), b.primitive()) {
         Some(value) => {
@@ -163,9 +163,9 @@ fn common_scalar(dl: &TargetDataLayout, a: Scalar, b: Scalar, offset: Size) -> P
 
 /// What a variant with nothing has in common with another.
 fn common_with_nothing(dl: &TargetDataLayout, other: Payload) -> Payload
-    requires { IsLawfulPayload dl.now other }
-    ensures value { result ≡ common dl.now Nothing other }
-    ensures lawful { IsLawfulPayload dl.now result }
+    requires { IsWellFormedPayload dl.now other }
+    ensures value { result ≡ common_payload dl.now Nothing other }
+    ensures lawful { IsWellFormedPayload dl.now result }
 {
     match other {
         Payload::Nothing => Payload::Nothing,
@@ -179,8 +179,8 @@ fn common_of_two(dl: &TargetDataLayout, a: Scalar, offset: Size, b: Scalar, othe
     requires data_layout { IsLawfulDataLayout dl.now }
     requires first { IsLawfulScalar dl.now a }
     requires second { IsLawfulScalar dl.now b }
-    ensures value { result ≡ common dl.now (One a offset) (One b other) }
-    ensures lawful { IsLawfulPayload dl.now result }
+    ensures value { result ≡ common_payload dl.now (One a offset) (One b other) }
+    ensures lawful { IsWellFormedPayload dl.now result }
 {
     if offset == other {
         common_scalar(dl, a, b, offset)
@@ -193,9 +193,9 @@ fn common_of_two(dl: &TargetDataLayout, a: Scalar, offset: Size, b: Scalar, othe
 fn common_with_one(dl: &TargetDataLayout, scalar: Scalar, offset: Size, other: Payload) -> Payload
     requires data_layout { IsLawfulDataLayout dl.now }
     requires first { IsLawfulScalar dl.now scalar }
-    requires second { IsLawfulPayload dl.now other }
-    ensures value { result ≡ common dl.now (One scalar offset) other }
-    ensures lawful { IsLawfulPayload dl.now result }
+    requires second { IsWellFormedPayload dl.now other }
+    ensures value { result ≡ common_payload dl.now (One scalar offset) other }
+    ensures lawful { IsWellFormedPayload dl.now result }
 {
     match other {
         Payload::Nothing => Payload::One(scalar.to_union(), offset),
@@ -205,12 +205,12 @@ fn common_with_one(dl: &TargetDataLayout, scalar: Scalar, offset: Size, other: P
 }
 
 /// What two variants have in common.
-fn common(dl: &TargetDataLayout, a: Payload, b: Payload) -> Payload
+fn common_payload(dl: &TargetDataLayout, a: Payload, b: Payload) -> Payload
     requires data_layout { IsLawfulDataLayout dl.now }
-    requires first { IsLawfulPayload dl.now a }
-    requires second { IsLawfulPayload dl.now b }
-    ensures value { result ≡ common dl.now a b }
-    ensures lawful { IsLawfulPayload dl.now result }
+    requires first { IsWellFormedPayload dl.now a }
+    requires second { IsWellFormedPayload dl.now b }
+    ensures value { result ≡ common_payload dl.now a b }
+    ensures lawful { IsWellFormedPayload dl.now result }
 {
     match a {
         Payload::Nothing => common_with_nothing(dl, b),
@@ -225,7 +225,7 @@ fn variant_payload<FieldIdx: Idx, VariantIdx: Idx, F: LayoutHandle<FieldIdx, Var
     old: Size,
     new: Size,
     variants: &[IndexVec<FieldIdx, F>],
-    lists: &ListLayouts<FieldIdx, VariantIdx>,
+    lists: &UnivariantLayouts<FieldIdx, VariantIdx>,
     index: usize,
 ) -> Payload
     requires data_layout { IsLawfulDataLayout dl.now }
@@ -234,7 +234,7 @@ fn variant_payload<FieldIdx: Idx, VariantIdx: Idx, F: LayoutHandle<FieldIdx, Var
     requires within { index < length lists.now }
     ensures value { slice_get (payloads_of dl.now old new
         (map (map F.layout_of) variants.now) lists.now) index ≡ Some result }
-    ensures lawful { IsLawfulPayload dl.now result }
+    ensures lawful { IsWellFormedPayload dl.now result }
 {
     let fields = variants[index].as_slice().as_raw();
     payload_of(dl, old, new, fields, lists.at(index).offsets())
@@ -246,21 +246,21 @@ fn common_of<FieldIdx: Idx, VariantIdx: Idx, F: LayoutHandle<FieldIdx, VariantId
     old: Size,
     new: Size,
     variants: &[IndexVec<FieldIdx, F>],
-    lists: &ListLayouts<FieldIdx, VariantIdx>,
+    lists: &UnivariantLayouts<FieldIdx, VariantIdx>,
 ) -> Payload
     requires data_layout { IsLawfulDataLayout dl.now }
     requires fields { All (All (λ f. IsLawfulLayout dl.now (F.layout_of f))) variants.now }
     requires lists { AreListsOf variants.now lists.now }
     ensures value { result ≡ common_of dl.now
         (payloads_of dl.now old new (map (map F.layout_of) variants.now) lists.now) }
-    ensures lawful { IsLawfulPayload dl.now result }
+    ensures lawful { IsWellFormedPayload dl.now result }
 {
     if lists.len() == 0 {
         return Payload::Nothing;
     }
     let mut shared = variant_payload(dl, old, new, variants, lists, 0);
     for index in 1..lists.len() {
-        shared = common(
+        shared = common_payload(
             dl,
             shared,
             variant_payload(dl, old, new, variants, lists, index),
@@ -279,7 +279,7 @@ fn beside_tag(
 ) -> BackendRepr
     requires data_layout { IsLawfulDataLayout dl.now }
     requires tag { IsLawfulScalar dl.now tag }
-    requires payload { IsLawfulPayload dl.now payload }
+    requires payload { IsWellFormedPayload dl.now payload }
     ensures { result ≡ beside_tag dl.now tag size align payload }
 {
     match payload {
@@ -299,7 +299,7 @@ pub(crate) fn tagged_view<FieldIdx: Idx, VariantIdx: Idx, F: LayoutHandle<FieldI
     align: Align,
     old: Size,
     variants: &[IndexVec<FieldIdx, F>],
-    lists: &ListLayouts<FieldIdx, VariantIdx>,
+    lists: &UnivariantLayouts<FieldIdx, VariantIdx>,
 ) -> BackendRepr
     requires data_layout { IsLawfulDataLayout dl.now }
     requires tag { IsLawfulScalar dl.now tag }
@@ -351,12 +351,12 @@ fn takes_view<FieldIdx: Idx>(view: &BackendRepr, variant: &VariantLayout<FieldId
 }
 
 /// Makes the variant a part of an enum of this view and size.
-pub(crate) fn see_as<FieldIdx: Idx>(
+pub(crate) fn adopt_view<FieldIdx: Idx>(
     view: &BackendRepr,
     size: Size,
     variant: &mut VariantLayout<FieldIdx>,
 )
-    ensures { variant.new ≡ seen_as view.now size variant.old }
+    ensures { variant.new ≡ variant_with_view view.now size variant.old }
 {
     if takes_view(view, variant) {
         variant.backend_repr = *view;

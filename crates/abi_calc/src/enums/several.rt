@@ -6,19 +6,21 @@ ghost use Rattle.std.specs.Iterator.Runs.{EachRunFrom, WholeRun};
 ghost use Rattle.abi_base.specs.DataLayout.{IsLawfulDataLayout};
 ghost use Rattle.abi_scalar.specs.Lawful.{IsLawfulLayout, IsLawfulNiche};
 ghost use Rattle.abi_univariant.specs.List.{HasLawfulAligns};
-ghost use Rattle.abi_calc.specs.Enums.Beside.{AreToldApart};
+ghost use Rattle.abi_calc.specs.Enums.Beside.{AreDistinguished};
 ghost use Rattle.abi_calc.specs.Enums.Answer.{HasOneEach};
 ghost use Rattle.abi_calc.specs.Enums.Bounds.{least_whole, most_free};
-ghost use Rattle.abi_calc.specs.Enums.Choice.{IsNicheAnswer, better};
-ghost use Rattle.abi_calc.specs.Enums.Discriminants.{counting_of};
+ghost use Rattle.abi_calc.specs.Enums.Choice.{IsNicheAnswer, preferred_layout};
+ghost use Rattle.abi_calc.specs.Enums.Discriminants.{counted_discriminants};
 ghost use Rattle.abi_calc.specs.Enums.Lists.{AreGoodLists, AreListLayouts};
 ghost use Rattle.abi_calc.specs.Enums.Promised.{AreSizedVariants, IsSizedEnum};
-ghost use Rattle.abi_calc.specs.Enums.Several.{AreLawfulTags, HasEnumSize, IsAskedFor, IsBestAnswer, IsBetterAnswer, IsEnumAnswer, IsSeveralAnswer};
+ghost use Rattle.abi_calc.specs.Enums.Several.{AreWellFormedTags, HasEnumSize, IsAskedFor, IsBestAnswer, IsBetterAnswer, IsEnumAnswer, IsSeveralAnswer};
 
 use crate::calculator::LayoutCalculator;
-use crate::enums::bounds::{First, tag_wins, which_first, wins};
-use crate::enums::choice::better;
-use crate::enums::discriminants::{asked_with, counting_of, listed};
+use crate::enums::bounds::{FirstLayout, tag_wins, which_first, wins};
+use crate::enums::choice::preferred_layout;
+use crate::enums::discriminants::{
+    TagRequest, collect_discriminants, counted_discriminants, discr_range,
+};
 use abi_base::{HasDataLayout, Integer, Size, TargetDataLayout};
 use abi_index::{Idx, IndexVec};
 use abi_scalar::{
@@ -27,7 +29,7 @@ use abi_scalar::{
 use std::alloc::Global;
 
 /// The tag's integer, and whether it is signed, that is answered where it has to hold these discriminants.
-fn asked_for<D: Fn(RangeFrom<i128>, RangeToInclusive<u128>) -> (Integer, bool)>(
+fn tag_integer<D: Fn(RangeFrom<i128>, RangeToInclusive<u128>) -> (Integer, bool)>(
     dl: &TargetDataLayout,
     repr: &ReprOptions,
     values: &[u128],
@@ -39,7 +41,7 @@ where
     requires callable { D.IsAlwaysCallable discr_range_of_repr }
     ensures { IsAskedFor dl.now repr.now (D.post discr_range_of_repr) values.now result.0 result.1 }
 {
-    let asked = asked_with(dl, repr, values);
+    let asked = discr_range(dl, repr, values);
     discr_range_of_repr(
         RangeFrom { start: asked.least },
         RangeToInclusive {
@@ -61,8 +63,7 @@ impl<Cx: HasDataLayout> LayoutCalculator<Cx> {
         alloc: Global,
         repr: &ReprOptions,
         variants: &[IndexVec<FieldIdx, F>],
-        asked: (Integer, bool),
-        values: &[u128],
+        tag: TagRequest<'_>,
         niche: LayoutData<FieldIdx, VariantIdx>,
     ) -> Result<LayoutData<FieldIdx, VariantIdx>, LayoutCalculatorError<F>>
         requires data_layout { IsLawfulDataLayout (Cx.target self.now.cx) }
@@ -77,14 +78,14 @@ impl<Cx: HasDataLayout> LayoutCalculator<Cx> {
         requires within { All (λ fields. length fields ≤ FieldIdx.MAX_INDEX + 1) variants.now }
         ensures exact { (result ≡ Err LayoutCalculatorError.OutOfMemory) ⊎ IsBetterAnswer
             F.layout_of FieldIdx.at FieldIdx.number (VariantIdx.at 0) (Cx.target self.now.cx) repr.now
-            asked.0 asked.1 values.now variants.now (Some niche) result }
+            tag.entry.integer tag.entry.is_signed tag.entry.values.now variants.now (Some niche) result }
     {
         let dl = self.cx.data_layout();
-        if wins(dl, asked.0, &niche, variants) {
+        if wins(dl, tag.integer, &niche, variants) {
             return Ok(niche);
         }
-        match self.layout_of_tagged(alloc, variants, repr, asked.0, asked.1, values) {
-            Ok(tagged) => Ok(better(dl, tagged, niche)),
+        match self.layout_of_tagged(alloc, variants, repr, tag) {
+            Ok(tagged) => Ok(preferred_layout(dl, tagged, niche)),
             Err(error) => Err(error),
         }
     }
@@ -99,8 +100,7 @@ impl<Cx: HasDataLayout> LayoutCalculator<Cx> {
         alloc: Global,
         repr: &ReprOptions,
         variants: &[IndexVec<FieldIdx, F>],
-        asked: (Integer, bool),
-        values: &[u128],
+        tag: TagRequest<'_>,
     ) -> Result<LayoutData<FieldIdx, VariantIdx>, LayoutCalculatorError<F>>
         requires data_layout { IsLawfulDataLayout (Cx.target self.now.cx) }
         requires fields { All (All (λ f. IsLawfulLayout (Cx.target self.now.cx)
@@ -111,15 +111,13 @@ impl<Cx: HasDataLayout> LayoutCalculator<Cx> {
         requires some { 0 < length variants.now }
         ensures exact { (result ≡ Err LayoutCalculatorError.OutOfMemory) ⊎ IsBestAnswer F.layout_of
             FieldIdx.at FieldIdx.number VariantIdx.at (Cx.target self.now.cx) repr.now
-            asked.0 asked.1 values.now variants.now result }
+            tag.entry.integer tag.entry.is_signed tag.entry.values.now variants.now result }
         ensures within { IfOk result
             (λ l. All (λ fields. length fields ≤ FieldIdx.MAX_INDEX + 1) variants.now) }
     {
         match self.layout_of_niche(alloc, variants, repr) {
-            Ok(Some(niche)) => self.layout_beside_niche(
-                alloc, repr, variants, asked, values, niche,
-            ),
-            Ok(None) => self.layout_of_tagged(alloc, variants, repr, asked.0, asked.1, values),
+            Ok(Some(niche)) => self.layout_beside_niche(alloc, repr, variants, tag, niche),
+            Ok(None) => self.layout_of_tagged(alloc, variants, repr, tag),
             Err(want) => Err(want),
         }
     }
@@ -146,10 +144,10 @@ impl<Cx: HasDataLayout> LayoutCalculator<Cx> {
         ensures exact { (result ≡ Err LayoutCalculatorError.OutOfMemory) ⊎
             ((niche : Option (LayoutData FieldIdx VariantIdx)) × IsNicheAnswer AreListLayouts
             F.layout_of FieldIdx.at VariantIdx.at (Cx.target self.now.cx) repr.now variants.now niche ×
-            (result ≡ Ok (better (Cx.target self.now.cx) tagged niche))) }
+            (result ≡ Ok (preferred_layout (Cx.target self.now.cx) tagged niche))) }
     {
         match self.layout_of_niche(alloc, variants, repr) {
-            Ok(Some(niche)) => Ok(better(self.cx.data_layout(), tagged, niche)),
+            Ok(Some(niche)) => Ok(preferred_layout(self.cx.data_layout(), tagged, niche)),
             Ok(None) => Ok(tagged),
             Err(want) => Err(want),
         }
@@ -166,8 +164,7 @@ impl<Cx: HasDataLayout> LayoutCalculator<Cx> {
         alloc: Global,
         repr: &ReprOptions,
         variants: &[IndexVec<FieldIdx, F>],
-        asked: (Integer, bool),
-        values: &[u128],
+        tag: TagRequest<'_>,
         bounds: (Size, u128),
     ) -> Result<LayoutData<FieldIdx, VariantIdx>, LayoutCalculatorError<F>>
         requires data_layout { IsLawfulDataLayout (Cx.target self.now.cx) }
@@ -183,11 +180,11 @@ impl<Cx: HasDataLayout> LayoutCalculator<Cx> {
             ≡ most_free (Cx.target self.now.cx) repr.now (map (map F.layout_of) variants.now) }
         ensures exact { (result ≡ Err LayoutCalculatorError.OutOfMemory) ⊎ IsBestAnswer F.layout_of
             FieldIdx.at FieldIdx.number VariantIdx.at (Cx.target self.now.cx) repr.now
-            asked.0 asked.1 values.now variants.now result }
+            tag.entry.integer tag.entry.is_signed tag.entry.values.now variants.now result }
         ensures within { IfOk result
             (λ l. All (λ fields. length fields ≤ FieldIdx.MAX_INDEX + 1) variants.now) }
     {
-        match self.layout_of_tagged(alloc, variants, repr, asked.0, asked.1, values) {
+        match self.layout_of_tagged(alloc, variants, repr, tag) {
             Ok(tagged) => {
                 if tag_wins(self.cx.data_layout(), bounds.0, bounds.1, &tagged) {
                     return Ok(tagged);
@@ -205,8 +202,7 @@ impl<Cx: HasDataLayout> LayoutCalculator<Cx> {
         alloc: Global,
         repr: &ReprOptions,
         variants: &[IndexVec<FieldIdx, F>],
-        asked: (Integer, bool),
-        values: &[u128],
+        tag: TagRequest<'_>,
     ) -> Result<LayoutData<FieldIdx, VariantIdx>, LayoutCalculatorError<F>>
         requires data_layout { IsLawfulDataLayout (Cx.target self.now.cx) }
         requires fields { All (All (λ f. IsLawfulLayout (Cx.target self.now.cx)
@@ -217,18 +213,16 @@ impl<Cx: HasDataLayout> LayoutCalculator<Cx> {
         requires some { 0 < length variants.now }
         ensures exact { (result ≡ Err LayoutCalculatorError.OutOfMemory) ⊎ IsBestAnswer F.layout_of
             FieldIdx.at FieldIdx.number VariantIdx.at (Cx.target self.now.cx) repr.now
-            asked.0 asked.1 values.now variants.now result }
+            tag.entry.integer tag.entry.is_signed tag.entry.values.now variants.now result }
         ensures within { IfOk result
             (λ l. All (λ fields. length fields ≤ FieldIdx.MAX_INDEX + 1) variants.now) }
     {
-        match which_first(self.cx.data_layout(), repr, asked.0, variants) {
-            First::OnlyTagged => {
-                self.layout_of_tagged(alloc, variants, repr, asked.0, asked.1, values)
+        match which_first(self.cx.data_layout(), repr, tag.integer, variants) {
+            FirstLayout::OnlyTagged => { self.layout_of_tagged(alloc, variants, repr, tag) }
+            FirstLayout::Tagged { least, free } => {
+                self.layout_tag_first(alloc, repr, variants, tag, (least, free))
             }
-            First::Tagged { least, free } => {
-                self.layout_tag_first(alloc, repr, variants, asked, values, (least, free))
-            }
-            First::Niche => self.layout_niche_first(alloc, repr, variants, asked, values),
+            FirstLayout::Niche => self.layout_niche_first(alloc, repr, variants, tag),
         }
     }
 
@@ -260,7 +254,7 @@ impl<Cx: HasDataLayout> LayoutCalculator<Cx> {
         requires named { All (λ item.
             VariantIdx.number item.0 < length variants.now) discriminants.now }
         requires callable { D.IsAlwaysCallable discr_range_of_repr }
-        requires tags { AreLawfulTags VariantIdx.number (Cx.target self.now.cx) repr.now
+        requires tags { AreWellFormedTags VariantIdx.number (Cx.target self.now.cx) repr.now
             (D.post discr_range_of_repr) (map (map F.layout_of) variants.now) discriminants.now }
         ensures exact { IsEnumAnswer F.layout_of FieldIdx.at
             FieldIdx.number VariantIdx.at VariantIdx.number (Cx.target self.now.cx) repr.now
@@ -268,16 +262,21 @@ impl<Cx: HasDataLayout> LayoutCalculator<Cx> {
         ensures lawful { IfOk result (IsLawfulLayout (Cx.target self.now.cx)) }
         ensures within { IfOk result
             (λ l. All (λ fields. length fields ≤ FieldIdx.MAX_INDEX + 1) variants.now) }
-        ensures told { IfOk result (AreToldApart (Cx.target self.now.cx) VariantIdx.number
+        ensures tag_distinguishes { IfOk result (AreDistinguished (Cx.target self.now.cx) VariantIdx.number
             (map (map F.layout_of) variants.now) discriminants.now) }
         ensures sized { IsSizedEnum F.layout_of
             (HasEnumSize F.layout_of FieldIdx.at (VariantIdx.at 0)) (Cx.target self.now.cx) repr.now
-            (D.post discr_range_of_repr) (counting_of VariantIdx.number repr.now
+            (D.post discr_range_of_repr) (counted_discriminants VariantIdx.number repr.now
             (map (map F.layout_of) variants.now) discriminants.now) variants.now result }
     {
-        let values = counting_of(alloc, repr, variants, discriminants)?;
-        let asked = asked_for(self.cx.data_layout(), repr, &values, discr_range_of_repr);
-        self.better_layout(alloc, repr, variants, asked, &values)
+        let values = counted_discriminants(alloc, repr, variants, discriminants)?;
+        let asked = tag_integer(self.cx.data_layout(), repr, &values, discr_range_of_repr);
+        let tag = TagRequest {
+            integer: asked.0,
+            is_signed: asked.1,
+            values: &values,
+        };
+        self.better_layout(alloc, repr, variants, tag)
     }
 
     /// The layout of an enum of several variants, from the discriminants of all, which the iterator gives. Refused as
@@ -309,7 +308,7 @@ impl<Cx: HasDataLayout> LayoutCalculator<Cx> {
         requires ends { IsFinite (I.remaining discriminants) }
         requires each { EachRunFrom I.next_gives discriminants (λ run. IsTrue run.whole →
             HasOneEach VariantIdx.number (length variants.now) run.items ×
-            AreLawfulTags VariantIdx.number (Cx.target self.now.cx) repr.now
+            AreWellFormedTags VariantIdx.number (Cx.target self.now.cx) repr.now
             (D.post discr_range_of_repr) (map (map F.layout_of) variants.now) run.items) }
         ensures exact { IsSeveralAnswer
             F.layout_of FieldIdx.at FieldIdx.number VariantIdx.at VariantIdx.number
@@ -317,7 +316,7 @@ impl<Cx: HasDataLayout> LayoutCalculator<Cx> {
             (λ items. WholeRun I.next_gives discriminants (λ run. items ≡ run.items)) result }
         ensures lawful { IfOk result (IsLawfulLayout (Cx.target self.now.cx)) }
         ensures within { IfOk result (λ l. All (λ fields. length fields ≤ FieldIdx.MAX_INDEX + 1) variants.now) }
-        ensures told { IfOk result (λ l. WholeRun I.next_gives discriminants (λ run. AreToldApart
+        ensures tag_distinguishes { IfOk result (λ l. WholeRun I.next_gives discriminants (λ run. AreDistinguished
             (Cx.target self.now.cx) VariantIdx.number (map (map F.layout_of) variants.now) run.items l)) }
         ensures sized { AreSizedVariants F.layout_of FieldIdx.at (VariantIdx.at 0) VariantIdx.number
             (Cx.target self.now.cx) repr.now (D.post discr_range_of_repr) I.next_gives discriminants
@@ -326,7 +325,7 @@ impl<Cx: HasDataLayout> LayoutCalculator<Cx> {
         if repr.packed() {
             return Err(LayoutCalculatorError::ReprConflict);
         }
-        let items = listed(alloc, variants.len(), discriminants)?;
+        let items = collect_discriminants(alloc, variants.len(), discriminants)?;
         self.layout_of_enum(alloc, repr, variants, discr_range_of_repr, &items)
     }
 }

@@ -11,8 +11,8 @@ ghost use Rattle.abi_univariant.specs.Answer.{IsAnswer};
 ghost use Rattle.abi_univariant.specs.Apart.{AreApart};
 ghost use Rattle.abi_univariant.specs.Least.{IsEachOrderTooLarge, IsLeastSize, LiesInSomeOrder};
 ghost use Rattle.abi_univariant.specs.List.{AreSized, HasLawfulAligns};
-ghost use Rattle.abi_univariant.specs.Placement.{IsLawfulPrefix, IsNonEmptyIfUnsized};
-ghost use Rattle.abi_calc.specs.Enums.Single.{HasLawfulScalars, IsSingleAnswer, allowed_niche, allowed_view, single_kind, widened, widened_view};
+ghost use Rattle.abi_univariant.specs.Placement.{IsWellFormedPrefix, IsNonEmptyIfUnsized};
+ghost use Rattle.abi_calc.specs.Enums.Single.{HasWellFormedScalars, IsSingleAnswer, allowed_niche, allowed_view, single_kind, widened_scalar, widened_view};
 
 use crate::calculator::LayoutCalculator;
 use abi_base::{HasDataLayout, NicheOptimizations, StructKind, TargetDataLayout};
@@ -36,10 +36,10 @@ pub(crate) fn single_kind(is_enum: bool, always_sized: bool, count: usize) -> St
 }
 
 /// The scalar, holding every number of its width where it holds numbers.
-pub(crate) fn widened(dl: &TargetDataLayout, scalar: Scalar) -> Scalar
+pub(crate) fn widened_scalar(dl: &TargetDataLayout, scalar: Scalar) -> Scalar
     requires data_layout { IsLawfulDataLayout dl.now }
     requires scalar { IsLawfulScalar dl.now scalar }
-    ensures { result ≡ widened dl.now scalar }
+    ensures { result ≡ widened_scalar dl.now scalar }
 {
     match scalar {
         Scalar::Initialized { value, .. } => Scalar::Initialized {
@@ -53,18 +53,18 @@ pub(crate) fn widened(dl: &TargetDataLayout, scalar: Scalar) -> Scalar
 /// The view without free numbers.
 fn widened_view(dl: &TargetDataLayout, view: BackendRepr) -> BackendRepr
     requires data_layout { IsLawfulDataLayout dl.now }
-    requires view { HasLawfulScalars dl.now view }
+    requires view { HasWellFormedScalars dl.now view }
     ensures { result ≡ widened_view dl.now view }
 {
     match view {
-        BackendRepr::Scalar(scalar) => BackendRepr::Scalar(widened(dl, scalar)),
+        BackendRepr::Scalar(scalar) => BackendRepr::Scalar(widened_scalar(dl, scalar)),
         BackendRepr::ScalarPair { a, b, b_offset } => BackendRepr::ScalarPair {
-            a: widened(dl, a),
-            b: widened(dl, b),
+            a: widened_scalar(dl, a),
+            b: widened_scalar(dl, b),
             b_offset,
         },
         BackendRepr::SimdVector { element, count } => BackendRepr::SimdVector {
-            element: widened(dl, element),
+            element: widened_scalar(dl, element),
             count,
         },
         BackendRepr::SimdScalableVector {
@@ -72,7 +72,7 @@ fn widened_view(dl: &TargetDataLayout, view: BackendRepr) -> BackendRepr
             count,
             number_of_vectors,
         } => BackendRepr::SimdScalableVector {
-            element: widened(dl, element),
+            element: widened_scalar(dl, element),
             count,
             number_of_vectors,
         },
@@ -87,7 +87,7 @@ fn allowed_view(
     view: BackendRepr,
 ) -> BackendRepr
     requires data_layout { IsLawfulDataLayout dl.now }
-    requires view { HasLawfulScalars dl.now view }
+    requires view { HasWellFormedScalars dl.now view }
     ensures { result ≡ allowed_view dl.now optimizations view }
 {
     match optimizations {
@@ -126,7 +126,7 @@ impl<Cx: HasDataLayout> LayoutCalculator<Cx> {
         requires fields { All (λ f. IsLawfulLayout (Cx.target self.now.cx)
             (F.layout_of f)) (items_of fields) }
         requires repr { HasLawfulAligns repr.now }
-        requires prefix { IsLawfulPrefix kind (size_bound (Cx.target self.now.cx)) }
+        requires prefix { IsWellFormedPrefix kind (size_bound (Cx.target self.now.cx)) }
         requires tail { IsNonEmptyIfUnsized kind (length (items_of fields)) }
         ensures exact { IsSingleAnswer F.layout_of FieldIdx.at (VariantIdx.at 0) index
             (Cx.target self.now.cx) repr.now kind optimizations (items_of fields.entry) result }

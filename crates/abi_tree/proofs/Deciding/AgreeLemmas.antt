@@ -9,11 +9,11 @@ use Rattle.abi_scalar.specs.declared.variants.TagEncoding.{TagEncoding}
 use Rattle.abi_scalar.specs.declared.variants.TagEncoding.TheVariants.{Direct, Niche}
 use Rattle.abi_tree.specs.Bytes.{AreBytes, bytes_at, number_of}
 use Rattle.abi_tree.specs.Value.{Value, number, two, list, variant, state, bytes, Values, no_values, more_values}
-use Rattle.abi_tree.specs.Placed.{Placed, scalar, pair, never, elements, vector, fields, union, single, tagged, states, Parts, no_parts, part, Arms, no_arms, arm, size_of}
+use Rattle.abi_tree.specs.Placed.{Placed, scalar, pair, never, elements, vector, fields, union, single, tagged, states, Parts, no_parts, part, TaggedVariants, no_tagged_variants, tagged_variant, size_of}
 use Rattle.abi_tree.specs.Places.{is_data_place}
 use Rattle.abi_tree.specs.Tag.{Names, NamesDirectly}
-use Rattle.abi_tree.specs.Holding.{IsAt, HoldEach, Holds, HoldParts, HoldArm, tag_at}
-use Rattle.abi_tree.specs.Covering.{is_told, is_byte_at, each_covered, is_covered, are_covered, is_arm_covered}
+use Rattle.abi_tree.specs.Holding.{IsAt, HoldEach, Holds, HoldParts, HoldTaggedVariant, tag_at}
+use Rattle.abi_tree.specs.Covering.{is_tagged, is_byte_at, each_covered, is_covered, are_covered, is_tagged_variant_covered}
 use Rattle.abi_tree.specs.Deciding.{CoveredBytesDecide}
 use Rattle.abi_tree.proofs.Bytes.BytesLemmas.{AreBytes-bytes_at}
 use Rattle.abi_tree.proofs.Bytes.HoldLemmas.{length-bytes_at}
@@ -65,21 +65,21 @@ agree_each P covered n same offset (more_values v vs) b w bb bw h g =
     agree_or (λ k. is_byte_at offset n k && covered v (k - offset)) (each_covered covered n (offset + n) vs) b w
     (agree_part offset n (covered v) (λ slice. P slice v) (same v) b w bb bw h.0 g.0) (agree_each P covered n same (offset + n) vs b w bb bw h.1 g.1)
 
--- numbers that name one arm directly are equal
-one_direct : (width : ℕ) (arms : Arms) (t s i : ℕ) → NamesDirectly width arms t i → NamesDirectly width arms s i → t ≡ s
-one_direct width no_arms t s i h g = absurd h
-one_direct width (arm code layout mark parts arms) t s zero h g = sym h.1 ∙ g.1
-one_direct width (arm code layout mark parts arms) t s (suc i) h g = one_direct width arms t s i h g
+-- numbers that name one tagged variant directly are equal
+one_direct : (width : ℕ) (tagged_variants : TaggedVariants) (t s i : ℕ) → NamesDirectly width tagged_variants t i → NamesDirectly width tagged_variants s i → t ≡ s
+one_direct width no_tagged_variants t s i h g = absurd h
+one_direct width (tagged_variant code layout mark parts tagged_variants) t s zero h g = sym h.1 ∙ g.1
+one_direct width (tagged_variant code layout mark parts tagged_variants) t s (suc i) h g = one_direct width tagged_variants t s i h g
 
 untold : (i untagged : ℕ) → i ≡ untagged → not (i == untagged) ≡ true → ⊥
-untold i untagged e told = true≢false (sym told ∙ ap not (eq-eqb i untagged e))
+untold i untagged e tag_layout = true≢false (sym tag_layout ∙ ap not (eq-eqb i untagged e))
 
--- numbers that name an arm which has one of its own are equal
-one_number : (encoding : TagEncoding ℕ) (width : ℕ) (arms : Arms) (t s i : ℕ) → is_told encoding i ≡ true → Names encoding width arms t i → Names encoding width arms s i → t ≡ s
-one_number Direct width arms t s i told h g = one_direct width arms t s i h g
-one_number (Niche untagged span start) width arms t s i told (inl h) (inl g) = h.1 ∙ sym g.1
-one_number (Niche untagged span start) width arms t s i told (inr h) g = absurd (untold i untagged h.0 told)
-one_number (Niche untagged span start) width arms t s i told (inl h) (inr g) = absurd (untold i untagged g.0 told)
+-- numbers that name a tagged variant which has one of its own are equal
+one_number : (encoding : TagEncoding ℕ) (width : ℕ) (tagged_variants : TaggedVariants) (t s i : ℕ) → is_tagged encoding i ≡ true → Names encoding width tagged_variants t i → Names encoding width tagged_variants s i → t ≡ s
+one_number Direct width tagged_variants t s i tag_layout h g = one_direct width tagged_variants t s i h g
+one_number (Niche untagged span start) width tagged_variants t s i tag_layout (inl h) (inl g) = h.1 ∙ sym g.1
+one_number (Niche untagged span start) width tagged_variants t s i tag_layout (inr h) g = absurd (untold i untagged h.0 tag_layout)
+one_number (Niche untagged span start) width tagged_variants t s i tag_layout (inl h) (inr g) = absurd (untold i untagged g.0 tag_layout)
 
 module _ (order : Endian) where
   -- tags of one number
@@ -111,16 +111,16 @@ module _ (order : Endian) where
         let start : 0 + k ≡ k = omega arith in
         picked-agree (is_data_place (union layout mark parts)) 0 b w (h.0 ∙ sym g.0) (sym h.1 ∙ g.1) k (subst (λ j. is_data_place (union layout mark parts) j ≡ true) (sym start) place)
     agree (single layout mark index parts) (variant i vs) b w bb bw h g = agree_parts parts vs b w bb bw h.2 g.2
-    agree (tagged layout mark offset tag encoding arms) (variant i vs) b w bb bw h g =
-        agree_or (λ k. is_told encoding i && is_byte_at offset (size_of tag) k) (is_arm_covered arms i vs) b w
+    agree (tagged layout mark offset tag encoding tagged_variants) (variant i vs) b w bb bw h g =
+        agree_or (λ k. is_tagged encoding i && is_byte_at offset (size_of tag) k) (is_tagged_variant_covered tagged_variants i vs) b w
         (λ k place.
-        let parts = and_parts (is_told encoding i) (is_byte_at offset (size_of tag) k) place in
-        agree_tag offset (size_of tag) b w bb bw h.1 g.1 (one_number encoding (size_of tag) arms _ _ i parts.0 h.2 g.2) k parts.1)
-        (agree_arm arms i vs b w bb bw h.3 g.3)
-    agree (states layout prefix offset tag arms) (state i ps vs) b w bb bw h g =
-        agree_or (are_covered prefix ps) (λ k. is_byte_at offset (size_of tag) k || is_arm_covered arms i vs k) b w (agree_parts prefix ps b w bb bw h.1 g.1)
-        (agree_or (is_byte_at offset (size_of tag)) (is_arm_covered arms i vs) b w
-        (agree_tag offset (size_of tag) b w bb bw h.2 g.2 (one_direct (size_of tag) arms _ _ i h.3 g.3)) (agree_arm arms i vs b w bb bw h.4 g.4))
+        let parts = and_parts (is_tagged encoding i) (is_byte_at offset (size_of tag) k) place in
+        agree_tag offset (size_of tag) b w bb bw h.1 g.1 (one_number encoding (size_of tag) tagged_variants _ _ i parts.0 h.2 g.2) k parts.1)
+        (agree_tagged_variant tagged_variants i vs b w bb bw h.3 g.3)
+    agree (states layout prefix offset tag tagged_variants) (state i ps vs) b w bb bw h g =
+        agree_or (are_covered prefix ps) (λ k. is_byte_at offset (size_of tag) k || is_tagged_variant_covered tagged_variants i vs k) b w (agree_parts prefix ps b w bb bw h.1 g.1)
+        (agree_or (is_byte_at offset (size_of tag)) (is_tagged_variant_covered tagged_variants i vs) b w
+        (agree_tag offset (size_of tag) b w bb bw h.2 g.2 (one_direct (size_of tag) tagged_variants _ _ i h.3 g.3)) (agree_tagged_variant tagged_variants i vs b w bb bw h.4 g.4))
     agree (scalar layout s) _ b w bb bw h g = absurd h
     agree (pair layout parts) _ b w bb bw h g = absurd h
     agree (never layout mark) _ b w bb bw h g = absurd h
@@ -129,8 +129,8 @@ module _ (order : Endian) where
     agree (fields layout mark parts) _ b w bb bw h g = absurd h
     agree (union layout mark parts) _ b w bb bw h g = absurd h
     agree (single layout mark index parts) _ b w bb bw h g = absurd h
-    agree (tagged layout mark offset tag encoding arms) _ b w bb bw h g = absurd h
-    agree (states layout prefix offset tag arms) _ b w bb bw h g = absurd h
+    agree (tagged layout mark offset tag encoding tagged_variants) _ b w bb bw h g = absurd h
+    agree (states layout prefix offset tag tagged_variants) _ b w bb bw h g = absurd h
 
     -- so it is with parts
     agree_parts : (parts : Parts) (vs : Values) → AgreeIn (are_covered parts vs) (λ b. HoldParts order parts b vs)
@@ -141,11 +141,11 @@ module _ (order : Endian) where
         (agree_part offset (size_of placed) (is_covered placed v) (λ slice. Holds order placed slice v) (agree placed v) b w bb bw h.0 g.0)
         (agree_parts parts vs b w bb bw h.1 g.1)
 
-    -- and with the parts of an arm
-    agree_arm : (arms : Arms) (i : ℕ) (vs : Values) → AgreeIn (is_arm_covered arms i vs) (λ b. HoldArm order arms i b vs)
-    agree_arm no_arms i vs b w bb bw h g = absurd h
-    agree_arm (arm code layout mark parts arms) zero vs b w bb bw h g = agree_parts parts vs b w bb bw h g
-    agree_arm (arm code layout mark parts arms) (suc i) vs b w bb bw h g = agree_arm arms i vs b w bb bw h g
+    -- and with the parts of a tagged variant
+    agree_tagged_variant : (tagged_variants : TaggedVariants) (i : ℕ) (vs : Values) → AgreeIn (is_tagged_variant_covered tagged_variants i vs) (λ b. HoldTaggedVariant order tagged_variants i b vs)
+    agree_tagged_variant no_tagged_variants i vs b w bb bw h g = absurd h
+    agree_tagged_variant (tagged_variant code layout mark parts tagged_variants) zero vs b w bb bw h g = agree_parts parts vs b w bb bw h g
+    agree_tagged_variant (tagged_variant code layout mark parts tagged_variants) (suc i) vs b w bb bw h g = agree_tagged_variant tagged_variants i vs b w bb bw h g
 
   -- so another byte there means another value, or none
   pub covered_decides : (placed : Placed) → CoveredBytesDecide order placed

@@ -11,24 +11,24 @@ use Rattle.abi_scalar.specs.declared.variants.TagEncoding.TheVariants.{Direct}
 use Rattle.abi_index.specs.RangeSet.{is_in_ranges, is_in_run}
 use Rattle.abi_tree.specs.Value.{Value, number, two, list, variant, state, bytes, Values, no_values, more_values}
 use Rattle.abi_tree.specs.Bytes.{AreBytes, bytes_at, picked_bytes, count_picked}
-use Rattle.abi_tree.specs.Placed.{Placed, scalar, pair, never, elements, vector, fields, union, single, tagged, states, Parts, no_parts, part, Arms, size_of, nothing}
+use Rattle.abi_tree.specs.Placed.{Placed, scalar, pair, never, elements, vector, fields, union, single, tagged, states, Parts, no_parts, part, TaggedVariants, size_of, nothing}
 use Rattle.abi_scalar.specs.Layout.{Layout}
 use Rattle.abi_tree.specs.Places.{is_data_place, is_place_of_part}
-use Rattle.abi_tree.specs.Nodes.{arms_in, own_fields, parts_at, placed_in}
+use Rattle.abi_tree.specs.Nodes.{tagged_variants_in, own_fields, parts_at, placed_in}
 use Rattle.abi_tree.specs.Laws.{has_list}
 use Rattle.abi_tree.specs.Room.{has_room, have_room}
 use Rattle.abi_tree.specs.Holding.{HoldEach, HoldParts, Holds}
-use Rattle.abi_tree.specs.Covering.{are_covered, each_covered, is_arm_covered, is_byte_at, is_covered, is_told}
-use Rattle.abi_tree.specs.Deciding.{arm_for, arm_values, covering_value, covering_values, each_value, first_with, place_in, two_of}
+use Rattle.abi_tree.specs.Covering.{are_covered, each_covered, is_tagged_variant_covered, is_byte_at, is_covered, is_tagged}
+use Rattle.abi_tree.specs.Deciding.{tagged_variant_for, tagged_variant_values, covering_value, covering_values, each_value, first_with, place_in, two_of}
 use Rattle.abi_tree.specs.Reading.{IsNamedIn}
 use Rattle.abi_tree.specs.Writing.{IsPutOver}
-use Rattle.abi_tree.specs.Putting.{PutsCovering, PutsCoveringArm, PutsTag}
+use Rattle.abi_tree.specs.Putting.{PutsCovering, PutsCoveringTaggedVariant, PutsTag}
 use Rattle.abi_tree.proofs.Bytes.BytesLemmas.{AreBytes-bytes_at}
 use Rattle.abi_tree.proofs.Bytes.HoldLemmas.{bytes_at-bytes_at, length-bytes_at}
 use Rattle.abi_tree.proofs.Bytes.PutOverLemmas.{put_both, put_like, put_none, put_one, put_part}
 use Rattle.abi_tree.proofs.Bytes.PutPlacesLemmas.{before_all_left, before_more, before_skip, picked-at}
-use Rattle.abi_tree.proofs.Found.ReadLemmas.{from_arm, parts_end, parts_from}
-use Rattle.abi_tree.proofs.Written.WriteLemmas.{IsWritten, arm_covers, put_slice, written_all, written_more, written_none}
+use Rattle.abi_tree.proofs.Found.ReadLemmas.{from_tagged_variant, parts_end, parts_from}
+use Rattle.abi_tree.proofs.Written.WriteLemmas.{IsWritten, tagged_variant_covers, put_slice, written_all, written_more, written_none}
 use Rattle.abi_tree.proofs.Written.WrittenLemmas.{zeros_at}
 
 -- of no bytes none is put
@@ -66,8 +66,8 @@ holds_number order (vector layout lanes) b n h = absurd h
 holds_number order (fields layout mark parts) b n h = absurd h
 holds_number order (union layout mark parts) b n h = absurd h
 holds_number order (single layout mark index parts) b n h = absurd h
-holds_number order (tagged layout mark offset tag encoding arms) b n h = absurd h
-holds_number order (states layout prefix offset tag arms) b n h = absurd h
+holds_number order (tagged layout mark offset tag encoding tagged_variants) b n h = absurd h
+holds_number order (states layout prefix offset tag tagged_variants) b n h = absurd h
 
 module _ (order : Endian) (layout : Layout) (place : Option ℕ) (at : ℕ) (b old new : List ℕ) where
   abbrev PairPut : Parts → Type 0
@@ -227,7 +227,7 @@ own_like n parts vs room k =
     (λ (c : are_covered parts vs k ≡ false). and_right (is_byte_at 0 n k) (are_covered parts vs k) c ∙ sym c)
     (cases_Bool (are_covered parts vs k))
 
--- as the whole of its own node, and as the fields of an arm
+-- as the whole of its own node, and as the fields of a tagged variant
 pub variant_put : (order : Endian) (p : Placed) (place : Option ℕ) (at : ℕ) (old new : List ℕ) → has_list p ≡ true → has_room p ≡ true → PutsCovering order at old new place p →
     (b : List ℕ) → AreBytes b → size_of p ≤ length b → HoldParts order (own_fields p) b (covering_values (own_fields p) place) →
     IsPutOver (are_covered (own_fields p) (covering_values (own_fields p) place)) at b old new
@@ -238,8 +238,8 @@ variant_put order (elements layout count element) place at old new listed room p
 variant_put order (vector layout lanes) place at old new listed room put b all le held = absurd (cc)
 variant_put order (union layout mark parts) place at old new listed room put b all le held = absurd (cc)
 variant_put order (single layout mark index parts) place at old new listed room put b all le held = absurd (cc)
-variant_put order (tagged layout mark offset tag encoding arms) place at old new listed room put b all le held = absurd (cc)
-variant_put order (states layout prefix offset tag arms) place at old new listed room put b all le held = absurd (cc)
+variant_put order (tagged layout mark offset tag encoding tagged_variants) place at old new listed room put b all le held = absurd (cc)
+variant_put order (states layout prefix offset tag tagged_variants) place at old new listed room put b all le held = absurd (cc)
 variant_put order (fields layout mark parts) place at old new listed room put b all le held =
     let n : ℕ = layout.size in
     let vs : Values = covering_values parts place in
@@ -249,47 +249,47 @@ variant_put order (fields layout mark parts) place at old new listed room put b 
     put_like (λ k. is_byte_at 0 n k && are_covered parts vs (k - 0)) (are_covered parts vs) at b old new (own_like n parts vs room)
     (put_part (are_covered parts vs) at 0 n b old new (omega (arith, le)) (subst (λ a. IsPutOver (are_covered parts vs) a (bytes_at b 0 n) old new) start own))
 
--- the arm with an index has the values of its variant's fields
-pub arm_values_own : (done : List Placed) (vs : List (ℕ × ℕ)) (i : ℕ) (d : ℕ × ℕ) (place : Option ℕ) → i < length vs →
-    arm_values (arms_in done vs) i place ≡ covering_values (own_fields (placed_in done (get_or vs i d).1)) place
-arm_values_own done [] i d place lt = absurd (omega arith)
-arm_values_own done (v ∷ vs) zero d place lt = refl
-arm_values_own done (v ∷ vs) (suc i) d place lt = arm_values_own done vs i d place (omega arith)
+-- the tagged variant with an index has the values of its variant's fields
+pub tagged_variant_values_own : (done : List Placed) (vs : List (ℕ × ℕ)) (i : ℕ) (d : ℕ × ℕ) (place : Option ℕ) → i < length vs →
+    tagged_variant_values (tagged_variants_in done vs) i place ≡ covering_values (own_fields (placed_in done (get_or vs i d).1)) place
+tagged_variant_values_own done [] i d place lt = absurd (omega arith)
+tagged_variant_values_own done (v ∷ vs) zero d place lt = refl
+tagged_variant_values_own done (v ∷ vs) (suc i) d place lt = tagged_variant_values_own done vs i d place (omega arith)
 
 module _ (order : Endian) (done : List Placed) (place : Option ℕ) (at : ℕ) (old mid new : List ℕ) (encoding : TagEncoding ℕ) (offset : ℕ) (tag : Placed) (vs : List (ℕ × ℕ)) (i : ℕ) (lt : i < length vs) where
   abbrev own_node : Placed
   own_node = placed_in done (get_or vs i (0, 0)).1
 
   abbrev ThisCovered : (b : List ℕ) → (j : ℕ) → Type 0
-  ThisCovered b j = IsNamedIn order b encoding offset tag (arms_in done vs) j (arm_values (arms_in done vs) j place) →
-      IsPutOver (λ k. (is_told encoding j && is_byte_at offset (size_of tag) k) || is_arm_covered (arms_in done vs) j (arm_values (arms_in done vs) j place) k) at b old new
+  ThisCovered b j = IsNamedIn order b encoding offset tag (tagged_variants_in done vs) j (tagged_variant_values (tagged_variants_in done vs) j place) →
+      IsPutOver (λ k. (is_tagged encoding j && is_byte_at offset (size_of tag) k) || is_tagged_variant_covered (tagged_variants_in done vs) j (tagged_variant_values (tagged_variants_in done vs) j place) k) at b old new
 
   -- the tag, and then the variant's own node
-  pub arm_put : i ≡ arm_for encoding (arms_in done vs) place → has_list own_node ≡ true → has_room own_node ≡ true → PutsTag order at old mid encoding offset (size_of tag) vs i → PutsCovering order at mid new place own_node →
-      PutsCoveringArm order at old new place encoding offset tag done vs
-  arm_put is listed room front own = λ b all sizes. subst (ThisCovered b) is (this b all (sizes i (0, 0) lt))
+  pub tagged_variant_put : i ≡ tagged_variant_for encoding (tagged_variants_in done vs) place → has_list own_node ≡ true → has_room own_node ≡ true → PutsTag order at old mid encoding offset (size_of tag) vs i → PutsCovering order at mid new place own_node →
+      PutsCoveringTaggedVariant order at old new place encoding offset tag done vs
+  tagged_variant_put is listed room front own = λ b all sizes. subst (ThisCovered b) is (this b all (sizes i (0, 0) lt))
     where
       this : (b : List ℕ) → AreBytes b → size_of own_node ≤ length b → ThisCovered b i
       this b all le held =
-          let ws : Values = arm_values (arms_in done vs) i place in
-          let same : ws ≡ covering_values (own_fields own_node) place = arm_values_own done vs i (0, 0) place lt in
-          let parts = from_arm order done b vs i (0, 0) ws held.2 in
+          let ws : Values = tagged_variant_values (tagged_variants_in done vs) i place in
+          let same : ws ≡ covering_values (own_fields own_node) place = tagged_variant_values_own done vs i (0, 0) place lt in
+          let parts = from_tagged_variant order done b vs i (0, 0) ws held.2 in
           let over = variant_put order own_node place at mid new listed room own b all le (subst (HoldParts order (own_fields own_node) b) same parts.1) in
-          put_both (λ k. is_told encoding i && is_byte_at offset (size_of tag) k) (λ k. is_arm_covered (arms_in done vs) i ws k) at b old mid new (front b done all held.0 held.1)
-          (put_like (are_covered (own_fields own_node) ws) (λ k. is_arm_covered (arms_in done vs) i ws k) at b mid new (λ k. arm_covers done vs i (0, 0) ws k lt)
+          put_both (λ k. is_tagged encoding i && is_byte_at offset (size_of tag) k) (λ k. is_tagged_variant_covered (tagged_variants_in done vs) i ws k) at b old mid new (front b done all held.0 held.1)
+          (put_like (are_covered (own_fields own_node) ws) (λ k. is_tagged_variant_covered (tagged_variants_in done vs) i ws k) at b mid new (λ k. tagged_variant_covers done vs i (0, 0) ws k lt)
           (subst (λ us. IsPutOver (are_covered (own_fields own_node) us) at b mid new) (sym same) over))
 
 -- prefix fields, and then a state
-pub states_put : (order : Endian) (layout : Layout) (place : Option ℕ) (at : ℕ) (b old mid new : List ℕ) (prefix : Parts) (offset : ℕ) (tag : Placed) (arms : Arms) →
+pub states_put : (order : Endian) (layout : Layout) (place : Option ℕ) (at : ℕ) (b old mid new : List ℕ) (prefix : Parts) (offset : ℕ) (tag : Placed) (tagged_variants : TaggedVariants) →
     (HoldParts order prefix b (covering_values prefix place) → IsPutOver (are_covered prefix (covering_values prefix place)) at b old mid) →
-    (IsNamedIn order b Direct offset tag arms (arm_for Direct arms place) (arm_values arms (arm_for Direct arms place) place) →
-    IsPutOver (λ k. (is_told Direct (arm_for Direct arms place) && is_byte_at offset (size_of tag) k)
-    || is_arm_covered arms (arm_for Direct arms place) (arm_values arms (arm_for Direct arms place) place) k) at b mid new) →
-    Holds order (states layout prefix offset tag arms) b (covering_value (states layout prefix offset tag arms) place) →
-    IsPutOver (is_covered (states layout prefix offset tag arms) (covering_value (states layout prefix offset tag arms) place)) at b old new
-states_put order layout place at b old mid new prefix offset tag arms front put held =
-    let i : ℕ = arm_for Direct arms place in
-    put_both (are_covered prefix (covering_values prefix place)) (λ k. is_byte_at offset (size_of tag) k || is_arm_covered arms i (arm_values arms i place) k) at b old mid new
+    (IsNamedIn order b Direct offset tag tagged_variants (tagged_variant_for Direct tagged_variants place) (tagged_variant_values tagged_variants (tagged_variant_for Direct tagged_variants place) place) →
+    IsPutOver (λ k. (is_tagged Direct (tagged_variant_for Direct tagged_variants place) && is_byte_at offset (size_of tag) k)
+    || is_tagged_variant_covered tagged_variants (tagged_variant_for Direct tagged_variants place) (tagged_variant_values tagged_variants (tagged_variant_for Direct tagged_variants place) place) k) at b mid new) →
+    Holds order (states layout prefix offset tag tagged_variants) b (covering_value (states layout prefix offset tag tagged_variants) place) →
+    IsPutOver (is_covered (states layout prefix offset tag tagged_variants) (covering_value (states layout prefix offset tag tagged_variants) place)) at b old new
+states_put order layout place at b old mid new prefix offset tag tagged_variants front put held =
+    let i : ℕ = tagged_variant_for Direct tagged_variants place in
+    put_both (are_covered prefix (covering_values prefix place)) (λ k. is_byte_at offset (size_of tag) k || is_tagged_variant_covered tagged_variants i (tagged_variant_values tagged_variants i place) k) at b old mid new
     (front held.1) (put (held.2, held.3, held.4))
 
 -- ---- which variant
@@ -298,17 +298,17 @@ module _ (done : List Placed) (vs : List (ℕ × ℕ)) (k otherwise i : ℕ) (d 
   abbrev has_it : Bool
   has_it = is_place_of_part (own_fields (placed_in done (get_or vs i d).1)) k
 
-  with_next : first_with (arms_in done (drop i vs)) k i otherwise ≡ (if has_it then i else first_with (arms_in done (drop (i + 1) vs)) k (i + 1) otherwise)
-  with_next = ap (λ ws. first_with (arms_in done ws) k i otherwise) (drop_more vs i d lt)
+  with_next : first_with (tagged_variants_in done (drop i vs)) k i otherwise ≡ (if has_it then i else first_with (tagged_variants_in done (drop (i + 1) vs)) k (i + 1) otherwise)
+  with_next = ap (λ ws. first_with (tagged_variants_in done ws) k i otherwise) (drop_more vs i d lt)
 
-  pub with_this : has_it ≡ true → first_with (arms_in done (drop i vs)) k i otherwise ≡ i
-  with_this has = with_next ∙ ap (λ b. if b then i else first_with (arms_in done (drop (i + 1) vs)) k (i + 1) otherwise) has
+  pub with_this : has_it ≡ true → first_with (tagged_variants_in done (drop i vs)) k i otherwise ≡ i
+  with_this has = with_next ∙ ap (λ b. if b then i else first_with (tagged_variants_in done (drop (i + 1) vs)) k (i + 1) otherwise) has
 
-  pub with_later : has_it ≡ false → first_with (arms_in done (drop i vs)) k i otherwise ≡ first_with (arms_in done (drop (i + 1) vs)) k (i + 1) otherwise
-  with_later none = with_next ∙ ap (λ b. if b then i else first_with (arms_in done (drop (i + 1) vs)) k (i + 1) otherwise) none
+  pub with_later : has_it ≡ false → first_with (tagged_variants_in done (drop i vs)) k i otherwise ≡ first_with (tagged_variants_in done (drop (i + 1) vs)) k (i + 1) otherwise
+  with_later none = with_next ∙ ap (λ b. if b then i else first_with (tagged_variants_in done (drop (i + 1) vs)) k (i + 1) otherwise) none
 
-pub with_none : (done : List Placed) (vs : List (ℕ × ℕ)) (k otherwise i : ℕ) → length vs ≤ i → first_with (arms_in done (drop i vs)) k i otherwise ≡ otherwise
-with_none done vs k otherwise i end = ap (λ ws. first_with (arms_in done ws) k i otherwise) (drop_all i vs end)
+pub with_none : (done : List Placed) (vs : List (ℕ × ℕ)) (k otherwise i : ℕ) → length vs ≤ i → first_with (tagged_variants_in done (drop i vs)) k i otherwise ≡ otherwise
+with_none done vs k otherwise i end = ap (λ ws. first_with (tagged_variants_in done ws) k i otherwise) (drop_all i vs end)
 
 -- ---- zeros
 

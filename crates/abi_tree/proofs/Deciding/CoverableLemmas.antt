@@ -8,12 +8,12 @@ use Rattle.abi_scalar.specs.declared.scalar.Scalar.{Scalar}
 use Rattle.abi_scalar.specs.declared.variants.TagEncoding.{TagEncoding}
 use Rattle.abi_scalar.specs.declared.variants.TagEncoding.TheVariants.{Direct, Niche}
 use Rattle.abi_tree.specs.declared.mark.Mark.{Mark}
-use Rattle.abi_tree.specs.Placed.{Placed, scalar, pair, never, elements, vector, fields, union, single, tagged, states, Parts, no_parts, part, Arms, no_arms, arm, size_of}
+use Rattle.abi_tree.specs.Placed.{Placed, scalar, pair, never, elements, vector, fields, union, single, tagged, states, Parts, no_parts, part, TaggedVariants, no_tagged_variants, tagged_variant, size_of}
 use Rattle.abi_scalar.specs.Layout.{Layout}
-use Rattle.abi_tree.specs.Places.{is_data_place, is_place_of_arm, is_place_of_part}
-use Rattle.abi_tree.specs.Room.{arms_have_room, has_room, have_room}
-use Rattle.abi_tree.specs.Covering.{are_covered, each_covered, is_arm_covered, is_byte_at, is_covered, is_told}
-use Rattle.abi_tree.specs.Deciding.{arm_for, arm_values, covering_value, covering_values, each_value, first_told, first_with, place_in}
+use Rattle.abi_tree.specs.Places.{is_data_place, is_place_of_tagged_variant, is_place_of_part}
+use Rattle.abi_tree.specs.Room.{tagged_variants_have_room, has_room, have_room}
+use Rattle.abi_tree.specs.Covering.{are_covered, each_covered, is_tagged_variant_covered, is_byte_at, is_covered, is_tagged}
+use Rattle.abi_tree.specs.Deciding.{tagged_variant_for, tagged_variant_values, covering_value, covering_values, each_value, first_tagged, first_with, place_in}
 use Rattle.abi_tree.proofs.Places.RoomLemmas.{within_room}
 
 -- the chosen value covers each data place
@@ -25,9 +25,9 @@ abbrev pub PartsCover : Parts → Type 0
 PartsCover no_parts = ⊤
 PartsCover (part offset p parts) = Covers p × PartsCover parts
 
-abbrev pub ArmsCover : Arms → Type 0
-ArmsCover no_arms = ⊤
-ArmsCover (arm code layout mark parts arms) = PartsCover parts × ArmsCover arms
+abbrev pub TaggedVariantsCover : TaggedVariants → Type 0
+TaggedVariantsCover no_tagged_variants = ⊤
+TaggedVariantsCover (tagged_variant code layout mark parts tagged_variants) = PartsCover parts × TaggedVariantsCover tagged_variants
 
 -- a place of what lies at an offset, and is as large as n bytes
 at_byte : (offset n k : ℕ) → offset ≤ k → k - offset < n → is_byte_at offset n k ≡ true
@@ -54,34 +54,34 @@ parts_covered size (part o p parts) k covers room place =
     (λ later. or_right first rest (parts_covered size parts k covers.1 both.1 later))
     (or_cases (nat_le o k && is_data_place p (k - o)) (is_place_of_part parts k) place)
 
--- the first arm that has the place covers it
-arms_covered : (size : ℕ) (arms : Arms) (k from otherwise : ℕ) → ArmsCover arms → arms_have_room size arms ≡ true → is_place_of_arm arms k ≡ true →
-    (j : ℕ) × (first_with arms k from otherwise ≡ from + j) × (is_arm_covered arms j (arm_values arms j (Some k)) k ≡ true)
-arms_covered size no_arms k from otherwise covers room place = absurd (true≢false (sym place))
-arms_covered size (arm code layout mark parts arms) k from otherwise covers room place =
-    let both = and_parts (have_room size parts) (arms_have_room size arms) room in
+-- the first tagged variant that has the place covers it
+tagged_variants_covered : (size : ℕ) (tagged_variants : TaggedVariants) (k from otherwise : ℕ) → TaggedVariantsCover tagged_variants → tagged_variants_have_room size tagged_variants ≡ true → is_place_of_tagged_variant tagged_variants k ≡ true →
+    (j : ℕ) × (first_with tagged_variants k from otherwise ≡ from + j) × (is_tagged_variant_covered tagged_variants j (tagged_variant_values tagged_variants j (Some k)) k ≡ true)
+tagged_variants_covered size no_tagged_variants k from otherwise covers room place = absurd (true≢false (sym place))
+tagged_variants_covered size (tagged_variant code layout mark parts tagged_variants) k from otherwise covers room place =
+    let both = and_parts (have_room size parts) (tagged_variants_have_room size tagged_variants) room in
     ⊎_elim
     (λ here.
     let this : from ≡ from + 0 = omega arith in
-    (0, ap (λ b. if b then from else first_with arms k (from + 1) otherwise) here ∙ this, parts_covered size parts k covers.0 both.0 here))
+    (0, ap (λ b. if b then from else first_with tagged_variants k (from + 1) otherwise) here ∙ this, parts_covered size parts k covers.0 both.0 here))
     (λ none.
-    let rest = arms_covered size arms k (from + 1) otherwise covers.1 both.1 (later none) in
+    let rest = tagged_variants_covered size tagged_variants k (from + 1) otherwise covers.1 both.1 (later none) in
     let next : from + 1 + rest.0 ≡ from + suc rest.0 = omega arith in
-    (suc rest.0, ap (λ b. if b then from else first_with arms k (from + 1) otherwise) none ∙ rest.1 ∙ next, rest.2))
+    (suc rest.0, ap (λ b. if b then from else first_with tagged_variants k (from + 1) otherwise) none ∙ rest.1 ∙ next, rest.2))
     (cases_Bool (is_place_of_part parts k))
   where
-    later : is_place_of_part parts k ≡ false → is_place_of_arm arms k ≡ true
-    later none = ⊎_elim (λ here. absurd (true≢false (sym here ∙ none))) (λ e. e) (or_cases (is_place_of_part parts k) (is_place_of_arm arms k) place)
+    later : is_place_of_part parts k ≡ false → is_place_of_tagged_variant tagged_variants k ≡ true
+    later none = ⊎_elim (λ here. absurd (true≢false (sym here ∙ none))) (λ e. e) (or_cases (is_place_of_part parts k) (is_place_of_tagged_variant tagged_variants k) place)
 
 -- where none has it, another index is answered
-none_with : (arms : Arms) (k from otherwise : ℕ) → is_place_of_arm arms k ≡ false → first_with arms k from otherwise ≡ otherwise
-none_with no_arms k from otherwise none = refl
-none_with (arm code layout mark parts arms) k from otherwise none =
-    let each = or_parts (is_place_of_part parts k) (is_place_of_arm arms k) none in
-    ap (λ b. if b then from else first_with arms k (from + 1) otherwise) each.0 ∙ none_with arms k (from + 1) otherwise each.1
+none_with : (tagged_variants : TaggedVariants) (k from otherwise : ℕ) → is_place_of_tagged_variant tagged_variants k ≡ false → first_with tagged_variants k from otherwise ≡ otherwise
+none_with no_tagged_variants k from otherwise none = refl
+none_with (tagged_variant code layout mark parts tagged_variants) k from otherwise none =
+    let each = or_parts (is_place_of_part parts k) (is_place_of_tagged_variant tagged_variants k) none in
+    ap (λ b. if b then from else first_with tagged_variants k (from + 1) otherwise) each.0 ∙ none_with tagged_variants k (from + 1) otherwise each.1
 
 -- the first variant that is told has a number of its own
-told_first : (encoding : TagEncoding ℕ) → is_told encoding (first_told encoding) ≡ true
+told_first : (encoding : TagEncoding ℕ) → is_tagged encoding (first_tagged encoding) ≡ true
 told_first Direct = refl
 told_first (Niche untagged span start) = by (untagged == 0) refl
   where
@@ -89,28 +89,28 @@ told_first (Niche untagged span start) = by (untagged == 0) refl
     by true e = let zero_is : untagged ≡ 0 = eqb-true untagged 0 e in ap (λ u. not (1 == u)) zero_is
     by false e = ap not (false_from_ne_true (0 == untagged) (λ same. true≢false (sym (eq-eqb untagged 0 (sym (eqb-true 0 untagged same))) ∙ e)))
 
--- a place of the tag, or of an arm
-beside_covered : (size offset : ℕ) (tag : Placed) (encoding : TagEncoding ℕ) (arms : Arms) (k : ℕ) → has_room tag ≡ true → ArmsCover arms → arms_have_room size arms ≡ true →
-    ((nat_le offset k && is_data_place tag (k - offset)) || is_place_of_arm arms k) ≡ true →
-    ((is_told encoding (arm_for encoding arms (Some k)) && is_byte_at offset (size_of tag) k)
-    || is_arm_covered arms (arm_for encoding arms (Some k)) (arm_values arms (arm_for encoding arms (Some k)) (Some k)) k) ≡ true
-beside_covered size offset tag encoding arms k of_tag covers room place =
-    let told : ℕ = first_told encoding in
-    let i : ℕ = arm_for encoding arms (Some k) in
-    let at_tag = is_told encoding i && is_byte_at offset (size_of tag) k in
-    let in_arm = is_arm_covered arms i (arm_values arms i (Some k)) k in
+-- a place of the tag, or of a tagged variant
+beside_covered : (size offset : ℕ) (tag : Placed) (encoding : TagEncoding ℕ) (tagged_variants : TaggedVariants) (k : ℕ) → has_room tag ≡ true → TaggedVariantsCover tagged_variants → tagged_variants_have_room size tagged_variants ≡ true →
+    ((nat_le offset k && is_data_place tag (k - offset)) || is_place_of_tagged_variant tagged_variants k) ≡ true →
+    ((is_tagged encoding (tagged_variant_for encoding tagged_variants (Some k)) && is_byte_at offset (size_of tag) k)
+    || is_tagged_variant_covered tagged_variants (tagged_variant_for encoding tagged_variants (Some k)) (tagged_variant_values tagged_variants (tagged_variant_for encoding tagged_variants (Some k)) (Some k)) k) ≡ true
+beside_covered size offset tag encoding tagged_variants k of_tag covers room place =
+    let tag_layout : ℕ = first_tagged encoding in
+    let i : ℕ = tagged_variant_for encoding tagged_variants (Some k) in
+    let at_tag = is_tagged encoding i && is_byte_at offset (size_of tag) k in
+    let in_tagged_variant = is_tagged_variant_covered tagged_variants i (tagged_variant_values tagged_variants i (Some k)) k in
     ⊎_elim
     (λ here.
-    let found = arms_covered size arms k 0 told covers room here in
+    let found = tagged_variants_covered size tagged_variants k 0 tag_layout covers room here in
     let same : found.0 ≡ i = sym (found.1 ∙ omega arith) in
-    or_right at_tag in_arm (subst (λ j. is_arm_covered arms j (arm_values arms j (Some k)) k ≡ true) same found.2))
+    or_right at_tag in_tagged_variant (subst (λ j. is_tagged_variant_covered tagged_variants j (tagged_variant_values tagged_variants j (Some k)) k ≡ true) same found.2))
     (λ none.
-    let same : i ≡ told = none_with arms k 0 told none in
-    let tag_has : (nat_le offset k && is_data_place tag (k - offset)) ≡ true = ⊎_elim (λ e. e) (λ e. absurd (true≢false (sym e ∙ none))) (or_cases (nat_le offset k && is_data_place tag (k - offset)) (is_place_of_arm arms k) place) in
+    let same : i ≡ tag_layout = none_with tagged_variants k 0 tag_layout none in
+    let tag_has : (nat_le offset k && is_data_place tag (k - offset)) ≡ true = ⊎_elim (λ e. e) (λ e. absurd (true≢false (sym e ∙ none))) (or_cases (nat_le offset k && is_data_place tag (k - offset)) (is_place_of_tagged_variant tagged_variants k) place) in
     let both = and_parts (nat_le offset k) (is_data_place tag (k - offset)) tag_has in
-    or_left at_tag in_arm
-    (both_true (ap (is_told encoding) same ∙ told_first encoding) (at_byte offset (size_of tag) k (leb-true offset k both.0) (within_room tag (k - offset) of_tag both.1))))
-    (cases_Bool (is_place_of_arm arms k))
+    or_left at_tag in_tagged_variant
+    (both_true (ap (is_tagged encoding) same ∙ told_first encoding) (at_byte offset (size_of tag) k (leb-true offset k both.0) (within_room tag (k - offset) of_tag both.1))))
+    (cases_Bool (is_place_of_tagged_variant tagged_variants k))
 
 -- elements from an offset on
 each_one : (p : Placed) (k offset count : ℕ) → ((j : ℕ) → is_data_place p j ≡ true → is_covered p (covering_value p (Some j)) j ≡ true) → offset ≤ k →
@@ -173,21 +173,21 @@ covers_union layout mark parts room k place = place
 pub covers_single : (layout : Layout) (mark : Mark) (index : ℕ) (parts : Parts) → PartsCover parts → Covers (single layout mark index parts)
 covers_single layout mark index parts covers room k place = parts_covered layout.size parts k covers room place
 
-pub covers_tagged : (layout : Layout) (mark : Mark) (offset : ℕ) (tag : Placed) (encoding : TagEncoding ℕ) (arms : Arms) → ArmsCover arms → Covers (tagged layout mark offset tag encoding arms)
-covers_tagged layout mark offset tag encoding arms covers room k place =
-    let both = and_parts (nat_le (offset + size_of tag) layout.size && has_room tag) (arms_have_room layout.size arms) room in
+pub covers_tagged : (layout : Layout) (mark : Mark) (offset : ℕ) (tag : Placed) (encoding : TagEncoding ℕ) (tagged_variants : TaggedVariants) → TaggedVariantsCover tagged_variants → Covers (tagged layout mark offset tag encoding tagged_variants)
+covers_tagged layout mark offset tag encoding tagged_variants covers room k place =
+    let both = and_parts (nat_le (offset + size_of tag) layout.size && has_room tag) (tagged_variants_have_room layout.size tagged_variants) room in
     let of_tag = and_parts (nat_le (offset + size_of tag) layout.size) (has_room tag) both.0 in
-    beside_covered layout.size offset tag encoding arms k of_tag.1 covers both.1 place
+    beside_covered layout.size offset tag encoding tagged_variants k of_tag.1 covers both.1 place
 
-pub covers_states : (layout : Layout) (prefix : Parts) (offset : ℕ) (tag : Placed) (arms : Arms) → PartsCover prefix → ArmsCover arms → Covers (states layout prefix offset tag arms)
-covers_states layout prefix offset tag arms first covers room k place =
-    let front = and_parts (have_room layout.size prefix) ((nat_le (offset + size_of tag) layout.size && has_room tag) && arms_have_room layout.size arms) room in
-    let both = and_parts (nat_le (offset + size_of tag) layout.size && has_room tag) (arms_have_room layout.size arms) front.1 in
+pub covers_states : (layout : Layout) (prefix : Parts) (offset : ℕ) (tag : Placed) (tagged_variants : TaggedVariants) → PartsCover prefix → TaggedVariantsCover tagged_variants → Covers (states layout prefix offset tag tagged_variants)
+covers_states layout prefix offset tag tagged_variants first covers room k place =
+    let front = and_parts (have_room layout.size prefix) ((nat_le (offset + size_of tag) layout.size && has_room tag) && tagged_variants_have_room layout.size tagged_variants) room in
+    let both = and_parts (nat_le (offset + size_of tag) layout.size && has_room tag) (tagged_variants_have_room layout.size tagged_variants) front.1 in
     let of_tag = and_parts (nat_le (offset + size_of tag) layout.size) (has_room tag) both.0 in
-    let i : ℕ = arm_for Direct arms (Some k) in
+    let i : ℕ = tagged_variant_for Direct tagged_variants (Some k) in
     let shared = are_covered prefix (covering_values prefix (Some k)) k in
-    let own = is_byte_at offset (size_of tag) k || is_arm_covered arms i (arm_values arms i (Some k)) k in
+    let own = is_byte_at offset (size_of tag) k || is_tagged_variant_covered tagged_variants i (tagged_variant_values tagged_variants i (Some k)) k in
     ⊎_elim
     (λ here. or_left shared own (parts_covered layout.size prefix k first front.0 here))
-    (λ beside. or_right shared own (beside_covered layout.size offset tag Direct arms k of_tag.1 covers both.1 beside))
-    (or_cases (is_place_of_part prefix k) ((nat_le offset k && is_data_place tag (k - offset)) || is_place_of_arm arms k) place)
+    (λ beside. or_right shared own (beside_covered layout.size offset tag Direct tagged_variants k of_tag.1 covers both.1 beside))
+    (or_cases (is_place_of_part prefix k) ((nat_le offset k && is_data_place tag (k - offset)) || is_place_of_tagged_variant tagged_variants k) place)

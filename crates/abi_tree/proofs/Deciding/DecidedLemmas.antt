@@ -9,12 +9,12 @@ use Rattle.abi_scalar.specs.declared.variants.TagEncoding.{TagEncoding}
 use Rattle.abi_scalar.specs.declared.variants.TagEncoding.TheVariants.{Direct, Niche}
 use Rattle.abi_tree.specs.Bytes.{bytes_at, number_of}
 use Rattle.abi_tree.specs.Value.{Value, number, two, list, variant, state, bytes, Values, no_values, more_values}
-use Rattle.abi_tree.specs.Placed.{Placed, scalar, pair, never, elements, vector, fields, union, single, tagged, states, Parts, no_parts, part, Arms, no_arms, arm, size_of}
+use Rattle.abi_tree.specs.Placed.{Placed, scalar, pair, never, elements, vector, fields, union, single, tagged, states, Parts, no_parts, part, TaggedVariants, no_tagged_variants, tagged_variant, size_of}
 use Rattle.abi_tree.specs.Places.{is_data_place}
 use Rattle.abi_tree.specs.Tag.{Names, NamesDirectly, NamesByNiche}
-use Rattle.abi_tree.specs.Holding.{IsAt, HoldEach, Holds, HoldParts, HoldArm, tag_at}
-use Rattle.abi_tree.specs.Untagged.{NamesItself, UntaggedNamed, UntaggedNamedOf, UntaggedNamedOfArms}
-use Rattle.abi_tree.specs.Covering.{is_told, is_byte_at, each_covered, is_covered, are_covered, is_arm_covered}
+use Rattle.abi_tree.specs.Holding.{IsAt, HoldEach, Holds, HoldParts, HoldTaggedVariant, tag_at}
+use Rattle.abi_tree.specs.Untagged.{NamesItself, UntaggedNamed, UntaggedNamedOf, UntaggedNamedOfTaggedVariants}
+use Rattle.abi_tree.specs.Covering.{is_tagged, is_byte_at, each_covered, is_covered, are_covered, is_tagged_variant_covered}
 use Rattle.abi_tree.proofs.Bytes.BytesLemmas.{same_bytes}
 use Rattle.abi_tree.proofs.Bytes.HoldLemmas.{length-bytes_at}
 use Rattle.abi_tree.proofs.Bytes.PickedLemmas.{picked-same}
@@ -66,17 +66,17 @@ decide_each P covered n decide offset (more_values v vs) b w long h same = (
 )
 
 module _ (order : Endian) where
-  -- a number names an arm as before where the bytes of one that it tells are the same: one that it doesn't tell names itself
-  still_named : (encoding : TagEncoding ℕ) (offset : ℕ) (tag : Placed) (arms : Arms) (i : ℕ) (vs : Values) (b w : List ℕ) → NamesItself order offset tag encoding arms →
-      (is_told encoding i ≡ true → bytes_at b offset (size_of tag) ≡ bytes_at w offset (size_of tag)) → HoldArm order arms i w vs →
-      Names encoding (size_of tag) arms (tag_at order b offset (size_of tag)) i → Names encoding (size_of tag) arms (tag_at order w offset (size_of tag)) i
-  still_named Direct offset tag arms i vs b w itself same held h = subst (λ x. NamesDirectly (size_of tag) arms (number_of order x) i) (same refl) h
-  still_named (Niche untagged span start) offset tag arms i vs b w itself same held (inl h) =
-      let told = not_from_false (i == untagged) (false_from_ne_true (i == untagged) (λ e. h.0.2 (eqb-true i untagged e))) in
-      subst (λ x. NamesByNiche (size_of tag) untagged span.start span.last start (number_of order x) i) (same told) (inl h)
-  still_named (Niche untagged span start) offset tag arms i vs b w itself same held (inr h) =
+  -- a number names a tagged variant as before where the bytes of one that it says are the same: one that it doesn't tell names itself
+  still_named : (encoding : TagEncoding ℕ) (offset : ℕ) (tag : Placed) (tagged_variants : TaggedVariants) (i : ℕ) (vs : Values) (b w : List ℕ) → NamesItself order offset tag encoding tagged_variants →
+      (is_tagged encoding i ≡ true → bytes_at b offset (size_of tag) ≡ bytes_at w offset (size_of tag)) → HoldTaggedVariant order tagged_variants i w vs →
+      Names encoding (size_of tag) tagged_variants (tag_at order b offset (size_of tag)) i → Names encoding (size_of tag) tagged_variants (tag_at order w offset (size_of tag)) i
+  still_named Direct offset tag tagged_variants i vs b w itself same held h = subst (λ x. NamesDirectly (size_of tag) tagged_variants (number_of order x) i) (same refl) h
+  still_named (Niche untagged span start) offset tag tagged_variants i vs b w itself same held (inl h) =
+      let tag_layout = not_from_false (i == untagged) (false_from_ne_true (i == untagged) (λ e. h.0.2 (eqb-true i untagged e))) in
+      subst (λ x. NamesByNiche (size_of tag) untagged span.start span.last start (number_of order x) i) (same tag_layout) (inl h)
+  still_named (Niche untagged span start) offset tag tagged_variants i vs b w itself same held (inr h) =
       subst (NamesByNiche (size_of tag) untagged span.start span.last start (tag_at order w offset (size_of tag))) (sym h.0)
-      (itself w vs (subst (λ j. HoldArm order arms j w vs) h.0 held))
+      (itself w vs (subst (λ j. HoldTaggedVariant order tagged_variants j w vs) h.0 held))
 
   mutual
     -- byte lists of one length that agree at each byte that the value covers: where one holds the value, so does the other
@@ -98,24 +98,24 @@ module _ (order : Endian) where
         let p : ℕ → Bool = is_data_place (union layout mark parts) in
         (long ∙ h.0, h.1 ∙ sym (picked-same p 0 w b long (λ k place. let e : 0 + k ≡ k = omega arith in same k (subst (λ j. p j ≡ true) e place))))
     decides (single layout mark index parts) named (variant i vs) b w long h same = (long ∙ h.0, h.1, decides_parts parts named vs b w long h.2 same)
-    decides (tagged layout mark offset tag encoding arms) named (variant i vs) b w long h same =
+    decides (tagged layout mark offset tag encoding tagged_variants) named (variant i vs) b w long h same =
         let n : ℕ = size_of tag in
-        let held : HoldArm order arms i w vs = decides_arm arms named.1 i vs b w long h.3 (λ k place. same k (or_right (is_told encoding i && is_byte_at offset n k) _ place)) in (
+        let held : HoldTaggedVariant order tagged_variants i w vs = decides_tagged_variant tagged_variants named.1 i vs b w long h.3 (λ k place. same k (or_right (is_tagged encoding i && is_byte_at offset n k) _ place)) in (
           long ∙ h.0,
           omega (arith, long, h.1),
-          still_named encoding offset tag arms i vs b w named.0
-              (λ told. one_slice b w offset n long (λ k place. same k (or_left _ (is_arm_covered arms i vs k) (both_true told place)))) held h.2,
+          still_named encoding offset tag tagged_variants i vs b w named.0
+              (λ tag_layout. one_slice b w offset n long (λ k place. same k (or_left _ (is_tagged_variant_covered tagged_variants i vs k) (both_true tag_layout place)))) held h.2,
           held,
         )
-    decides (states layout prefix offset tag arms) named (state i ps vs) b w long h same =
+    decides (states layout prefix offset tag tagged_variants) named (state i ps vs) b w long h same =
         let n : ℕ = size_of tag in
         let number_same : bytes_at b offset n ≡ bytes_at w offset n =
-        one_slice b w offset n long (λ k place. same k (or_right (are_covered prefix ps k) _ (or_left _ (is_arm_covered arms i vs k) place))) in (
+        one_slice b w offset n long (λ k place. same k (or_right (are_covered prefix ps k) _ (or_left _ (is_tagged_variant_covered tagged_variants i vs k) place))) in (
           long ∙ h.0,
-          decides_parts prefix named.0 ps b w long h.1 (λ k place. same k (or_left _ (is_byte_at offset n k || is_arm_covered arms i vs k) place)),
+          decides_parts prefix named.0 ps b w long h.1 (λ k place. same k (or_left _ (is_byte_at offset n k || is_tagged_variant_covered tagged_variants i vs k) place)),
           omega (arith, long, h.2),
-          subst (λ x. NamesDirectly n arms (number_of order x) i) number_same h.3,
-          decides_arm arms named.1 i vs b w long h.4 (λ k place. same k (or_right (are_covered prefix ps k) _ (or_right (is_byte_at offset n k) _ place))),
+          subst (λ x. NamesDirectly n tagged_variants (number_of order x) i) number_same h.3,
+          decides_tagged_variant tagged_variants named.1 i vs b w long h.4 (λ k place. same k (or_right (are_covered prefix ps k) _ (or_right (is_byte_at offset n k) _ place))),
         )
     decides (scalar layout s) named _ b w long h same = absurd h
     decides (pair layout parts) named _ b w long h same = absurd h
@@ -125,8 +125,8 @@ module _ (order : Endian) where
     decides (fields layout mark parts) named _ b w long h same = absurd h
     decides (union layout mark parts) named _ b w long h same = absurd h
     decides (single layout mark index parts) named _ b w long h same = absurd h
-    decides (tagged layout mark offset tag encoding arms) named _ b w long h same = absurd h
-    decides (states layout prefix offset tag arms) named _ b w long h same = absurd h
+    decides (tagged layout mark offset tag encoding tagged_variants) named _ b w long h same = absurd h
+    decides (states layout prefix offset tag tagged_variants) named _ b w long h same = absurd h
 
     -- so it is with parts
     decides_parts : (parts : Parts) → UntaggedNamedOf order parts → (vs : Values) (b w : List ℕ) → length w ≡ length b → HoldParts order parts b vs →
@@ -141,9 +141,9 @@ module _ (order : Endian) where
           decides_parts parts named.1 vs b w long h.1 (λ k place. same k (or_right (is_byte_at offset n k && is_covered placed v (k - offset)) _ place)),
         )
 
-    -- and with the parts of an arm
-    decides_arm : (arms : Arms) → UntaggedNamedOfArms order arms → (i : ℕ) (vs : Values) (b w : List ℕ) → length w ≡ length b → HoldArm order arms i b vs →
-        ((k : ℕ) → is_arm_covered arms i vs k ≡ true → get_or w k 0 ≡ get_or b k 0) → HoldArm order arms i w vs
-    decides_arm no_arms named i vs b w long h same = absurd h
-    decides_arm (arm code layout mark parts arms) named zero vs b w long h same = decides_parts parts named.0 vs b w long h same
-    decides_arm (arm code layout mark parts arms) named (suc i) vs b w long h same = decides_arm arms named.1 i vs b w long h same
+    -- and with the parts of a tagged variant
+    decides_tagged_variant : (tagged_variants : TaggedVariants) → UntaggedNamedOfTaggedVariants order tagged_variants → (i : ℕ) (vs : Values) (b w : List ℕ) → length w ≡ length b → HoldTaggedVariant order tagged_variants i b vs →
+        ((k : ℕ) → is_tagged_variant_covered tagged_variants i vs k ≡ true → get_or w k 0 ≡ get_or b k 0) → HoldTaggedVariant order tagged_variants i w vs
+    decides_tagged_variant no_tagged_variants named i vs b w long h same = absurd h
+    decides_tagged_variant (tagged_variant code layout mark parts tagged_variants) named zero vs b w long h same = decides_parts parts named.0 vs b w long h same
+    decides_tagged_variant (tagged_variant code layout mark parts tagged_variants) named (suc i) vs b w long h same = decides_tagged_variant tagged_variants named.1 i vs b w long h same

@@ -3,7 +3,7 @@ use Rattle.std.proofs.Common.{◌≡◌, ◌≢◌, ℕ, ◌+◌, ◌<◌, ◌�
 use Rattle.std.specs.Prelude.{◌&&◌, MatchOption, nat_le}
 use Rattle.std.proofs.lemmas.Bool.{and_parts, leb-true}
 use Rattle.abi_scalar.specs.Shape.{listed_offsets}
-use Rattle.abi_tree.specs.Room.{arms_have_room, has_room, have_room}
+use Rattle.abi_tree.specs.Room.{tagged_variants_have_room, has_room, have_room}
 use Rattle.std.specs.declared.alloc.Global.{Global}
 use Rattle.abi_base.specs.declared.endian.Endian.{Endian}
 use Rattle.abi_scalar.specs.declared.scalar.Scalar.{Scalar}
@@ -14,15 +14,15 @@ use Rattle.abi_tree.specs.declared.node.Node.{Node}
 use Rattle.abi_tree.specs.declared.value.Value.{Value as Kept, Pair as PairKept, Union as UnionKept}
 use Rattle.abi_tree.specs.Value.{Value, number, two, list, variant, state, Values, value_count, value_of}
 use Rattle.abi_tree.specs.Bytes.{bytes_at, number_of, picked_bytes}
-use Rattle.abi_tree.specs.Placed.{Placed, nothing, scalar, pair, never, elements, vector, fields, union, single, tagged, states, Parts, no_parts, part, Arms, size_of}
+use Rattle.abi_tree.specs.Placed.{Placed, nothing, scalar, pair, never, elements, vector, fields, union, single, tagged, states, Parts, no_parts, part, TaggedVariants, size_of}
 use Rattle.abi_scalar.specs.Layout.{Layout}
 use Rattle.abi_tree.specs.Places.{is_data_place}
 use Rattle.abi_tree.specs.Tag.{Names}
-use Rattle.abi_tree.specs.Nodes.{arms_in, meaning, parts_at, placed_at, state_tag_offset, states_in, types_in}
+use Rattle.abi_tree.specs.Nodes.{tagged_variants_in, meaning, parts_at, placed_at, state_tag_offset, states_in, types_in}
 use Rattle.abi_tree.specs.declared.node.Shape.{Shape}
 use Rattle.abi_tree.specs.declared.node.Shape.TheVariants.{Scalar as OneScalar}
 use Rattle.abi_scalar.specs.Scalar.{IsNumberOf}
-use Rattle.abi_tree.specs.Holding.{HoldArm, HoldEach, HoldParts, Holds, IsAt, tag_at}
+use Rattle.abi_tree.specs.Holding.{HoldTaggedVariant, HoldEach, HoldParts, Holds, IsAt, tag_at}
 use Rattle.abi_tree.specs.Reading.{Finds, FindsEach, FindsNamed, FindsNumber, HoldsTwo, IsList, IsNamedIn}
 use Rattle.abi_tree.specs.Well.{all_at}
 use Rattle.abi_tree.proofs.Found.NamedLemmas.{child_is}
@@ -72,16 +72,16 @@ module _ (order : Endian) (layout : Layout) (b : List ℕ) where
   from_single mark index parts (variant i vs) h = (vs, h.2)
   from_single mark index parts v h = absurd h
 
-  pub from_tagged : (mark : Mark) (offset : ℕ) (tag : Placed) (encoding : TagEncoding ℕ) (arms : Arms) (v : Value) → Holds order (tagged layout mark offset tag encoding arms) b v →
-      (i : ℕ) × (vs : Values) × ((offset + size_of tag ≤ length b) × Names encoding (size_of tag) arms (tag_at order b offset (size_of tag)) i × HoldArm order arms i b vs)
-  from_tagged mark offset tag encoding arms (variant i vs) h = (i, vs, (h.1, h.2, h.3))
-  from_tagged mark offset tag encoding arms v h = absurd h
+  pub from_tagged : (mark : Mark) (offset : ℕ) (tag : Placed) (encoding : TagEncoding ℕ) (tagged_variants : TaggedVariants) (v : Value) → Holds order (tagged layout mark offset tag encoding tagged_variants) b v →
+      (i : ℕ) × (vs : Values) × ((offset + size_of tag ≤ length b) × Names encoding (size_of tag) tagged_variants (tag_at order b offset (size_of tag)) i × HoldTaggedVariant order tagged_variants i b vs)
+  from_tagged mark offset tag encoding tagged_variants (variant i vs) h = (i, vs, (h.1, h.2, h.3))
+  from_tagged mark offset tag encoding tagged_variants v h = absurd h
 
-  pub from_states : (prefix : Parts) (offset : ℕ) (tag : Placed) (arms : Arms) (v : Value) → Holds order (states layout prefix offset tag arms) b v →
+  pub from_states : (prefix : Parts) (offset : ℕ) (tag : Placed) (tagged_variants : TaggedVariants) (v : Value) → Holds order (states layout prefix offset tag tagged_variants) b v →
       (ps : Values) × HoldParts order prefix b ps
-      × (i : ℕ) × (vs : Values) × ((offset + size_of tag ≤ length b) × Names Direct (size_of tag) arms (tag_at order b offset (size_of tag)) i × HoldArm order arms i b vs)
-  from_states prefix offset tag arms (state i ps vs) h = (ps, h.1, i, vs, (h.2, h.3, h.4))
-  from_states prefix offset tag arms v h = absurd h
+      × (i : ℕ) × (vs : Values) × ((offset + size_of tag ≤ length b) × Names Direct (size_of tag) tagged_variants (tag_at order b offset (size_of tag)) i × HoldTaggedVariant order tagged_variants i b vs)
+  from_states prefix offset tag tagged_variants (state i ps vs) h = (ps, h.1, i, vs, (h.2, h.3, h.4))
+  from_states prefix offset tag tagged_variants v h = absurd h
 
   -- a vector holds what its lanes hold, where that is a list
   to_vector : (lanes : Placed) → length b ≡ layout.size → (v : Value) → IsList v → IsAt 0 (size_of lanes) (λ slice. Holds order lanes slice v) b → Holds order (vector layout lanes) b v
@@ -105,8 +105,8 @@ list_alone order (fields layout mark parts) b (list us) vs h k = tt
 list_alone order (fields layout mark parts) b v vs h k = absurd h
 list_alone order (union layout mark parts) b v vs h k = absurd k
 list_alone order (single layout mark index parts) b v vs h k = absurd k
-list_alone order (tagged layout mark offset tag encoding arms) b v vs h k = absurd k
-list_alone order (states layout prefix offset tag arms) b v vs h k = absurd k
+list_alone order (tagged layout mark offset tag encoding tagged_variants) b v vs h k = absurd k
+list_alone order (states layout prefix offset tag tagged_variants) b v vs h k = absurd k
 
 -- where the lanes hold a value and the vector holds one, the lanes' is a list
 list_of : (order : Endian) (layout : Layout) (lanes : Placed) (b : List ℕ) (u v : Value) → IsAt 0 (size_of lanes) (λ slice. Holds order lanes slice u) b →
@@ -200,22 +200,22 @@ part_found order ns os children b i offset found lt is h =
     subst (λ p. Finds (λ v. IsAt (get_or os i 0) (size_of p) (λ s. Holds order p s v) b) found) (sym (child_is ns children i lt))
     (subst (λ o. Finds (λ v. IsAt o (size_of (placed_at ns (get_or children i 0))) (λ s. Holds order (placed_at ns (get_or children i 0)) s v) b) found) is h)
 
-with_place : (order : Endian) (b : List ℕ) (encoding : TagEncoding ℕ) (offset : ℕ) (tag : Placed) (arms : Arms) (found : Option (ℕ × Vec Kept Global)) → offset + size_of tag ≤ length b →
-    FindsNamed (λ i vs. Names encoding (size_of tag) arms (tag_at order b offset (size_of tag)) i × HoldArm order arms i b vs) found → FindsNamed (IsNamedIn order b encoding offset tag arms) found
-with_place order b encoding offset tag arms None inside h = λ i vs at. h i vs (at.1, at.2)
-with_place order b encoding offset tag arms (Some named) inside h = (inside, h.0, h.1)
+with_place : (order : Endian) (b : List ℕ) (encoding : TagEncoding ℕ) (offset : ℕ) (tag : Placed) (tagged_variants : TaggedVariants) (found : Option (ℕ × Vec Kept Global)) → offset + size_of tag ≤ length b →
+    FindsNamed (λ i vs. Names encoding (size_of tag) tagged_variants (tag_at order b offset (size_of tag)) i × HoldTaggedVariant order tagged_variants i b vs) found → FindsNamed (IsNamedIn order b encoding offset tag tagged_variants) found
+with_place order b encoding offset tag tagged_variants None inside h = λ i vs at. h i vs (at.1, at.2)
+with_place order b encoding offset tag tagged_variants (Some named) inside h = (inside, h.0, h.1)
 
 -- so it is found, where the tag's number is found by itself
-pub named_found : (order : Endian) (b slice : List ℕ) (encoding : TagEncoding ℕ) (offset width : ℕ) (tag : Placed) (arms : Arms) (n : ℕ) (found : Option (ℕ × Vec Kept Global)) →
+pub named_found : (order : Endian) (b slice : List ℕ) (encoding : TagEncoding ℕ) (offset width : ℕ) (tag : Placed) (tagged_variants : TaggedVariants) (n : ℕ) (found : Option (ℕ × Vec Kept Global)) →
     width ≡ size_of tag → offset + width ≤ length b → slice ≡ bytes_at b offset width → n ≡ number_of order slice →
-    FindsNamed (λ i vs. Names encoding width arms n i × HoldArm order arms i b vs) found → FindsNamed (IsNamedIn order b encoding offset tag arms) found
-named_found order b slice encoding offset width tag arms n found same le is value h =
+    FindsNamed (λ i vs. Names encoding width tagged_variants n i × HoldTaggedVariant order tagged_variants i b vs) found → FindsNamed (IsNamedIn order b encoding offset tag tagged_variants) found
+named_found order b slice encoding offset width tag tagged_variants n found same le is value h =
     let number : n ≡ tag_at order b offset (size_of tag) = value ∙ ap (number_of order) is ∙ ap (λ w. number_of order (bytes_at b offset w)) same in
     let inside : offset + size_of tag ≤ length b = subst (λ w. offset + w ≤ length b) same le in
-    let there : FindsNamed (λ i vs. Names encoding (size_of tag) arms (tag_at order b offset (size_of tag)) i × HoldArm order arms i b vs) found =
-    subst (λ k. FindsNamed (λ i vs. Names encoding (size_of tag) arms k i × HoldArm order arms i b vs) found) number
-    (subst (λ w. FindsNamed (λ i vs. Names encoding w arms n i × HoldArm order arms i b vs) found) same h) in
-    with_place order b encoding offset tag arms found inside there
+    let there : FindsNamed (λ i vs. Names encoding (size_of tag) tagged_variants (tag_at order b offset (size_of tag)) i × HoldTaggedVariant order tagged_variants i b vs) found =
+    subst (λ k. FindsNamed (λ i vs. Names encoding (size_of tag) tagged_variants k i × HoldTaggedVariant order tagged_variants i b vs) found) number
+    (subst (λ w. FindsNamed (λ i vs. Names encoding w tagged_variants n i × HoldTaggedVariant order tagged_variants i b vs) found) same h) in
+    with_place order b encoding offset tag tagged_variants found inside there
 
 -- where the answer is no list of values, no values are held
 pub finds_none : (P : Values → Type 0) (found : Option (Vec Kept Global)) → ((x : Vec Kept Global) → found ≡ Some x → ⊥) → FindsEach P found → (vs : Values) → P vs → ⊥
@@ -225,12 +225,12 @@ finds_none P (Some x) other h = absurd (other x refl)
 -- ---- the parts of a coroutine end inside it
 
 pub states_rooms : (ns : List Node) (layout : Layout) (prefix : List ℕ) (tag : ℕ) (all : List (ℕ × ℕ)) → has_room (states_in (types_in ns) layout prefix tag all) ≡ true →
-    (have_room layout.size (parts_at (listed_offsets layout.fields) (all_at ns prefix)) ≡ true) × (arms_have_room layout.size (arms_in (types_in ns) all) ≡ true)
+    (have_room layout.size (parts_at (listed_offsets layout.fields) (all_at ns prefix)) ≡ true) × (tagged_variants_have_room layout.size (tagged_variants_in (types_in ns) all) ≡ true)
     × (state_tag_offset layout (length prefix) + size_of (placed_at ns tag) ≤ layout.size) × (has_room (placed_at ns tag) ≡ true)
 states_rooms ns layout prefix tag all room =
     let end = state_tag_offset layout (length prefix) + size_of (placed_at ns tag) in
-    let arms = arms_have_room layout.size (arms_in (types_in ns) all) in
-    let both = and_parts (have_room layout.size (parts_at (listed_offsets layout.fields) (all_at ns prefix))) ((nat_le end layout.size && has_room (placed_at ns tag)) && arms) room in
-    let beside = and_parts (nat_le end layout.size && has_room (placed_at ns tag)) arms both.1 in
+    let tagged_variants = tagged_variants_have_room layout.size (tagged_variants_in (types_in ns) all) in
+    let both = and_parts (have_room layout.size (parts_at (listed_offsets layout.fields) (all_at ns prefix))) ((nat_le end layout.size && has_room (placed_at ns tag)) && tagged_variants) room in
+    let beside = and_parts (nat_le end layout.size && has_room (placed_at ns tag)) tagged_variants both.1 in
     let of_tag = and_parts (nat_le end layout.size) (has_room (placed_at ns tag)) beside.0 in
     (both.0, beside.1, leb-true end layout.size of_tag.0, of_tag.1)

@@ -8,8 +8,8 @@ use Rattle.abi_base.specs.declared.endian.Endian.{Endian}
 use Rattle.abi_tree.specs.declared.value.Value.{Value as Kept, Num as NumKept, List as ListKept, Variant as VariantKept}
 use Rattle.abi_tree.specs.Value.{Value, number, list, variant, Values, no_values, more_values, value_count, value_of, values_of}
 use Rattle.abi_tree.specs.Placed.{Placed, Parts, no_parts, part, nothing, size_of}
-use Rattle.abi_tree.specs.Nodes.{arms_in, own_fields, parts_at, placed_in}
-use Rattle.abi_tree.specs.Holding.{HoldArm, HoldEach, HoldParts, Holds, IsAt}
+use Rattle.abi_tree.specs.Nodes.{tagged_variants_in, own_fields, parts_at, placed_in}
+use Rattle.abi_tree.specs.Holding.{HoldTaggedVariant, HoldEach, HoldParts, Holds, IsAt}
 use Rattle.abi_tree.specs.Reading.{Finds, FindsEach, FindsNamed, FindsNumber}
 use Rattle.abi_tree.proofs.Found.ValueLemmas.{value_of-Num, value_of-List, value_of-Variant, joined, joined-none, joined-push}
 
@@ -156,15 +156,15 @@ module _ (P : List ℕ → Value → Type 0) (n : ℕ) (b : List ℕ) (count : �
   pub elements_all : (i : ℕ) (ks : List Kept) → i ≡ count → IsRead HoldAll (HoldFrom i) ks → HoldAll (values_of ks)
   elements_all i ks end h = read_all HoldAll (HoldFrom i) ks h (omega (arith, end), tt)
 
--- ---- the arm with an index
+-- ---- the tagged variant with an index
 
 module _ (order : Endian) (done : List Placed) (b : List ℕ) where
-  pub to_arm : (vs : List (ℕ × ℕ)) (i : ℕ) (d : ℕ × ℕ) (ws : Values) → i < length vs → HoldParts order (own_fields (placed_in done (get_or vs i d).1)) b ws → HoldArm order (arms_in done vs) i b ws
-  to_arm [] i d ws lt h = absurd (omega arith)
-  to_arm (v ∷ vs) zero d ws lt h = h
-  to_arm (v ∷ vs) (suc i) d ws lt h = to_arm vs i d ws (omega arith) h
+  pub to_tagged_variant : (vs : List (ℕ × ℕ)) (i : ℕ) (d : ℕ × ℕ) (ws : Values) → i < length vs → HoldParts order (own_fields (placed_in done (get_or vs i d).1)) b ws → HoldTaggedVariant order (tagged_variants_in done vs) i b ws
+  to_tagged_variant [] i d ws lt h = absurd (omega arith)
+  to_tagged_variant (v ∷ vs) zero d ws lt h = h
+  to_tagged_variant (v ∷ vs) (suc i) d ws lt h = to_tagged_variant vs i d ws (omega arith) h
 
-  pub from_arm : (vs : List (ℕ × ℕ)) (i : ℕ) (d : ℕ × ℕ) (ws : Values) → HoldArm order (arms_in done vs) i b ws → (i < length vs) × HoldParts order (own_fields (placed_in done (get_or vs i d).1)) b ws
-  from_arm [] i d ws h = absurd h
-  from_arm (v ∷ vs) zero d ws h = (omega arith, h)
-  from_arm (v ∷ vs) (suc i) d ws h = let rest = from_arm vs i d ws h in (omega (arith, rest.0), rest.1)
+  pub from_tagged_variant : (vs : List (ℕ × ℕ)) (i : ℕ) (d : ℕ × ℕ) (ws : Values) → HoldTaggedVariant order (tagged_variants_in done vs) i b ws → (i < length vs) × HoldParts order (own_fields (placed_in done (get_or vs i d).1)) b ws
+  from_tagged_variant [] i d ws h = absurd h
+  from_tagged_variant (v ∷ vs) zero d ws h = (omega arith, h)
+  from_tagged_variant (v ∷ vs) (suc i) d ws h = let rest = from_tagged_variant vs i d ws h in (omega (arith, rest.0), rest.1)

@@ -20,7 +20,7 @@ use Rattle.abi_tree.specs.Placed.{Placed}
 use Rattle.abi_scalar.specs.Layout.{Layout}
 use Rattle.abi_tree.specs.Nodes.{types_in}
 use Rattle.abi_tree.specs.Well.{are_nodes, is_node}
-use Rattle.abi_tree.specs.Typed.{all_told, field_by, marks_in, typed_node, type_in, typed_at, variant_nodes}
+use Rattle.abi_tree.specs.Typed.{all_typed, field_by, marks_in, typed_node, type_in, typed_at, variant_nodes}
 use Rattle.abi_tree.specs.Laws.{has_fields, has_variants, keep_laws, keeps_laws}
 use Rattle.abi_tree.specs.Handles.{HasField, field_place, variant_place}
 use Rattle.abi_tree.proofs.Meaning.NodesLemmas.{children_before, pair_before}
@@ -81,8 +81,8 @@ module _ (ns : List Node) (well : are_nodes 0 ns ≡ true) (laws : keep_laws [] 
   layout-same : layout_in (typed_at ns i) ≡ n.layout
   layout-same = layout-typed_at ns i n lt ∙ ap (λ (m : Node). m.layout) (sym at)
 
-  told-here : typed_at ns i ≡ typed_node (all_told [] ns) n
-  told-here = typed_at-node ns well i n lt at
+  tag_layout-here : typed_at ns i ≡ typed_node (all_typed [] ns) n
+  tag_layout-here = typed_at-node ns well i n lt at
 
   is-here : is_node i n.shape ≡ true
   is-here = subst (λ (m : Node). is_node i m.shape ≡ true) (sym at) (children_before ns i n lt well)
@@ -90,9 +90,9 @@ module _ (ns : List Node) (well : are_nodes 0 ns ≡ true) (laws : keep_laws [] 
   laws-here : keeps_laws (types_in ns) n.layout n.shape ≡ true
   laws-here = subst (λ (m : Node). keeps_laws (types_in ns) m.layout m.shape ≡ true) (sym at) (laws_at ns well laws i n lt)
 
-  -- what a node tells of itself
+  -- what a node says of itself
   pub marks_at : marks_of (typed_at ns i) ≡ marks_in n.shape
-  marks_at = ap marks_of told-here
+  marks_at = ap marks_of tag_layout-here
 
   pub field_at : (k : ℕ) → k < field_count (layout_in (typed_at ns i)).fields → HasFieldAt ns i k n.shape
   field_at k below =
@@ -101,7 +101,7 @@ module _ (ns : List Node) (well : are_nodes 0 ns ≡ true) (laws : keep_laws [] 
       record {
         has = has;
         before = field_before i n.shape is-here k has;
-        same = field_type (all_told [] ns) n.shape k has ∙ ap (λ t. field_in t k) (sym told-here);
+        same = field_type (all_typed [] ns) n.shape k has ∙ ap (λ t. field_in t k) (sym tag_layout-here);
       }
 
   pub variant_at : (v : ℕ) → v < length (variants_of (layout_in (typed_at ns i)).variants) → HasVariantAt ns i v n.shape
@@ -113,10 +113,10 @@ module _ (ns : List Node) (well : are_nodes 0 ns ≡ true) (laws : keep_laws [] 
       record {
         has = has;
         before = place_below i (variant_nodes n.shape) (variants_below i n.shape is-here) v has;
-        same = sym (type_by-place (all_told [] ns) (variant_nodes n.shape) v has) ∙ ap (λ t. variant_in t v) (sym told-here);
+        same = sym (type_by-place (all_typed [] ns) (variant_nodes n.shape) v has) ∙ ap (λ t. variant_in t v) (sym tag_layout-here);
       }
 
--- what no node tells of itself
+-- what no node says of itself
 pub tells_no_more : (ns : List Node) → are_nodes 0 ns ≡ true → keep_laws [] ns ≡ true → (i : ℕ) → i < length ns → TellsNoMore (marks_of (typed_at ns i))
 tells_no_more ns well laws i lt =
     let d : Node = record { layout = no_layout; shape = Never Plain } in
@@ -135,7 +135,7 @@ pub variant_here : (ns : List Node) → are_nodes 0 ns ≡ true → keep_laws []
 variant_here ns well laws ms same i n lt at v below =
     variant_at ns well laws i n lt (at ∙ ap (λ xs. get_or xs i n) same) v below
 
--- one of several variants that a tag tells apart
+-- one of several variants that a tag distinguishes
 pub several_named : (variants : Variants ℕ ℕ) (v : ℕ) (tag : Number) (encoding : TagEncoding ℕ) (field : ℕ) (layouts : List (VariantLayout ℕ)) → variants ≡ Multiple tag encoding field layouts →
     NamesVariant variants v → v < length (variants_of variants)
 several_named (Multiple tag' encoding' field' layouts') v tag encoding field layouts e h = h

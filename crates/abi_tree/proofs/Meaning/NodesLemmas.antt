@@ -11,9 +11,9 @@ use Rattle.abi_scalar.specs.Shape.{listed_offsets}
 use Rattle.abi_tree.specs.declared.node.Shape.{Shape}
 use Rattle.abi_tree.specs.declared.node.Shape.TheVariants.{Scalar, Pair, Never, Elements, Fields, Union, Vector, Single, Tagged, States}
 use Rattle.abi_tree.specs.declared.node.Node.{Node}
-use Rattle.abi_tree.specs.Placed.{Placed, layout_of, pair, elements, vector, fields, union, single, tagged, states, Arms, nothing}
+use Rattle.abi_tree.specs.Placed.{Placed, layout_of, pair, elements, vector, fields, union, single, tagged, states, TaggedVariants, nothing}
 use Rattle.abi_scalar.specs.Layout.{Layout}
-use Rattle.abi_tree.specs.Nodes.{placed_in, parts_at, parts_at_0, arms_in, encoding_of, variant_left, own_arm, tag_offset, state_tag_offset, states_in, meaning, meanings, types_in, placed_at, Keeps}
+use Rattle.abi_tree.specs.Nodes.{placed_in, parts_at, parts_at_0, tagged_variants_in, encoding_of, variant_left, own_tagged_variant, tag_offset, state_tag_offset, states_in, meaning, meanings, types_in, placed_at, Keeps}
 use Rattle.abi_tree.specs.Laws.{keeps_laws, keep_laws}
 use Rattle.abi_tree.specs.Widths.{has_width, have_widths}
 use Rattle.abi_tree.specs.Well.{is_node, are_nodes, IsPut}
@@ -147,13 +147,13 @@ children-same xs ys n same (c ∷ cs) below =
     let rest : map (placed_in xs) cs ≡ map (placed_in ys) cs = children-same xs ys n same cs both.1 in
     cc
 
-arms-same : (xs ys : List Placed) (n : ℕ) → ((i : ℕ) → i < n → placed_in xs i ≡ placed_in ys i) → (vs : List (ℕ × ℕ)) → list_all (λ v. nat_lt v.1 n) vs ≡ true → arms_in xs vs ≡ arms_in ys vs
-arms-same xs ys n same [] below = refl
-arms-same xs ys n same (v ∷ vs) below =
+tagged_variants-same : (xs ys : List Placed) (n : ℕ) → ((i : ℕ) → i < n → placed_in xs i ≡ placed_in ys i) → (vs : List (ℕ × ℕ)) → list_all (λ v. nat_lt v.1 n) vs ≡ true → tagged_variants_in xs vs ≡ tagged_variants_in ys vs
+tagged_variants-same xs ys n same [] below = refl
+tagged_variants-same xs ys n same (v ∷ vs) below =
     let both = and_parts (nat_lt v.1 n) (list_all (λ v. nat_lt v.1 n) vs) below in
     let here : placed_in xs v.1 ≡ placed_in ys v.1 = same v.1 (ltb-true v.1 n both.0) in
-    let rest : arms_in xs vs ≡ arms_in ys vs = arms-same xs ys n same vs both.1 in
-    ap (λ p. own_arm v.0 p (arms_in xs vs)) here ∙ ap (own_arm v.0 (placed_in ys v.1)) rest
+    let rest : tagged_variants_in xs vs ≡ tagged_variants_in ys vs = tagged_variants-same xs ys n same vs both.1 in
+    ap (λ p. own_tagged_variant v.0 p (tagged_variants_in xs vs)) here ∙ ap (own_tagged_variant v.0 (placed_in ys v.1)) rest
 
 -- both children of a pair's node come before it
 pub pair_before : (n first second : ℕ) → (nat_lt first n && nat_lt second n) ≡ true → list_all (λ child. nat_lt child n) (first ∷ second ∷ []) ≡ true
@@ -165,10 +165,10 @@ states-same xs ys n same layout prefix tag all is =
     let both = and_parts (list_all (λ child. nat_lt child n) prefix) (nat_lt tag n && list_all (λ v. nat_lt v.1 n) all) is in
     let beside = and_parts (nat_lt tag n) (list_all (λ v. nat_lt v.1 n) all) both.1 in
     let offset : ℕ = state_tag_offset layout (length prefix) in
-    let first : List Placed → Placed → Arms → Placed = λ ps t arms. states layout (parts_at (listed_offsets layout.fields) ps) offset t arms in
-    ap (λ ps. first ps (placed_in xs tag) (arms_in xs all)) (children-same xs ys n same prefix both.0)
-    ∙ ap (λ t. first (map (placed_in ys) prefix) t (arms_in xs all)) (same tag (ltb-true tag n beside.0))
-    ∙ ap (first (map (placed_in ys) prefix) (placed_in ys tag)) (arms-same xs ys n same all beside.1)
+    let first : List Placed → Placed → TaggedVariants → Placed = λ ps t tagged_variants. states layout (parts_at (listed_offsets layout.fields) ps) offset t tagged_variants in
+    ap (λ ps. first ps (placed_in xs tag) (tagged_variants_in xs all)) (children-same xs ys n same prefix both.0)
+    ∙ ap (λ t. first (map (placed_in ys) prefix) t (tagged_variants_in xs all)) (same tag (ltb-true tag n beside.0))
+    ∙ ap (first (map (placed_in ys) prefix) (placed_in ys tag)) (tagged_variants-same xs ys n same all beside.1)
 
 -- a node's meaning from those before it is its meaning from all
 meaning-same : (xs ys : List Placed) (n : ℕ) → ((i : ℕ) → i < n → placed_in xs i ≡ placed_in ys i) → (layout : Layout) (shape : Shape) → is_node n shape ≡ true →
@@ -186,8 +186,8 @@ meaning-same xs ys n same layout (Single mark children) is =
     ap (λ ps. single layout mark (variant_left layout.variants) (parts_at (listed_offsets layout.fields) ps)) (children-same xs ys n same children.items is)
 meaning-same xs ys n same layout (Tagged mark tag variants) is =
     let both = and_parts (nat_lt tag n) (list_all (λ v. nat_lt v.1 n) variants.items) is in
-    ap (λ p. tagged layout mark (tag_offset layout) p (encoding_of layout.variants) (arms_in xs variants.items)) (same tag (ltb-true tag n both.0))
-    ∙ ap (tagged layout mark (tag_offset layout) (placed_in ys tag) (encoding_of layout.variants)) (arms-same xs ys n same variants.items both.1)
+    ap (λ p. tagged layout mark (tag_offset layout) p (encoding_of layout.variants) (tagged_variants_in xs variants.items)) (same tag (ltb-true tag n both.0))
+    ∙ ap (tagged layout mark (tag_offset layout) (placed_in ys tag) (encoding_of layout.variants)) (tagged_variants-same xs ys n same variants.items both.1)
 meaning-same xs ys n same layout (States prefix tag all) is = states-same xs ys n same layout prefix.items tag all.items is
 
 placed_in-meanings : (done : List Placed) (ns : List Node) (i j : ℕ) (d : Node) → j ≡ length done + i → i < length ns → is_node j (get_or ns i d).shape ≡ true →

@@ -17,11 +17,11 @@ use Rattle.abi_tree.specs.declared.node.Shape.TheVariants.{Scalar, Pair, Never, 
 use Rattle.abi_tree.specs.declared.node.Node.{Node}
 use Rattle.abi_tree.specs.Placed.{Placed, layout_of, scalar, pair, never, elements, vector, fields, union, single, tagged, states}
 use Rattle.abi_scalar.specs.Layout.{Layout}
-use Rattle.abi_tree.specs.Nodes.{arms_in, meaning, own_fields, own_mark, parts_at, parts_at_0, placed_at, placed_in, state_tag_offset, types_in}
+use Rattle.abi_tree.specs.Nodes.{tagged_variants_in, meaning, own_fields, own_mark, parts_at, parts_at_0, placed_at, placed_in, state_tag_offset, types_in}
 use Rattle.abi_tree.specs.Well.{are_nodes, is_node}
-use Rattle.abi_tree.specs.Typed.{all_told, typed_node, type_by, type_in, typed_at}
+use Rattle.abi_tree.specs.Typed.{all_typed, typed_node, type_by, type_in, typed_at}
 use Rattle.abi_tree.specs.Laws.{has_fields, has_list, has_variants, have_lists, have_places, is_listed, keep_laws, sizes_at}
-use Rattle.abi_tree.specs.Seen.{HasOffset, IsListOf, Sees, SeesArms, SeesParts, SeesTypes, SeesWhole, last_field, part_count}
+use Rattle.abi_tree.specs.Seen.{HasOffset, IsListOf, Sees, SeesTaggedVariants, SeesParts, SeesTypes, SeesWhole, last_field, part_count}
 use Rattle.abi_tree.proofs.Meaning.NodesLemmas.{children_before, pair_before, placed_at-node}
 use Rattle.abi_tree.proofs.Meaning.TypedLemmas.{field_count-nodes, fields_below, laws_at, place_below, type_by-place, typed_at-node, variant_count-nodes, variants_below, variants_listed}
 
@@ -35,10 +35,10 @@ own_seen t (vector layout lanes) h = tt
 own_seen t (fields layout mark parts) h = h.1
 own_seen t (union layout mark parts) h = tt
 own_seen t (single layout mark index parts) h = tt
-own_seen t (tagged layout mark offset tag encoding arms) h = tt
-own_seen t (states layout prefix offset tag arms) h = tt
+own_seen t (tagged layout mark offset tag encoding tagged_variants) h = tt
+own_seen t (states layout prefix offset tag tagged_variants) h = tt
 
--- and so are its layout and what it tells of itself, where it lists its fields one by one
+-- and so are its layout and what it says of itself, where it lists its fields one by one
 own_whole : (t : Typed) (p : Placed) → has_list p ≡ true → Sees t p → SeesWhole t (layout_of p) (marks_by (own_mark p))
 own_whole t (scalar layout s) is h = absurd (false≢true is)
 own_whole t (pair layout parts) is h = absurd (false≢true is)
@@ -48,8 +48,8 @@ own_whole t (vector layout lanes) is h = absurd (false≢true is)
 own_whole t (fields layout mark parts) is h = h.0
 own_whole t (union layout mark parts) is h = absurd (false≢true is)
 own_whole t (single layout mark index parts) is h = absurd (false≢true is)
-own_whole t (tagged layout mark offset tag encoding arms) is h = absurd (false≢true is)
-own_whole t (states layout prefix offset tag arms) is h = absurd (false≢true is)
+own_whole t (tagged layout mark offset tag encoding tagged_variants) is h = absurd (false≢true is)
+own_whole t (states layout prefix offset tag tagged_variants) is h = absurd (false≢true is)
 
 -- ---- what lists its fields one by one lists all of its own
 
@@ -134,11 +134,11 @@ module _ (ps : List Placed) (t : Typed) where
         types_seen cs (suc k) (λ j lt. subst (λ n. Sees (field_in t n) (placed_in ps (get_or cs j 0))) (up j) (each (suc j) (omega arith))),
       )
 
-  arms_seen : (vs : List (ℕ × ℕ)) (k : ℕ) → ((j : ℕ) → j < length vs → Sees (variant_in t (k + j)) (placed_in ps (get_or (map (λ v. v.1) vs) j 0))) →
+  tagged_variants_seen : (vs : List (ℕ × ℕ)) (k : ℕ) → ((j : ℕ) → j < length vs → Sees (variant_in t (k + j)) (placed_in ps (get_or (map (λ v. v.1) vs) j 0))) →
       ((j : ℕ) → j < length vs → has_list (placed_in ps (get_or (map (λ v. v.1) vs) j 0)) ≡ true) →
-      ((j : ℕ) → j < length vs → IsListOf (own_fields (placed_in ps (get_or (map (λ v. v.1) vs) j 0))) (variant_in t (k + j))) → SeesArms t k (arms_in ps vs)
-  arms_seen [] k each is list = tt
-  arms_seen (v ∷ vs) k each is list =
+      ((j : ℕ) → j < length vs → IsListOf (own_fields (placed_in ps (get_or (map (λ v. v.1) vs) j 0))) (variant_in t (k + j))) → SeesTaggedVariants t k (tagged_variants_in ps vs)
+  tagged_variants_seen [] k each is list = tt
+  tagged_variants_seen (v ∷ vs) k each is list =
       let here : k + 0 ≡ k = omega arith in
       let up : (j : ℕ) → k + suc j ≡ suc k + j = λ j. omega arith in
       let seen : Sees (variant_in t k) (placed_in ps v.1) =
@@ -146,14 +146,14 @@ module _ (ps : List Placed) (t : Typed) where
         own_whole (variant_in t k) (placed_in ps v.1) (is 0 (omega arith)) seen,
         subst (λ n. IsListOf (own_fields (placed_in ps v.1)) (variant_in t n)) here (list 0 (omega arith)),
         own_seen (variant_in t k) (placed_in ps v.1) seen,
-        arms_seen vs (suc k) (λ j lt. subst (λ n. Sees (variant_in t n) (placed_in ps (get_or (map (λ v. v.1) vs) j 0))) (up j) (each (suc j) (omega arith)))
+        tagged_variants_seen vs (suc k) (λ j lt. subst (λ n. Sees (variant_in t n) (placed_in ps (get_or (map (λ v. v.1) vs) j 0))) (up j) (each (suc j) (omega arith)))
             (λ j lt. is (suc j) (omega arith))
             (λ j lt. subst (λ n. IsListOf (own_fields (placed_in ps (get_or (map (λ v. v.1) vs) j 0))) (variant_in t n)) (up j) (list (suc j) (omega arith))),
       )
 
 module _ (ns : List Node) (i : ℕ) (below : (c : ℕ) → c < i → Sees (typed_at ns c) (placed_at ns c)) (list : (c : ℕ) → c < i → has_list (placed_at ns c) ≡ true → IsListOf (own_fields (placed_at ns c)) (typed_at ns c)) where
   abbrev ts : List Typed
-  ts = all_told [] ns
+  ts = all_typed [] ns
 
   abbrev ps : List Placed
   ps = types_in ns
@@ -172,11 +172,11 @@ module _ (ns : List Node) (i : ℕ) (below : (c : ℕ) → c < i → Sees (typed
       (subst (λ u. Sees u (placed_in ps (get_or cs j 0))) (sym (same j lt)) (each_seen cs before j lt)))
 
   variants_seen : (t : Typed) (vs : List (ℕ × ℕ)) → list_all (λ child. nat_lt child i) (map (λ v. v.1) vs) ≡ true → have_lists ps (map (λ v. v.1) vs) ≡ true → ((j : ℕ) → variant_in t j ≡ type_by ts (map (λ v. v.1) vs) j) →
-      SeesArms t 0 (arms_in ps vs)
+      SeesTaggedVariants t 0 (tagged_variants_in ps vs)
   variants_seen t vs before lists same =
       let cs : List ℕ = map (λ (v : ℕ × ℕ). v.1) vs in
       let long : length cs ≡ length vs = length-map vs (λ (v : ℕ × ℕ). v.1) in
-      arms_seen ps t vs 0
+      tagged_variants_seen ps t vs 0
       (λ j lt. subst (λ n. Sees (variant_in t n) (placed_in ps (get_or cs j 0))) (first_index j)
       (subst (λ u. Sees u (placed_in ps (get_or cs j 0))) (sym (same j)) (each_seen cs before j (omega (arith, lt, long)))))
       (λ j lt. lists_each ps cs lists j (omega (arith, lt, long)))
@@ -236,7 +236,7 @@ module _ (ns : List Node) (well : are_nodes 0 ns ≡ true) (laws : keep_laws [] 
       let at : here ≡ get_or ns i here = get_or_default ns i d here lt in
       let both = and_parts (has_fields (types_in ns) here.layout here.shape) (has_variants (types_in ns) here.layout here.shape) (laws_at ns well laws i d lt) in
       let meant = (placed_at-node ns well i here here.shape lt at refl).1 in
-      let own = node_list (all_told [] ns) (types_in ns) here.layout here.shape both.0 both.1 (ap has_list (sym meant) ∙ is) in
+      let own = node_list (all_typed [] ns) (types_in ns) here.layout here.shape both.0 both.1 (ap has_list (sym meant) ∙ is) in
       subst (λ p. IsListOf (own_fields p) (typed_at ns i)) (sym meant)
       (subst (IsListOf (own_fields (meaning (types_in ns) here.layout here.shape))) (sym (typed_at-node ns well i here lt at)) own)
 
@@ -248,7 +248,7 @@ module _ (ns : List Node) (well : are_nodes 0 ns ≡ true) (laws : keep_laws [] 
       let at : here ≡ get_or ns i here = get_or_default ns i d here lt in
       let is : is_node i here.shape ≡ true = children_before ns i d lt well in
       let both = and_parts (has_fields (types_in ns) here.layout here.shape) (has_variants (types_in ns) here.layout here.shape) (laws_at ns well laws i d lt) in
-      let seen : Sees (typed_node (all_told [] ns) here) (meaning (types_in ns) here.layout here.shape) =
+      let seen : Sees (typed_node (all_typed [] ns) here) (meaning (types_in ns) here.layout here.shape) =
       node_seen ns i (λ c less. seen_before n c (omega arith) (omega arith)) (λ c less. list_at c (omega arith)) here.layout here.shape is both.0 both.1 in
       let meant = (placed_at-node ns well i here here.shape lt at refl).1 in
       subst (λ p. Sees (typed_at ns i) p) (sym meant)

@@ -13,7 +13,7 @@ use Rattle.abi_scalar.specs.declared.fields_shape.FieldsShape.TheVariants.{Primi
 use Rattle.abi_scalar.specs.Shape.{field_count, field_offset}
 use Rattle.abi_scalar.specs.Variant.{variants_of}
 use Rattle.abi_types.specs.Ty.Typed.{Marks, Typed, typed, no_layout, no_type, layout_in}
-use Rattle.abi_types.specs.Ty.Lawful.{CanBeNamed, IsLawfulType}
+use Rattle.abi_types.specs.Ty.Lawful.{CanBeNamed, IsWellFormedType}
 use Rattle.abi_tree.specs.declared.mark.Mark.{Mark}
 use Rattle.abi_tree.specs.declared.mark.Mark.TheVariants as mark_is
 use Rattle.abi_tree.specs.declared.node.Shape.{Shape}
@@ -24,30 +24,30 @@ use Rattle.abi_tree.specs.Placed.{Placed, layout_of, size_of, nothing}
 use Rattle.abi_scalar.specs.Layout.{Layout}
 use Rattle.abi_tree.specs.Nodes.{meaning, meanings, placed_at, placed_in, types_in}
 use Rattle.abi_tree.specs.Well.{are_nodes, is_node}
-use Rattle.abi_tree.specs.Typed.{all_told, field_by, field_nodes, marks_in, typed_node, type_by, type_in, typed_at, variant_nodes}
+use Rattle.abi_tree.specs.Typed.{all_typed, field_by, field_nodes, marks_in, typed_node, type_by, type_in, typed_at, variant_nodes}
 use Rattle.abi_tree.specs.Laws.{end_inside, has_elements, has_fields, has_list, has_variants, have_lists, have_places, keep_laws, keeps_laws, sizes_at}
 use Rattle.abi_tree.proofs.Meaning.NodesLemmas.{children_before, layout_of-placed_at, pair_before}
 
-all_told-first : (done : List Typed) (ns : List Node) (i : ℕ) → i < length done → type_in (all_told done ns) i ≡ type_in done i
-all_told-first done [] i lt = refl
-all_told-first done (m ∷ ns) i lt =
+all_typed-first : (done : List Typed) (ns : List Node) (i : ℕ) → i < length done → type_in (all_typed done ns) i ≡ type_in done i
+all_typed-first done [] i lt = refl
+all_typed-first done (m ∷ ns) i lt =
     let x = typed_node done m in
-    all_told-first (done ++ x ∷ []) ns i (omega (arith, length-append done (x ∷ []))) ∙ get_or_append_left done (x ∷ []) no_type i lt
+    all_typed-first (done ++ x ∷ []) ns i (omega (arith, length-append done (x ∷ []))) ∙ get_or_append_left done (x ∷ []) no_type i lt
 
-layout-told : (done : List Typed) (ns : List Node) (i j : ℕ) (d : Node) → j ≡ length done + i → i < length ns →
-    layout_in (type_in (all_told done ns) j) ≡ (get_or ns i d).layout
-layout-told done [] i j d e lt = absurd (omega arith)
-layout-told done (m ∷ ns) zero j d e lt =
+layout-tag_layout : (done : List Typed) (ns : List Node) (i j : ℕ) (d : Node) → j ≡ length done + i → i < length ns →
+    layout_in (type_in (all_typed done ns) j) ≡ (get_or ns i d).layout
+layout-tag_layout done [] i j d e lt = absurd (omega arith)
+layout-tag_layout done (m ∷ ns) zero j d e lt =
     let x = typed_node done m in
     let at : length done ≡ j = omega arith in
-    ap layout_in (all_told-first (done ++ x ∷ []) ns j (omega (arith, length-append done (x ∷ []))) ∙ get_or_push done x no_type j at)
-layout-told done (m ∷ ns) (suc i) j d e lt =
+    ap layout_in (all_typed-first (done ++ x ∷ []) ns j (omega (arith, length-append done (x ∷ []))) ∙ get_or_push done x no_type j at)
+layout-tag_layout done (m ∷ ns) (suc i) j d e lt =
     let x = typed_node done m in
-    layout-told (done ++ x ∷ []) ns i j d (omega (arith, length-append done (x ∷ []))) (omega arith)
+    layout-tag_layout (done ++ x ∷ []) ns i j d (omega (arith, length-append done (x ∷ []))) (omega arith)
 
 -- a node's layout is that of what it is
 pub layout-typed_at : (ns : List Node) (i : ℕ) (d : Node) → i < length ns → layout_in (typed_at ns i) ≡ (get_or ns i d).layout
-layout-typed_at ns i d lt = layout-told [] ns i i d (omega arith) lt
+layout-typed_at ns i d lt = layout-tag_layout [] ns i i d (omega arith) lt
 
 -- it is that of what it means
 pub layout-placed : (ns : List Node) (i : ℕ) → i < length ns → layout_in (typed_at ns i) ≡ layout_of (placed_at ns i)
@@ -118,30 +118,30 @@ fields-same xs ys n same (Single mark children) is = types_by-same xs ys n same 
 fields-same xs ys n same (Tagged mark tag variants) is = types_by-same xs ys n same (tag ∷ []) (fields_below n (Tagged mark tag variants) is)
 fields-same xs ys n same (States prefix tag all) is = types_by-same xs ys n same (prefix.items ++ tag ∷ []) (fields_below n (States prefix tag all) is)
 
-told-same : (xs ys : List Typed) (n : ℕ) → ((i : ℕ) → i < n → type_in xs i ≡ type_in ys i) → (m : Node) → is_node n m.shape ≡ true → typed_node xs m ≡ typed_node ys m
-told-same xs ys n same m is =
+tag_layout-same : (xs ys : List Typed) (n : ℕ) → ((i : ℕ) → i < n → type_in xs i ≡ type_in ys i) → (m : Node) → is_node n m.shape ≡ true → typed_node xs m ≡ typed_node ys m
+tag_layout-same xs ys n same m is =
     ap (λ fields. typed m.layout (marks_in m.shape) fields (type_by xs (variant_nodes m.shape))) (fields-same xs ys n same m.shape is)
     ∙ ap (typed m.layout (marks_in m.shape) (field_by ys m.shape)) (types_by-same xs ys n same (variant_nodes m.shape) (variants_below n m.shape is))
 
-type-told : (done : List Typed) (ns : List Node) (i j : ℕ) (d : Node) → j ≡ length done + i → i < length ns → is_node j (get_or ns i d).shape ≡ true →
-    type_in (all_told done ns) j ≡ typed_node (all_told done ns) (get_or ns i d)
-type-told done [] i j d e lt is = absurd (omega arith)
-type-told done (m ∷ ns) zero j d e lt is =
+type-tag_layout : (done : List Typed) (ns : List Node) (i j : ℕ) (d : Node) → j ≡ length done + i → i < length ns → is_node j (get_or ns i d).shape ≡ true →
+    type_in (all_typed done ns) j ≡ typed_node (all_typed done ns) (get_or ns i d)
+type-tag_layout done [] i j d e lt is = absurd (omega arith)
+type-tag_layout done (m ∷ ns) zero j d e lt is =
     let x = typed_node done m in
     let at : length done ≡ j = omega arith in
     let more = done ++ x ∷ [] in
     let long = length-append done (x ∷ []) in
-    let same : (k : ℕ) → k < j → type_in done k ≡ type_in (all_told more ns) k = λ k less.
-    sym (all_told-first more ns k (omega arith) ∙ get_or_append_left done (x ∷ []) no_type k (omega arith)) in
-    all_told-first more ns j (omega arith) ∙ get_or_push done x no_type j at ∙ told-same done (all_told more ns) j same m is
-type-told done (m ∷ ns) (suc i) j d e lt is =
+    let same : (k : ℕ) → k < j → type_in done k ≡ type_in (all_typed more ns) k = λ k less.
+    sym (all_typed-first more ns k (omega arith) ∙ get_or_append_left done (x ∷ []) no_type k (omega arith)) in
+    all_typed-first more ns j (omega arith) ∙ get_or_push done x no_type j at ∙ tag_layout-same done (all_typed more ns) j same m is
+type-tag_layout done (m ∷ ns) (suc i) j d e lt is =
     let x = typed_node done m in
-    type-told (done ++ x ∷ []) ns i j d (omega (arith, length-append done (x ∷ []))) (omega arith) is
+    type-tag_layout (done ++ x ∷ []) ns i j d (omega (arith, length-append done (x ∷ []))) (omega arith) is
 
 -- what a node is, by what its fields and its variants are
-pub typed_at-node : (ns : List Node) → are_nodes 0 ns ≡ true → (i : ℕ) (n : Node) → i < length ns → n ≡ get_or ns i n → typed_at ns i ≡ typed_node (all_told [] ns) n
+pub typed_at-node : (ns : List Node) → are_nodes 0 ns ≡ true → (i : ℕ) (n : Node) → i < length ns → n ≡ get_or ns i n → typed_at ns i ≡ typed_node (all_typed [] ns) n
 typed_at-node ns well i n lt at =
-    type-told [] ns i i n (omega arith) lt (children_before ns i n lt well) ∙ ap (typed_node (all_told [] ns)) (sym at)
+    type-tag_layout [] ns i i n (omega arith) lt (children_before ns i n lt well) ∙ ap (typed_node (all_typed [] ns)) (sym at)
 
 meanings-kept : (done : List Placed) (ns : List Node) (i : ℕ) → i < length done → placed_in done i ≡ placed_in (meanings done ns) i
 meanings-kept done [] i lt = refl
@@ -279,15 +279,15 @@ pub field_count-nodes : (ps : List Placed) (layout : Layout) (cs : List ℕ) →
 field_count-nodes ps layout cs is = (placed layout.size layout.fields (sizes_at ps cs) is).count ∙ length-map cs (λ i. size_of (placed_in ps i))
 
 -- The fields of a layout are lawful types, and lie where they may.
-record HasLawfulFields (layout : Layout) (field : ℕ → Typed) : Type 0 where
+record HasWellFormedFields (layout : Layout) (field : ℕ → Typed) : Type 0 where
   pub inside : (k : ℕ) → k < field_count layout.fields → field_offset layout.fields k + (layout_in (field k)).size ≤ layout.size
   pub named : CanBeNamed layout.fields field
-  pub kept : (k : ℕ) → k < field_count layout.fields → IsLawfulType (field k)
+  pub kept : (k : ℕ) → k < field_count layout.fields → IsWellFormedType (field k)
 
 -- The variants of a layout are lawful types, and end inside.
-record HasLawfulVariants (layout : Layout) (variant : ℕ → Typed) : Type 0 where
+record HasWellFormedVariants (layout : Layout) (variant : ℕ → Typed) : Type 0 where
   pub within : (k : ℕ) → k < length (variants_of layout.variants) → (layout_in (variant k)).size ≤ layout.size
-  pub kept : (k : ℕ) → k < length (variants_of layout.variants) → IsLawfulType (variant k)
+  pub kept : (k : ℕ) → k < length (variants_of layout.variants) → IsWellFormedType (variant k)
 
 -- as many variants as the layout has stand in the list of nodes
 pub variant_count-nodes : (ps : List Placed) (layout : Layout) (shape : Shape) → has_variants ps layout shape ≡ true → length (variants_of layout.variants) ≡ length (variant_nodes shape)
@@ -309,8 +309,8 @@ each_within whole (m ∷ sizes) is zero lt = leb-true m whole (and_parts (nat_le
 each_within whole (m ∷ sizes) is (suc k) lt = each_within whole sizes (and_parts (nat_le m whole) (list_all (λ m. nat_le m whole) sizes) is).1 k (omega arith)
 
 -- a type of elements, which reach no further than to the next
-elements_lawful : (layout : Layout) (fields : FieldsShape ℕ) → layout.fields ≡ fields → (t : Typed) → has_elements layout.size fields (layout_in t).size ≡ true → IsLawfulType t →
-    HasLawfulFields layout (λ k. t)
+elements_lawful : (layout : Layout) (fields : FieldsShape ℕ) → layout.fields ≡ fields → (t : Typed) → has_elements layout.size fields (layout_in t).size ≡ true → IsWellFormedType t →
+    HasWellFormedFields layout (λ k. t)
 elements_lawful layout Primitive at t is law = absurd (false≢true is)
 elements_lawful layout (AtStart count) at t is law = absurd (false≢true is)
 elements_lawful layout (Arbitrary offsets order) at t is law = absurd (false≢true is)
@@ -327,7 +327,7 @@ elements_lawful layout (Array stride count) at t is law =
       kept = λ k lt. law;
     }
 
--- What no node tells of itself.
+-- What no node says of itself.
 pub record TellsNoMore (marks : Marks) : Type 0 where
   pub complex : marks.is_complex ≡ false
   pub scalable : marks.is_scalable_vector ≡ false
@@ -351,9 +351,9 @@ shape_tells (Single mark children) = mark_tells mark
 shape_tells (Tagged mark tag variants) = mark_tells mark
 shape_tells (States prefix tag all) = mark_tells mark_is.Plain
 
-module _ (ns : List Node) (i : ℕ) (past : i ≤ length ns) (below : (c : ℕ) → c < i → IsLawfulType (typed_at ns c)) where
+module _ (ns : List Node) (i : ℕ) (past : i ≤ length ns) (below : (c : ℕ) → c < i → IsWellFormedType (typed_at ns c)) where
   abbrev ts : List Typed
-  ts = all_told [] ns
+  ts = all_typed [] ns
 
   abbrev ps : List Placed
   ps = types_in ns
@@ -362,15 +362,15 @@ module _ (ns : List Node) (i : ℕ) (past : i ≤ length ns) (below : (c : ℕ) 
   size-same c lt = ap (λ layout. layout.size) (layout-placed ns c (omega arith))
 
   module _ (cs : List ℕ) (before : list_all (λ child. nat_lt child i) cs ≡ true) where
-    by-lawful : (k : ℕ) → k < length cs → IsLawfulType (type_by ts cs k)
-    by-lawful k lt = subst IsLawfulType (sym (type_by-place ts cs k lt)) (below (get_or cs k 0) (place_below i cs before k lt))
+    by-lawful : (k : ℕ) → k < length cs → IsWellFormedType (type_by ts cs k)
+    by-lawful k lt = subst IsWellFormedType (sym (type_by-place ts cs k lt)) (below (get_or cs k 0) (place_below i cs before k lt))
 
     by-size : (k : ℕ) → k < length cs → get_or (sizes_at ps cs) k 0 ≡ (layout_in (type_by ts cs k)).size
     by-size k lt =
         get_or-map (λ c. size_of (placed_in ps c)) cs k 0 0 lt ∙ sym (size-same (get_or cs k 0) (place_below i cs before k lt))
         ∙ ap (λ t. (layout_in t).size) (sym (type_by-place ts cs k lt))
 
-    listed_lawful : (layout : Layout) → have_places layout.size layout.fields (sizes_at ps cs) ≡ true → HasLawfulFields layout (type_by ts cs)
+    listed_lawful : (layout : Layout) → have_places layout.size layout.fields (sizes_at ps cs) ≡ true → HasWellFormedFields layout (type_by ts cs)
     listed_lawful layout is =
         let all = placed layout.size layout.fields (sizes_at ps cs) is in
         let long : length (sizes_at ps cs) ≡ length cs = length-map cs (λ c. size_of (placed_in ps c)) in
@@ -380,7 +380,7 @@ module _ (ns : List Node) (i : ℕ) (past : i ≤ length ns) (below : (c : ℕ) 
           kept = λ k lt. by-lawful k (omega (arith, lt, all.count, long));
         }
 
-  fields_lawful : (layout : Layout) (shape : Shape) → is_node i shape ≡ true → has_fields ps layout shape ≡ true → HasLawfulFields layout (field_by ts shape)
+  fields_lawful : (layout : Layout) (shape : Shape) → is_node i shape ≡ true → has_fields ps layout shape ≡ true → HasWellFormedFields layout (field_by ts shape)
   fields_lawful layout (Scalar s) is h = listed_lawful [] refl layout h
   fields_lawful layout (Pair first second) is h = listed_lawful (first ∷ second ∷ []) (pair_before i first second is) layout h
   fields_lawful layout (Never mark) is h = listed_lawful [] refl layout h
@@ -394,7 +394,7 @@ module _ (ns : List Node) (i : ℕ) (past : i ≤ length ns) (below : (c : ℕ) 
   fields_lawful layout (Tagged mark tag variants) is h = listed_lawful (tag ∷ []) (fields_below i (Tagged mark tag variants) is) layout h
   fields_lawful layout (States prefix tag all) is h = listed_lawful (prefix.items ++ tag ∷ []) (fields_below i (States prefix tag all) is) layout h
 
-  variants_lawful : (layout : Layout) (shape : Shape) → is_node i shape ≡ true → has_variants ps layout shape ≡ true → HasLawfulVariants layout (type_by ts (variant_nodes shape))
+  variants_lawful : (layout : Layout) (shape : Shape) → is_node i shape ≡ true → has_variants ps layout shape ≡ true → HasWellFormedVariants layout (type_by ts (variant_nodes shape))
   variants_lawful layout shape is h =
       let cs : List ℕ = variant_nodes shape in
       let before = variants_below i shape is in
@@ -406,7 +406,7 @@ module _ (ns : List Node) (i : ℕ) (past : i ≤ length ns) (below : (c : ℕ) 
         kept = λ k lt. by-lawful cs before k (omega (arith, lt, count));
       }
 
-  told_lawful : (n : Node) → is_node i n.shape ≡ true → keeps_laws ps n.layout n.shape ≡ true → IsLawfulType (typed_node ts n)
+  told_lawful : (n : Node) → is_node i n.shape ≡ true → keeps_laws ps n.layout n.shape ≡ true → IsWellFormedType (typed_node ts n)
   told_lawful n is h =
       let both = and_parts (has_fields ps n.layout n.shape) (has_variants ps n.layout n.shape) h in
       let fields = fields_lawful n.layout n.shape is both.0 in
@@ -417,17 +417,17 @@ module _ (ns : List Node) (i : ℕ) (past : i ≤ length ns) (below : (c : ℕ) 
       )
 
 module _ (ns : List Node) (well : are_nodes 0 ns ≡ true) (laws : keep_laws [] ns ≡ true) where
-  lawful_before : (n i : ℕ) → i < n → i < length ns → IsLawfulType (typed_at ns i)
+  lawful_before : (n i : ℕ) → i < n → i < length ns → IsWellFormedType (typed_at ns i)
   lawful_before zero i below lt = absurd (omega arith)
   lawful_before (suc n) i below lt =
       let d : Node = record { layout = no_layout; shape = Never mark_is.Plain } in
       let here : Node = get_or ns i d in
       let is : is_node i here.shape ≡ true = children_before ns i d lt well in
       let at : here ≡ get_or ns i here = get_or_default ns i d here lt in
-      let law : IsLawfulType (typed_node (all_told [] ns) here) =
+      let law : IsWellFormedType (typed_node (all_typed [] ns) here) =
       told_lawful ns i (omega arith) (λ c less. lawful_before n c (omega arith) (omega arith)) here is (laws_at ns well laws i d lt) in
-      subst IsLawfulType (sym (typed_at-node ns well i here lt at)) law
+      subst IsWellFormedType (sym (typed_at-node ns well i here lt at)) law
 
   -- each node is a lawful type
-  pub lawful_at : (i : ℕ) → i < length ns → IsLawfulType (typed_at ns i)
+  pub lawful_at : (i : ℕ) → i < length ns → IsWellFormedType (typed_at ns i)
   lawful_at i lt = lawful_before (length ns) i lt lt

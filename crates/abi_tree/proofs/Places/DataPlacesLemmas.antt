@@ -16,8 +16,8 @@ use Rattle.abi_tree.specs.declared.mark.Mark.{Mark}
 use Rattle.abi_tree.specs.Placed.{Placed, scalar, pair, never, elements, vector, fields, union, single, tagged, size_of, no_parts, nothing}
 use Rattle.abi_scalar.specs.Layout.{Layout}
 use Rattle.abi_tree.specs.Places.{is_data_place}
-use Rattle.abi_tree.specs.Nodes.{parts_at, parts_at_0, placed_in, placed_at, types_in, arms_in, own_fields, variant_left, meaning, tag_offset, encoding_of, states_in}
-use Rattle.abi_tree.specs.Room.{has_room, have_room, arms_have_room}
+use Rattle.abi_tree.specs.Nodes.{parts_at, parts_at_0, placed_in, placed_at, types_in, tagged_variants_in, own_fields, variant_left, meaning, tag_offset, encoding_of, states_in}
+use Rattle.abi_tree.specs.Room.{has_room, have_room, tagged_variants_have_room}
 use Rattle.abi_tree.specs.Well.{are_nodes, all_at}
 use Rattle.abi_index.specs.RangeSet.{AreMaximalRuns, is_in_ranges}
 use Rattle.abi_tree.proofs.Meaning.NodesLemmas.{placed_at-node, pair_before}
@@ -89,14 +89,14 @@ module _ (ns : List Node) (well : are_nodes 0 ns ≡ true) (i : ℕ) (n : Node) 
   -- the tag and the variants beside it: all come before the node and end inside it
   pub tagged_node : (mark : Mark) (tag : ℕ) (variants : Vec (ℕ × ℕ) Global) → n.shape ≡ Tagged mark tag variants →
       (tag < i) × All (λ v. v.1 < i) variants.items
-      × (placed_at ns i ≡ tagged n.layout mark (tag_offset n.layout) (placed_at ns tag) (encoding_of n.layout.variants) (arms_in (types_in ns) variants.items))
+      × (placed_at ns i ≡ tagged n.layout mark (tag_offset n.layout) (placed_at ns tag) (encoding_of n.layout.variants) (tagged_variants_in (types_in ns) variants.items))
       × (tag_offset n.layout + size_of (placed_at ns tag) ≤ n.layout.size) × (has_room (placed_at ns tag) ≡ true)
-      × (arms_have_room n.layout.size (arms_in (types_in ns) variants.items) ≡ true)
+      × (tagged_variants_have_room n.layout.size (tagged_variants_in (types_in ns) variants.items) ≡ true)
   tagged_node mark tag variants e =
       let is = placed_at-node ns well i n (Tagged mark tag variants) lt at e in
       let before = and_parts (nat_lt tag i) (list_all (λ v. nat_lt v.1 i) variants.items) is.0 in
       let fits = nat_le (tag_offset n.layout + size_of (placed_at ns tag)) n.layout.size in
-      let both = and_parts (fits && has_room (placed_at ns tag)) (arms_have_room n.layout.size (arms_in (types_in ns) variants.items)) (ap has_room (sym is.1) ∙ room) in
+      let both = and_parts (fits && has_room (placed_at ns tag)) (tagged_variants_have_room n.layout.size (tagged_variants_in (types_in ns) variants.items)) (ap has_room (sym is.1) ∙ room) in
       let of_tag = and_parts fits (has_room (placed_at ns tag)) both.0 in
       (ltb-true tag i before.0, variants_before i variants.items before.1, is.1, leb-true (tag_offset n.layout + size_of (placed_at ns tag)) n.layout.size of_tag.0, of_tag.1, both.1)
 
@@ -159,9 +159,9 @@ module _ (ns : List Node) (os children : List ℕ) (n : ℕ) (lt : n < length os
       (before n 0 below, subst (λ p. get_or os n 0 + size_of p ≤ size) child_at at.0, subst (λ p. has_room p ≡ true) child_at at.1)
 
 -- the n-th variant's fields end inside
-pub arm_room : (size : ℕ) (done : List Placed) (vs : List (ℕ × ℕ)) (n : ℕ) (d : ℕ × ℕ) → arms_have_room size (arms_in done vs) ≡ true → n < length vs →
+pub tagged_variant_room : (size : ℕ) (done : List Placed) (vs : List (ℕ × ℕ)) (n : ℕ) (d : ℕ × ℕ) → tagged_variants_have_room size (tagged_variants_in done vs) ≡ true → n < length vs →
     have_room size (own_fields (placed_in done (get_or vs n d).1)) ≡ true
-arm_room size done [] n d room lt = absurd (omega arith)
-arm_room size done (v ∷ vs) zero d room lt = (and_parts (have_room size (own_fields (placed_in done v.1))) (arms_have_room size (arms_in done vs)) room).0
-arm_room size done (v ∷ vs) (suc n) d room lt =
-    arm_room size done vs n d (and_parts (have_room size (own_fields (placed_in done v.1))) (arms_have_room size (arms_in done vs)) room).1 (omega arith)
+tagged_variant_room size done [] n d room lt = absurd (omega arith)
+tagged_variant_room size done (v ∷ vs) zero d room lt = (and_parts (have_room size (own_fields (placed_in done v.1))) (tagged_variants_have_room size (tagged_variants_in done vs)) room).0
+tagged_variant_room size done (v ∷ vs) (suc n) d room lt =
+    tagged_variant_room size done vs n d (and_parts (have_room size (own_fields (placed_in done v.1))) (tagged_variants_have_room size (tagged_variants_in done vs)) room).1 (omega arith)

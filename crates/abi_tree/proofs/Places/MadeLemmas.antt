@@ -20,10 +20,10 @@ use Rattle.abi_tree.specs.declared.node.Shape.TheVariants.{Scalar as Number, Pai
 use Rattle.abi_tree.specs.declared.node.Node.{Node}
 use Rattle.abi_tree.specs.declared.node.NodeRef.{NodeRef}
 use Rattle.abi_tree.specs.Placed.{Placed, size_of, nothing, scalar, pair, never, elements, vector, fields, union, single, tagged, states}
-use Rattle.abi_tree.specs.Places.{is_data_place, is_place_of_part, is_place_of_arm}
-use Rattle.abi_tree.specs.Nodes.{arms_in, lent_node, meaning, own_fields, parts_at, parts_at_0, placed_at, placed_in, state_tag_offset, tag_offset, types_in}
+use Rattle.abi_tree.specs.Places.{is_data_place, is_place_of_part, is_place_of_tagged_variant}
+use Rattle.abi_tree.specs.Nodes.{tagged_variants_in, lent_node, meaning, own_fields, parts_at, parts_at_0, placed_at, placed_in, state_tag_offset, tag_offset, types_in}
 use Rattle.abi_tree.specs.Laws.{has_list, have_lists}
-use Rattle.abi_tree.specs.Room.{arms_have_room, has_room, have_room}
+use Rattle.abi_tree.specs.Room.{tagged_variants_have_room, has_room, have_room}
 use Rattle.abi_tree.specs.Runs.{is_padding_of}
 use Rattle.abi_tree.specs.Typed.{variant_nodes}
 use Rattle.abi_tree.specs.Needed.{AreMade, AreNeeded, IsKept, IsMade, IsMadeOf, IsSet, is_among, named_by, parts_cover, placed_nodes, sets_at, some_covers}
@@ -121,12 +121,12 @@ module _ (types : List Placed) (done : List (List (ℕ × ℕ))) where
       ap (λ b. b || some_covers (sets_at done cs) k) ((All-head Made c cs made).1 k ∙ sym (moved-zero (is_data_place (placed_in types c)) k))
       ∙ ap (λ b. moved_to 0 (is_data_place (placed_in types c)) k || b) (stacked_same cs k (All-tail Made c cs made))
 
-  arms_same : (vs : List (ℕ × ℕ)) (k : ℕ) → All Made (map (λ v. v.1) vs) → All Own (map (λ v. v.1) vs) → some_covers (sets_at done (map (λ v. v.1) vs)) k ≡ is_place_of_arm (arms_in types vs) k
-  arms_same [] k made own = refl
-  arms_same (v ∷ vs) k made own =
+  tagged_variants_same : (vs : List (ℕ × ℕ)) (k : ℕ) → All Made (map (λ v. v.1) vs) → All Own (map (λ v. v.1) vs) → some_covers (sets_at done (map (λ v. v.1) vs)) k ≡ is_place_of_tagged_variant (tagged_variants_in types vs) k
+  tagged_variants_same [] k made own = refl
+  tagged_variants_same (v ∷ vs) k made own =
       let rest : List ℕ = map (λ v. v.1) vs in
       ap (λ b. b || some_covers (sets_at done rest) k) ((All-head Made v.1 rest made).1 k ∙ All-head Own v.1 rest own k)
-      ∙ ap (λ b. is_place_of_part (own_fields (placed_in types v.1)) k || b) (arms_same vs k (All-tail Made v.1 rest made) (All-tail Own v.1 rest own))
+      ∙ ap (λ b. is_place_of_part (own_fields (placed_in types v.1)) k || b) (tagged_variants_same vs k (All-tail Made v.1 rest made) (All-tail Own v.1 rest own))
 
   -- the runs of a set end inside its type
   set_ends : (j : ℕ) → has_room (placed_in types j) ≡ true → Made j → All (λ run. run.0 + run.1 ≤ size_of (placed_in types j)) (get_or done j [])
@@ -253,24 +253,24 @@ module _ (types : List Placed) (n : Node) (done : List (List (ℕ × ℕ))) (mad
       (λ k. moved-zero (is_in_ranges (get_or done lanes [])) k ∙ (All-head (Made types done) lanes [] (made_as (Vector lanes) e)).1 k)
 
   -- a tag and variants beside it
-  abbrev Beside : (offset tag : ℕ) → (vs : List (ℕ × ℕ)) → Type 0
-  Beside offset tag vs = (offset + size_of (placed_in types tag) ≤ n.layout.size) × (has_room (placed_in types tag) ≡ true) × All (Made types done) (tag ∷ map (λ v. v.1) vs) × All (Own types done) (map (λ v. v.1) vs)
+  abbrev TaggedNodes : (offset tag : ℕ) → (vs : List (ℕ × ℕ)) → Type 0
+  TaggedNodes offset tag vs = (offset + size_of (placed_in types tag) ≤ n.layout.size) × (has_room (placed_in types tag) ≡ true) × All (Made types done) (tag ∷ map (λ v. v.1) vs) × All (Own types done) (map (λ v. v.1) vs)
 
-  pub beside_tagged : (mark : Mark) (tag : ℕ) (variants : Vec (ℕ × ℕ) Global) → n.shape ≡ Tagged mark tag variants → Beside (tag_offset n.layout) tag variants.items
+  pub beside_tagged : (mark : Mark) (tag : ℕ) (variants : Vec (ℕ × ℕ) Global) → n.shape ≡ Tagged mark tag variants → TaggedNodes (tag_offset n.layout) tag variants.items
   beside_tagged mark tag variants e =
       let fits = nat_le (tag_offset n.layout + size_of (placed_in types tag)) n.layout.size in
-      let both = and_parts (fits && has_room (placed_in types tag)) (arms_have_room n.layout.size (arms_in types variants.items)) (room_as (Tagged mark tag variants) e) in
+      let both = and_parts (fits && has_room (placed_in types tag)) (tagged_variants_have_room n.layout.size (tagged_variants_in types variants.items)) (room_as (Tagged mark tag variants) e) in
       let of_tag = and_parts fits (has_room (placed_in types tag)) both.0 in
       (leb-true (tag_offset n.layout + size_of (placed_in types tag)) n.layout.size of_tag.0, of_tag.1, made_as (Tagged mark tag variants) e, own_as (Tagged mark tag variants) e)
 
   pub states_parts : (prefix : Vec ℕ Global) (tag : ℕ) (all : Vec (ℕ × ℕ) Global) → n.shape ≡ States prefix tag all →
-      Listed prefix.items × Beside (state_tag_offset n.layout (length prefix.items)) tag all.items
+      Listed prefix.items × TaggedNodes (state_tag_offset n.layout (length prefix.items)) tag all.items
   states_parts prefix tag all e =
       let offset : ℕ = state_tag_offset n.layout (length prefix.items) in
       let fits = nat_le (offset + size_of (placed_in types tag)) n.layout.size in
-      let arms = arms_have_room n.layout.size (arms_in types all.items) in
-      let first = and_parts (have_room n.layout.size (parts_at offsets_of (map (placed_in types) prefix.items))) ((fits && has_room (placed_in types tag)) && arms) (room_as (States prefix tag all) e) in
-      let both = and_parts (fits && has_room (placed_in types tag)) arms first.1 in
+      let tagged_variants = tagged_variants_have_room n.layout.size (tagged_variants_in types all.items) in
+      let first = and_parts (have_room n.layout.size (parts_at offsets_of (map (placed_in types) prefix.items))) ((fits && has_room (placed_in types tag)) && tagged_variants) (room_as (States prefix tag all) e) in
+      let both = and_parts (fits && has_room (placed_in types tag)) tagged_variants first.1 in
       let of_tag = and_parts fits (has_room (placed_in types tag)) both.0 in
       let each = made_as (States prefix tag all) e in
       let xs : List ℕ = placed_nodes n.layout prefix.items in
@@ -279,7 +279,7 @@ module _ (types : List Placed) (n : Node) (done : List (List (ℕ × ℕ))) (mad
         (leb-true (offset + size_of (placed_in types tag)) n.layout.size of_tag.0, of_tag.1, All-right (Made types done) xs ys each, own_as (States prefix tag all) e),
       )
 
-  pub beside_fits : (offset tag : ℕ) (vs : List (ℕ × ℕ)) → Beside offset tag vs → n.layout.size < 2 ^ 64 →
+  pub beside_fits : (offset tag : ℕ) (vs : List (ℕ × ℕ)) → TaggedNodes offset tag vs → n.layout.size < 2 ^ 64 →
       IsSet done tag × All (λ run. offset + (run.0 + run.1) < 2 ^ 64) (get_or done tag []) × All (IsSet done) (map (λ v. v.1) vs)
   beside_fits offset tag vs beside fits =
       let rest : List ℕ = map (λ v. v.1) vs in
@@ -287,14 +287,14 @@ module _ (types : List Placed) (n : Node) (done : List (List (ℕ × ℕ))) (mad
       let ends = set_ends types done tag beside.1 of_tag in
       (of_tag.0, λ k d lt. omega (arith, ends k d lt, beside.0, fits), sets_of rest (All-tail (Made types done) tag rest beside.2))
 
-  beside_same : (offset tag : ℕ) (vs : List (ℕ × ℕ)) (k : ℕ) → Beside offset tag vs →
+  beside_same : (offset tag : ℕ) (vs : List (ℕ × ℕ)) (k : ℕ) → TaggedNodes offset tag vs →
       (moved_to offset (is_in_ranges (get_or done tag [])) k || some_covers (sets_at done (map (λ v. v.1) vs)) k)
-      ≡ ((nat_le offset k && is_data_place (placed_in types tag) (k - offset)) || is_place_of_arm (arms_in types vs) k)
+      ≡ ((nat_le offset k && is_data_place (placed_in types tag) (k - offset)) || is_place_of_tagged_variant (tagged_variants_in types vs) k)
   beside_same offset tag vs k beside =
       let rest : List ℕ = map (λ v. v.1) vs in
       let of_tag : Made types done tag = All-head (Made types done) tag rest beside.2 in
       ap (λ b. (nat_le offset k && b) || some_covers (sets_at done rest) k) (of_tag.1 (k - offset))
-      ∙ ap (λ b. (nat_le offset k && is_data_place (placed_in types tag) (k - offset)) || b) (arms_same types done vs k (All-tail (Made types done) tag rest beside.2) beside.3)
+      ∙ ap (λ b. (nat_le offset k && is_data_place (placed_in types tag) (k - offset)) || b) (tagged_variants_same types done vs k (All-tail (Made types done) tag rest beside.2) beside.3)
 
   pub put_tagged : (mark : Mark) (tag : ℕ) (variants : Vec (ℕ × ℕ) Global) (offset : ℕ) (vs : List (ℕ × ℕ)) (old new : List (ℕ × ℕ)) → n.shape ≡ Tagged mark tag variants → offset ≡ tag_offset n.layout → vs ≡ variants.items →
       Adds old new (λ k. moved_to offset (is_in_ranges (get_or done tag [])) k || some_covers (sets_at done (map (λ v. v.1) vs)) k) → Adds old new (is_data_place (meaning types n.layout n.shape))
@@ -337,8 +337,8 @@ listed_own (vector layout lanes) listed k = absurd (cc)
 listed_own (fields layout mark parts) listed k = refl
 listed_own (union layout mark parts) listed k = absurd (cc)
 listed_own (single layout mark index parts) listed k = absurd (cc)
-listed_own (tagged layout mark offset tag encoding arms) listed k = absurd (cc)
-listed_own (states layout prefix offset tag arms) listed k = absurd (cc)
+listed_own (tagged layout mark offset tag encoding tagged_variants) listed k = absurd (cc)
+listed_own (states layout prefix offset tag tagged_variants) listed k = absurd (cc)
 
 pub each_list : (types : List Placed) (cs : List ℕ) → have_lists types cs ≡ true → All (λ j. has_list (placed_in types j) ≡ true) cs
 each_list types [] listed = All-nil (λ j. has_list (placed_in types j) ≡ true)

@@ -103,7 +103,7 @@ padding_listed placed xs maximal padding =
     (λ k lt. padding k ∙ ap (λ b. b && not (is_data_place placed k)) (lt-ltb k (size_of placed) lt))
     (λ k le. padding k ∙ ap (λ b. b && not (is_data_place placed k)) (le-ltb k (size_of placed) le))
 
--- what a type tells as padding is padding, where it tells the data places
+-- what a type says as padding is padding, where it says the data places
 pub padding_told : (t : Typed) (placed : Placed) → (layout_in t).size ≡ size_of placed → ((k : ℕ) → is_place t k ≡ is_data_place placed k) → (k : ℕ) → is_padding t k ≡ is_padding_of placed k
 padding_told t placed size same k = ap (λ n. nat_lt k n && not (is_place t k)) size ∙ ap (λ b. nat_lt k (size_of placed) && not b) (same k)
 

@@ -18,8 +18,8 @@ use Rattle.abi_tree.specs.declared.node.Node.{Node}
 use Rattle.abi_tree.specs.declared.node.NodeRef.{NodeRef}
 use Rattle.abi_tree.specs.Placed.{Placed, size_of}
 use Rattle.abi_scalar.specs.Layout.{Layout}
-use Rattle.abi_tree.specs.Nodes.{arms_in, lent_node, meaning, own_fields, parts_at, parts_at_0, placed_at, placed_in, state_tag_offset, types_in}
-use Rattle.abi_tree.specs.Room.{has_room, have_room, arms_have_room}
+use Rattle.abi_tree.specs.Nodes.{tagged_variants_in, lent_node, meaning, own_fields, parts_at, parts_at_0, placed_at, placed_in, state_tag_offset, types_in}
+use Rattle.abi_tree.specs.Room.{has_room, have_room, tagged_variants_have_room}
 use Rattle.abi_tree.specs.Laws.{end_inside, has_fields, has_list, has_variants, have_lists, have_places, is_listed, keep_laws, keeps_laws, sizes_at}
 use Rattle.abi_tree.specs.Typed.{variant_nodes}
 use Rattle.abi_tree.specs.Well.{all_at, are_nodes, is_node}
@@ -178,11 +178,11 @@ module _ (ns : List Node) (well : are_nodes 0 ns ≡ true) (laws : keep_laws [] 
       ∙ own_room (types_in ns) m.layout m.shape whole (ap has_list (sym is) ∙ listed) (laws_at ns well laws j d lt) (ap (λ p. have_room whole (own_fields p)) (sym is) ∙ room)
 
   variants_room : (d : Node) (whole : ℕ) (vs : List (ℕ × ℕ)) → All (λ j. j < length ns) (map (λ v. v.1) vs) → have_lists (types_in ns) (map (λ v. v.1) vs) ≡ true →
-      arms_have_room whole (arms_in (types_in ns) vs) ≡ true → All (HasRoom ns) (map (λ v. v.1) vs)
+      tagged_variants_have_room whole (tagged_variants_in (types_in ns) vs) ≡ true → All (HasRoom ns) (map (λ v. v.1) vs)
   variants_room d whole [] there listed room = All-nil (HasRoom ns)
   variants_room d whole (v ∷ vs) there listed room =
       let lists = and_parts (has_list (placed_at ns v.1)) (have_lists (types_in ns) (map (λ v. v.1) vs)) listed in
-      let both = and_parts (have_room whole (own_fields (placed_at ns v.1))) (arms_have_room whole (arms_in (types_in ns) vs)) room in
+      let both = and_parts (have_room whole (own_fields (placed_at ns v.1))) (tagged_variants_have_room whole (tagged_variants_in (types_in ns) vs)) room in
       All-cons (HasRoom ns) v.1 (map (λ v. v.1) vs) (variant_room v.1 d whole (All-head (λ j. j < length ns) v.1 (map (λ v. v.1) vs) there) lists.0 both.0)
       (variants_room d whole vs (All-tail (λ j. j < length ns) v.1 (map (λ v. v.1) vs) there) lists.1 both.1)
 
@@ -217,9 +217,9 @@ module _ (ns : List Node) (well : are_nodes 0 ns ≡ true) (laws : keep_laws [] 
     room_shape room (States prefix tag all) e =
         let facts = states_node ns well i n lt at room prefix tag all e in
         let fits = nat_le (state_tag_offset n.layout (length prefix.items) + size_of (placed_at ns tag)) n.layout.size in
-        let arms = arms_have_room n.layout.size (arms_in (types_in ns) all.items) in
-        let first = and_parts (have_room n.layout.size (parts_at (listed_offsets n.layout.fields) (all_at ns prefix.items))) ((fits && has_room (placed_at ns tag)) && arms) facts.4 in
-        let both = and_parts (fits && has_room (placed_at ns tag)) arms first.1 in
+        let tagged_variants = tagged_variants_have_room n.layout.size (tagged_variants_in (types_in ns) all.items) in
+        let first = and_parts (have_room n.layout.size (parts_at (listed_offsets n.layout.fields) (all_at ns prefix.items))) ((fits && has_room (placed_at ns tag)) && tagged_variants) facts.4 in
+        let both = and_parts (fits && has_room (placed_at ns tag)) tagged_variants first.1 in
         All-append (HasRoom ns) (placed_nodes n.layout prefix.items) (tag ∷ map (λ v. v.1) all.items)
         (room_listed ns n.layout.size (listed_offsets n.layout.fields) prefix.items first.0)
         (All-cons (HasRoom ns) tag (map (λ v. v.1) all.items) (and_parts fits (has_room (placed_at ns tag)) both.0).1
@@ -286,7 +286,7 @@ module _ (ns : List Node) (root : ℕ) where
   -- at first the root is marked
   pub read_first : (needed : List Bool) (kept : List (Option NodeRef)) (visits : ℕ) → visits ≡ 0 → needed ≡ replicate (root + 1) false → kept ≡ replicate (root + 1) None → HasRoom ns root →
       AreRead ns root (root + 1) (set needed root true) kept visits
-  read_first needed kept visits unread unmarked empty room =
+  read_first needed kept visits no_nodes_read unmarked_bytes empty room =
       let old : List Bool = replicate (root + 1) false in
       let only : (i : ℕ) → get_or (set old root true) i false ≡ true → i ≡ root = λ i h.
       ⊎_elim (λ (same : i ≡ root). same)
@@ -295,11 +295,11 @@ module _ (ns : List Node) (root : ℕ) where
       let absent : (i : ℕ) (n : NodeRef) → get_or kept i None ≡ Some n → ⊥ = λ i n h.
       let clash : Some n ≡ None = sym h ∙ ap (λ k. get_or k i None) empty ∙ none_kept (root + 1) i in cc in
       let later : (i : ℕ) → root + 1 ≤ i → get_or (set old root true) i false ≡ false = λ i le. false_from_ne_true (get_or (set old root true) i false) (λ h. absurd (omega (arith, le, only i h))) in
-      subst (λ xs. AreRead ns root (root + 1) (set xs root true) kept visits) (sym unmarked) record {
+      subst (λ xs. AreRead ns root (root + 1) (set xs root true) kept visits) (sym unmarked_bytes) record {
         marks = length-set old root true ∙ long;
         long = ap length empty ∙ length-replicate (root + 1) None;
-        few = omega (arith, unread);
-        count = unread ∙ sym (count_none (λ i. get_or (set old root true) i false) (root + 1) (length ns - (root + 1)) later);
+        few = omega (arith, no_nodes_read);
+        count = no_nodes_read ∙ sym (count_none (λ i. get_or (set old root true) i false) (root + 1) (length ns - (root + 1)) later);
         rests = λ i h. subst (RestsOn ns root) (sym (only i h)) (λ set closed. closed.first);
         first = get_or-set_same old root true false (omega (arith, long));
         room = λ i h. subst (HasRoom ns) (sym (only i h)) room;
@@ -395,7 +395,7 @@ module _ (ns : List Node) (root : ℕ) where
   -- a node that isn't needed isn't read
   pub read_skip : (k : ℕ) (needed : List Bool) (kept : List (Option NodeRef)) (visits : ℕ) → root < length ns → k < root + 1 → AreRead ns root (k + 1) needed kept visits → get_or needed k false ≡ false →
       AreRead ns root k needed kept visits
-  read_skip k needed kept visits there below read unmarked = record {
+  read_skip k needed kept visits there below read unmarked_bytes = record {
     marks = read.marks;
     long = read.long;
     few = omega (arith, read.few);
@@ -403,13 +403,13 @@ module _ (ns : List Node) (root : ℕ) where
         let p : ℕ → Bool = λ i. get_or needed i false in
         let rest : ℕ = length ns - (k + 1) in
         let long : length ns - k ≡ suc rest = omega (arith, there, below) in
-        let all : visits ≡ one_if (p k) + count_picked p (k + 1) rest = omega (arith, read.count, ap one_if unmarked) in
+        let all : visits ≡ one_if (p k) + count_picked p (k + 1) rest = omega (arith, read.count, ap one_if unmarked_bytes) in
         all ∙ ap (count_picked p k) (sym long);
     rests = read.rests;
     first = read.first;
     room = read.room;
     stays = λ i le h.
-        ⊎_elim (λ (same : i ≡ k). let clash : true ≡ false = sym h ∙ ap (λ j. get_or needed j false) same ∙ unmarked in absurd (cc))
+        ⊎_elim (λ (same : i ≡ k). let clash : true ≡ false = sym h ∙ ap (λ j. get_or needed j false) same ∙ unmarked_bytes in absurd (cc))
         (λ (other : i ≢ k). read.stays i (omega (arith, le, other)) h) (cases_eq i k);
     own = read.own;
     named = read.named;

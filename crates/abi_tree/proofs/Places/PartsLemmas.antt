@@ -19,8 +19,8 @@ use Rattle.abi_tree.specs.declared.node.Shape.TheVariants.{Scalar, Pair, Never, 
 use Rattle.abi_tree.specs.declared.parts.PartBytes.{PartBytes}
 use Rattle.abi_tree.specs.declared.parts.PartName.{PartName}
 use Rattle.abi_tree.specs.Needed.{ArePartsMade, HaveSets, IsKept, IsMade, IsMadeOf, IsPartMade, is_among, named_by, numbered_nodes}
-use Rattle.abi_tree.specs.Nodes.{arms_in, lent_node, meaning, own_fields, parts_at, placed_at, placed_in, state_tag_offset, tag_offset, types_in}
-use Rattle.abi_tree.specs.Parts.{Part, all_parts, common_parts, field_name, field_parts, kept_part, parts_of_arms, placed_part, variant_parts}
+use Rattle.abi_tree.specs.Nodes.{tagged_variants_in, lent_node, meaning, own_fields, parts_at, placed_at, placed_in, state_tag_offset, tag_offset, types_in}
+use Rattle.abi_tree.specs.Parts.{Part, all_parts, common_parts, field_name, field_parts, kept_part, parts_of_tagged_variants, placed_part, variant_parts}
 use Rattle.abi_tree.specs.Placed.{Placed, no_parts, nothing, part, size_of}
 use Rattle.abi_tree.specs.Places.{is_data_place}
 use Rattle.abi_tree.specs.Room.{has_room, have_room}
@@ -251,10 +251,10 @@ module _ (ns : List Node) (kept : List (Option NodeRef)) (done : List (List (ℕ
       kept_each (States prefix tag all) e =
           each_numbered all.items (λ j among. have.needed.named i n here some j (subst (λ m. is_among (named_by layout m) j ≡ true) (sym e) (among_states layout prefix.items tag all.items j among)))
 
-  pub variants_meant : variant_parts (placed_at ns i) ≡ parts_of_arms 0 (arms_in types (numbered_nodes shape))
+  pub variants_meant : variant_parts (placed_at ns i) ≡ parts_of_tagged_variants 0 (tagged_variants_in types (numbered_nodes shape))
   variants_meant = ap variant_parts (is_meant shape refl) ∙ by shape
     where
-      by : (s : Shape) → variant_parts (meaning types layout s) ≡ parts_of_arms 0 (arms_in types (numbered_nodes s))
+      by : (s : Shape) → variant_parts (meaning types layout s) ≡ parts_of_tagged_variants 0 (tagged_variants_in types (numbered_nodes s))
       by (Scalar s) = refl
       by (Pair first second) = refl
       by (Never mark) = refl
@@ -275,19 +275,19 @@ module _ (ns : List Node) (kept : List (Option NodeRef)) (done : List (List (ℕ
 
 -- ---- variants
 
-arms-push : (types : List Placed) (j : ℕ) (vs : List (ℕ × ℕ)) (v : ℕ × ℕ) →
-    parts_of_arms j (arms_in types (vs ++ v ∷ [])) ≡ parts_of_arms j (arms_in types vs) ++ field_parts (Some (j + length vs)) 0 (own_fields (placed_in types v.1))
-arms-push types j [] v =
+tagged_variants-push : (types : List Placed) (j : ℕ) (vs : List (ℕ × ℕ)) (v : ℕ × ℕ) →
+    parts_of_tagged_variants j (tagged_variants_in types (vs ++ v ∷ [])) ≡ parts_of_tagged_variants j (tagged_variants_in types vs) ++ field_parts (Some (j + length vs)) 0 (own_fields (placed_in types v.1))
+tagged_variants-push types j [] v =
     append-nil (field_parts (Some j) 0 (own_fields (placed_in types v.1))) ∙ ap (λ m. field_parts (Some m) 0 (own_fields (placed_in types v.1))) (omega arith)
-arms-push types j (w ∷ vs) v =
+tagged_variants-push types j (w ∷ vs) v =
     let at : suc j + length vs ≡ j + length (w ∷ vs) = omega arith in
     ap (λ xs. field_parts (Some j) 0 (own_fields (placed_in types w.1)) ++ xs)
-    (arms-push types (suc j) vs v ∙ ap (λ m. parts_of_arms (suc j) (arms_in types vs) ++ field_parts (Some m) 0 (own_fields (placed_in types v.1))) at)
-    ∙ sym (append_assoc (field_parts (Some j) 0 (own_fields (placed_in types w.1))) (parts_of_arms (suc j) (arms_in types vs)) (field_parts (Some (j + length (w ∷ vs))) 0 (own_fields (placed_in types v.1))))
+    (tagged_variants-push types (suc j) vs v ∙ ap (λ m. parts_of_tagged_variants (suc j) (tagged_variants_in types vs) ++ field_parts (Some m) 0 (own_fields (placed_in types v.1))) at)
+    ∙ sym (append_assoc (field_parts (Some j) 0 (own_fields (placed_in types w.1))) (parts_of_tagged_variants (suc j) (tagged_variants_in types vs)) (field_parts (Some (j + length (w ∷ vs))) 0 (own_fields (placed_in types v.1))))
 
 -- the first variants were put
 abbrev pub VariantsArePut : (types : List Placed) (vs : List (ℕ × ℕ)) (old now : List PartBytes) (i : ℕ) → Type 0
-VariantsArePut types vs old now i = map kept_part now ≡ map kept_part old ++ parts_of_arms 0 (arms_in types (take i vs))
+VariantsArePut types vs old now i = map kept_part now ≡ map kept_part old ++ parts_of_tagged_variants 0 (tagged_variants_in types (take i vs))
 
 pub no_variant_put : (types : List Placed) (vs : List (ℕ × ℕ)) (old : List PartBytes) → VariantsArePut types vs old old 0
 no_variant_put types vs old = sym (append-nil (map kept_part old))
@@ -296,14 +296,14 @@ pub variant_put : (types : List Placed) (vs : List (ℕ × ℕ)) (old now new : 
     map kept_part new ≡ map kept_part now ++ field_parts (Some i) 0 (own_fields (placed_in types (get_or vs i d).1)) → VariantsArePut types vs old new (i + 1)
 variant_put types vs old now new i d lt before next =
     let v : ℕ × ℕ = get_or vs i d in
-    let first : List Part = parts_of_arms 0 (arms_in types (take i vs)) in
+    let first : List Part = parts_of_tagged_variants 0 (tagged_variants_in types (take i vs)) in
     let more : List Part = field_parts (Some i) 0 (own_fields (placed_in types v.1)) in
     let many : 0 + length (take i vs) ≡ i = omega (arith, length-take-le i vs (omega (arith, lt))) in
     next ∙ ap (λ xs. xs ++ more) before ∙ append_assoc (map kept_part old) first more
     ∙ ap (λ xs. map kept_part old ++ xs)
-    (sym (ap (λ ws. parts_of_arms 0 (arms_in types ws)) (take_more vs i d lt) ∙ arms-push types 0 (take i vs) v
+    (sym (ap (λ ws. parts_of_tagged_variants 0 (tagged_variants_in types ws)) (take_more vs i d lt) ∙ tagged_variants-push types 0 (take i vs) v
     ∙ ap (λ m. first ++ field_parts (Some m) 0 (own_fields (placed_in types v.1))) many))
 
 pub variants_put : (types : List Placed) (vs : List (ℕ × ℕ)) (old now : List PartBytes) (i : ℕ) → length vs ≤ i → VariantsArePut types vs old now i →
-    map kept_part now ≡ map kept_part old ++ parts_of_arms 0 (arms_in types vs)
-variants_put types vs old now i last before = before ∙ ap (λ ws. map kept_part old ++ parts_of_arms 0 (arms_in types ws)) (take_all i vs last)
+    map kept_part now ≡ map kept_part old ++ parts_of_tagged_variants 0 (tagged_variants_in types vs)
+variants_put types vs old now i last before = before ∙ ap (λ ws. map kept_part old ++ parts_of_tagged_variants 0 (tagged_variants_in types ws)) (take_all i vs last)

@@ -5,10 +5,10 @@ use Rattle.std.proofs.lemmas.Bool.{ltb-true, leb-true, eqb-true, and_parts, or_c
 use Rattle.std.proofs.lemmas.List.Elements.{All-nil, All-cons}
 use Rattle.std.proofs.lemmas.Nat.{mul-add-lt}
 use Rattle.std.proofs.Math.Bool.{or-true}
-use Rattle.abi_tree.specs.Placed.{Placed, scalar, pair, never, elements, vector, fields, union, single, tagged, states, Parts, no_parts, part, Arms, no_arms, arm, size_of, nothing}
+use Rattle.abi_tree.specs.Placed.{Placed, scalar, pair, never, elements, vector, fields, union, single, tagged, states, Parts, no_parts, part, TaggedVariants, no_tagged_variants, tagged_variant, size_of, nothing}
 use Rattle.abi_scalar.specs.Layout.{Layout}
-use Rattle.abi_tree.specs.Places.{is_data_place, is_place_of_part, is_place_of_arm}
-use Rattle.abi_tree.specs.Room.{has_room, have_room, arms_have_room}
+use Rattle.abi_tree.specs.Places.{is_data_place, is_place_of_part, is_place_of_tagged_variant}
+use Rattle.abi_tree.specs.Room.{has_room, have_room, tagged_variants_have_room}
 use Rattle.abi_tree.specs.Nodes.{parts_at}
 use Rattle.abi_index.specs.RangeSet.{AreMaximalRuns, is_in_run, is_in_ranges}
 use Rattle.abi_tree.proofs.Places.MaximalLemmas.{in_first}
@@ -47,25 +47,25 @@ mutual
   within_room (fields layout mark parts) k room place = within_have layout.size parts k room place
   within_room (union layout mark parts) k room place = within_have layout.size parts k room place
   within_room (single layout mark index parts) k room place = within_have layout.size parts k room place
-  within_room (tagged layout mark offset tag encoding arms) k room place =
-      let both = and_parts (nat_le (offset + size_of tag) layout.size && has_room tag) (arms_have_room layout.size arms) room in
+  within_room (tagged layout mark offset tag encoding tagged_variants) k room place =
+      let both = and_parts (nat_le (offset + size_of tag) layout.size && has_room tag) (tagged_variants_have_room layout.size tagged_variants) room in
       let of_tag = and_parts (nat_le (offset + size_of tag) layout.size) (has_room tag) both.0 in
       ⊎_elim
       (at_offset offset (size_of tag) layout.size k (is_data_place tag) (leb-true (offset + size_of tag) layout.size of_tag.0) (λ j. within_room tag j of_tag.1))
-      (within_arms layout.size arms k both.1)
-      (or_cases (nat_le offset k && is_data_place tag (k - offset)) (is_place_of_arm arms k) place)
-  within_room (states layout prefix offset tag arms) k room place =
-      let first = and_parts (have_room layout.size prefix) ((nat_le (offset + size_of tag) layout.size && has_room tag) && arms_have_room layout.size arms) room in
-      let both = and_parts (nat_le (offset + size_of tag) layout.size && has_room tag) (arms_have_room layout.size arms) first.1 in
+      (within_tagged_variants layout.size tagged_variants k both.1)
+      (or_cases (nat_le offset k && is_data_place tag (k - offset)) (is_place_of_tagged_variant tagged_variants k) place)
+  within_room (states layout prefix offset tag tagged_variants) k room place =
+      let first = and_parts (have_room layout.size prefix) ((nat_le (offset + size_of tag) layout.size && has_room tag) && tagged_variants_have_room layout.size tagged_variants) room in
+      let both = and_parts (nat_le (offset + size_of tag) layout.size && has_room tag) (tagged_variants_have_room layout.size tagged_variants) first.1 in
       let of_tag = and_parts (nat_le (offset + size_of tag) layout.size) (has_room tag) both.0 in
       ⊎_elim
       (within_have layout.size prefix k first.0)
       (λ later.
       ⊎_elim
       (at_offset offset (size_of tag) layout.size k (is_data_place tag) (leb-true (offset + size_of tag) layout.size of_tag.0) (λ j. within_room tag j of_tag.1))
-      (within_arms layout.size arms k both.1)
-      (or_cases (nat_le offset k && is_data_place tag (k - offset)) (is_place_of_arm arms k) later))
-      (or_cases (is_place_of_part prefix k) ((nat_le offset k && is_data_place tag (k - offset)) || is_place_of_arm arms k) place)
+      (within_tagged_variants layout.size tagged_variants k both.1)
+      (or_cases (nat_le offset k && is_data_place tag (k - offset)) (is_place_of_tagged_variant tagged_variants k) later))
+      (or_cases (is_place_of_part prefix k) ((nat_le offset k && is_data_place tag (k - offset)) || is_place_of_tagged_variant tagged_variants k) place)
 
   pub within_have : (size : ℕ) (parts : Parts) (k : ℕ) → have_room size parts ≡ true → is_place_of_part parts k ≡ true → k < size
   within_have size no_parts k room place = absurd (cc)
@@ -77,11 +77,11 @@ mutual
       (within_have size parts k both.1)
       (or_cases (nat_le offset k && is_data_place placed (k - offset)) (is_place_of_part parts k) place)
 
-  within_arms : (size : ℕ) (arms : Arms) (k : ℕ) → arms_have_room size arms ≡ true → is_place_of_arm arms k ≡ true → k < size
-  within_arms size no_arms k room place = absurd (cc)
-  within_arms size (arm number layout mark parts arms) k room place =
-      let both = and_parts (have_room size parts) (arms_have_room size arms) room in
-      ⊎_elim (within_have size parts k both.0) (within_arms size arms k both.1) (or_cases (is_place_of_part parts k) (is_place_of_arm arms k) place)
+  within_tagged_variants : (size : ℕ) (tagged_variants : TaggedVariants) (k : ℕ) → tagged_variants_have_room size tagged_variants ≡ true → is_place_of_tagged_variant tagged_variants k ≡ true → k < size
+  within_tagged_variants size no_tagged_variants k room place = absurd (cc)
+  within_tagged_variants size (tagged_variant number layout mark parts tagged_variants) k room place =
+      let both = and_parts (have_room size parts) (tagged_variants_have_room size tagged_variants) room in
+      ⊎_elim (within_have size parts k both.0) (within_tagged_variants size tagged_variants k both.1) (or_cases (is_place_of_part parts k) (is_place_of_tagged_variant tagged_variants k) place)
 
 -- a part ends inside, and its own parts do
 pub room_at : (size : ℕ) (offsets : List ℕ) (ps : List Placed) (n : ℕ) → have_room size (parts_at offsets ps) ≡ true → n < length offsets → n < length ps →

@@ -24,9 +24,9 @@ use Rattle.abi_tree.specs.declared.node.Node.{Node}
 use Rattle.abi_tree.specs.declared.node.NodeRef.{NodeRef}
 use Rattle.abi_tree.specs.Laws.{has_fields, has_list, has_variants, keep_laws}
 use Rattle.abi_tree.specs.Needed.{HaveSets, IsMade, IsMadeOf, LeaveOut, is_among, numbered_nodes, named_by, parts_cover, placed_nodes, sets_at}
-use Rattle.abi_tree.specs.Nodes.{arms_in, lent_node, meaning, own_fields, parts_at, placed_at, placed_in, state_tag_offset, tag_offset, types_in}
-use Rattle.abi_tree.specs.Placed.{Arms, Placed, layout_of, parts_of_arm, size_of}
-use Rattle.abi_tree.specs.Places.{is_data_place, is_place_of_arm, is_place_of_part}
+use Rattle.abi_tree.specs.Nodes.{tagged_variants_in, lent_node, meaning, own_fields, parts_at, placed_at, placed_in, state_tag_offset, tag_offset, types_in}
+use Rattle.abi_tree.specs.Placed.{TaggedVariants, Placed, layout_of, parts_of_tagged_variant, size_of}
+use Rattle.abi_tree.specs.Places.{is_data_place, is_place_of_tagged_variant, is_place_of_part}
 use Rattle.abi_tree.specs.Room.{has_room}
 use Rattle.abi_tree.specs.Runs.{is_place_of_each, is_place_of_variant}
 use Rattle.abi_tree.specs.Typed.{variant_nodes}
@@ -161,10 +161,10 @@ or_assoc : (a b c : Bool) → ((a || b) || c) ≡ (a || (b || c))
 or_assoc true b c = refl
 or_assoc false b c = refl
 
-arm_own : (types : List Placed) (vs : List (ℕ × ℕ)) (v : ℕ) (d : ℕ × ℕ) → v < length vs → parts_of_arm (arms_in types vs) v ≡ own_fields (placed_in types (get_or vs v d).1)
-arm_own types [] v d lt = absurd (omega arith)
-arm_own types (w ∷ vs) zero d lt = refl
-arm_own types (w ∷ vs) (suc v) d lt = arm_own types vs v d (omega arith)
+tagged_variant_own : (types : List Placed) (vs : List (ℕ × ℕ)) (v : ℕ) (d : ℕ × ℕ) → v < length vs → parts_of_tagged_variant (tagged_variants_in types vs) v ≡ own_fields (placed_in types (get_or vs v d).1)
+tagged_variant_own types [] v d lt = absurd (omega arith)
+tagged_variant_own types (w ∷ vs) zero d lt = refl
+tagged_variant_own types (w ∷ vs) (suc v) d lt = tagged_variant_own types vs v d (omega arith)
 
 -- a variant has the places that each has, and its own
 own_or_common : (types : List Placed) (layout : Layout) (shape : Shape) (v k : ℕ) → v < length (numbered_nodes shape) →
@@ -178,13 +178,13 @@ own_or_common types layout (Union mark children) v k lt = absurd (omega arith)
 own_or_common types layout (Vector lanes) v k lt = absurd (omega arith)
 own_or_common types layout (Single mark children) v k lt = absurd (omega arith)
 own_or_common types layout (Tagged mark tag variants) v k lt =
-    ap (λ p. is_place_of_each (meaning types layout (Tagged mark tag variants)) k || is_place_of_part p k) (sym (arm_own types variants.items v (0, 0) lt))
+    ap (λ p. is_place_of_each (meaning types layout (Tagged mark tag variants)) k || is_place_of_part p k) (sym (tagged_variant_own types variants.items v (0, 0) lt))
 own_or_common types layout (States prefix tag all) v k lt =
     let front = is_place_of_part (parts_at (listed_offsets layout.fields) (map (placed_in types) prefix.items)) k in
     let offset : ℕ = state_tag_offset layout (length prefix.items) in
     let of_tag = nat_le offset k && is_data_place (placed_in types tag) (k - offset) in
     or_assoc front of_tag (is_place_of_part (own_fields (placed_in types (get_or all.items v (0, 0)).1)) k)
-    ∙ ap (λ p. front || (of_tag || is_place_of_part p k)) (sym (arm_own types all.items v (0, 0) lt))
+    ∙ ap (λ p. front || (of_tag || is_place_of_part p k)) (sym (tagged_variant_own types all.items v (0, 0) lt))
 
 -- of the places of some variant it leaves what neither each has nor it has of its own
 pub left_of : (types : List Placed) (n : Node) (done : List (List (ℕ × ℕ))) (made : IsMadeOf types n done) → 0 < n.layout.size → (any bytes : List (ℕ × ℕ)) (sets : List (List (ℕ × ℕ))) (count : ℕ) →
@@ -205,14 +205,14 @@ left_of types n done made some any bytes sets count many all rest left v k lt =
 pub left_bare : (types : List Placed) (n : Node) (done : List (List (ℕ × ℕ))) → IsMadeOf types n done → (0 < n.layout.size → ⊥) → (v k : ℕ) → false ≡ is_left_unused (meaning types n.layout n.shape) v k
 left_bare types n done made bare v k = ap (λ b. b && not (is_place_of_variant (meaning types n.layout n.shape) v k)) (nothing_made types n done made bare k)
 
--- nor does one whose variants no tag tells apart
+-- nor does one whose variants no tag distinguishes
 alone_at : (types : List Placed) (layout : Layout) (mark : Mark) (tag : ℕ) (vs : List (ℕ × ℕ)) (b : Bool) (v k : ℕ) → length vs ≡ 0 →
-    false ≡ ((b || is_place_of_arm (arms_in types vs) k) && not (b || is_place_of_part (parts_of_arm (arms_in types vs) v) k))
+    false ≡ ((b || is_place_of_tagged_variant (tagged_variants_in types vs) k) && not (b || is_place_of_part (parts_of_tagged_variant (tagged_variants_in types vs) v) k))
 alone_at types layout mark tag [] b v k none = sym (and_not (b || false))
 alone_at types layout mark tag (w ∷ vs) b v k none = absurd (omega arith)
 
 alone_states : (types : List Placed) (vs : List (ℕ × ℕ)) (a b : Bool) (v k : ℕ) → length vs ≡ 0 →
-    false ≡ ((a || (b || is_place_of_arm (arms_in types vs) k)) && not (a || (b || is_place_of_part (parts_of_arm (arms_in types vs) v) k)))
+    false ≡ ((a || (b || is_place_of_tagged_variant (tagged_variants_in types vs) k)) && not (a || (b || is_place_of_part (parts_of_tagged_variant (tagged_variants_in types vs) v) k)))
 alone_states types [] a b v k none = sym (and_not (a || (b || false)))
 alone_states types (w ∷ vs) a b v k none = absurd (omega arith)
 
@@ -275,7 +275,7 @@ left_at ns kept done any sets have i n here is each v k index =
     each (types_in ns) made.0 (λ j. ap (λ s. is_in_ranges s j) is ∙ own.1 j ∙ ap (λ p. is_data_place p j) made.1) v k (subst (λ l. IsVariantIndex l.variants v) layout index)
     ∙ ap (λ p. is_left_unused p v k) (sym made.1)
 
--- where no tag tells variants apart there are none
+-- where no tag distinguishes variants there are none
 pub none_several : (variants : Variants ℕ ℕ) → ((tag : Number) (encoding : TagEncoding ℕ) (field : ℕ) (layouts : List (VariantLayout ℕ)) → variants ≡ Multiple tag encoding field layouts → ⊥) → length (variants_of variants) ≡ 0
 none_several (Multiple tag encoding field layouts) other = absurd (other tag encoding field layouts refl)
 none_several (OneVariant i) other = refl

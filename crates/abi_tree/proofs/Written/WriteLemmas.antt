@@ -13,17 +13,17 @@ use Rattle.abi_tree.specs.declared.mark.Mark.{Mark}
 use Rattle.abi_tree.specs.declared.value.Value.{Value as Kept, Num as NumKept}
 use Rattle.abi_tree.specs.Value.{Value, number, two, list, variant, state, bytes, Values, no_values, more_values, value_count, value_of, values_of}
 use Rattle.abi_tree.specs.Bytes.{AreBytes, bytes_at, number_of, picked_bytes}
-use Rattle.abi_tree.specs.Placed.{Placed, scalar, pair, never, elements, vector, fields, union, single, tagged, states, Parts, no_parts, part, Arms, nothing, size_of}
+use Rattle.abi_tree.specs.Placed.{Placed, scalar, pair, never, elements, vector, fields, union, single, tagged, states, Parts, no_parts, part, TaggedVariants, nothing, size_of}
 use Rattle.abi_scalar.specs.Layout.{Layout}
 use Rattle.abi_tree.specs.Places.{is_data_place}
-use Rattle.abi_tree.specs.Nodes.{arms_in, own_fields, parts_at, placed_at, placed_in}
+use Rattle.abi_tree.specs.Nodes.{tagged_variants_in, own_fields, parts_at, placed_at, placed_in}
 use Rattle.abi_tree.specs.declared.node.Node.{Node}
 use Rattle.abi_tree.specs.Room.{has_room}
 use Rattle.abi_tree.specs.Holding.{HoldEach, HoldParts, Holds, IsAt}
 use Rattle.abi_tree.specs.Reading.{IsNamedIn}
-use Rattle.abi_tree.specs.Covering.{are_covered, each_covered, is_arm_covered, is_byte_at, is_covered, is_told}
+use Rattle.abi_tree.specs.Covering.{are_covered, each_covered, is_tagged_variant_covered, is_byte_at, is_covered, is_tagged}
 use Rattle.abi_tree.specs.Writing.{IsPutOver}
-use Rattle.abi_tree.specs.Putting.{PutsArm, PutsParts}
+use Rattle.abi_tree.specs.Putting.{PutsTaggedVariant, PutsParts}
 use Rattle.abi_tree.proofs.Bytes.BytesLemmas.{AreBytes-bytes_at}
 use Rattle.abi_tree.proofs.Places.DataPlacesLemmas.{or_shift}
 use Rattle.abi_tree.proofs.Bytes.PutOverLemmas.{put_both, put_like, put_none, put_part}
@@ -215,45 +215,45 @@ module _ (order : Endian) (layout : Layout) (at : ℕ) (b old new : List ℕ) wh
       subst (λ xs. IsPutOver (are_covered parts xs) at b old new) e.1 (h (subst (HoldParts order parts b) (sym e.1) held.2))
   put_single mark index parts v i us is h held = absurd held
 
-  -- a tag and the fields of an arm
-  abbrev pub covers_arm : TagEncoding ℕ → (offset : ℕ) → (tag : Placed) → Arms → ℕ → Values → ℕ → Bool
-  covers_arm encoding offset tag arms i vs k = (is_told encoding i && is_byte_at offset (size_of tag) k) || is_arm_covered arms i vs k
+  -- a tag and the fields of a tagged variant
+  abbrev pub covers_tagged_variant : TagEncoding ℕ → (offset : ℕ) → (tag : Placed) → TaggedVariants → ℕ → Values → ℕ → Bool
+  covers_tagged_variant encoding offset tag tagged_variants i vs k = (is_tagged encoding i && is_byte_at offset (size_of tag) k) || is_tagged_variant_covered tagged_variants i vs k
 
-  pub put_tagged : (mark : Mark) (offset : ℕ) (tag : Placed) (encoding : TagEncoding ℕ) (arms : Arms) (v : Value) (i : ℕ) (us : Values) →
+  pub put_tagged : (mark : Mark) (offset : ℕ) (tag : Placed) (encoding : TagEncoding ℕ) (tagged_variants : TaggedVariants) (v : Value) (i : ℕ) (us : Values) →
       ((j : ℕ) (vs : Values) → v ≡ variant j vs → (i ≡ j) × (us ≡ vs)) →
-      (IsNamedIn order b encoding offset tag arms i us → IsPutOver (covers_arm encoding offset tag arms i us) at b old new) →
-      Holds order (tagged layout mark offset tag encoding arms) b v → Put (tagged layout mark offset tag encoding arms) v
-  put_tagged mark offset tag encoding arms (variant j vs) i us is h held =
+      (IsNamedIn order b encoding offset tag tagged_variants i us → IsPutOver (covers_tagged_variant encoding offset tag tagged_variants i us) at b old new) →
+      Holds order (tagged layout mark offset tag encoding tagged_variants) b v → Put (tagged layout mark offset tag encoding tagged_variants) v
+  put_tagged mark offset tag encoding tagged_variants (variant j vs) i us is h held =
       let e = is j vs refl in
-      subst (λ x. IsPutOver (covers_arm encoding offset tag arms x vs) at b old new) e.0
-      (subst (λ xs. IsPutOver (covers_arm encoding offset tag arms i xs) at b old new) e.1
-      (h (subst (λ xs. IsNamedIn order b encoding offset tag arms i xs) (sym e.1) (subst (λ x. IsNamedIn order b encoding offset tag arms x vs) (sym e.0) (held.1, held.2, held.3)))))
-  put_tagged mark offset tag encoding arms v i us is h held = absurd held
+      subst (λ x. IsPutOver (covers_tagged_variant encoding offset tag tagged_variants x vs) at b old new) e.0
+      (subst (λ xs. IsPutOver (covers_tagged_variant encoding offset tag tagged_variants i xs) at b old new) e.1
+      (h (subst (λ xs. IsNamedIn order b encoding offset tag tagged_variants i xs) (sym e.1) (subst (λ x. IsNamedIn order b encoding offset tag tagged_variants x vs) (sym e.0) (held.1, held.2, held.3)))))
+  put_tagged mark offset tag encoding tagged_variants v i us is h held = absurd held
 
 -- prefix fields, then a tag and a state's own
-pub put_states : (order : Endian) (layout : Layout) (at : ℕ) (b old mid new : List ℕ) (prefix : Parts) (offset : ℕ) (tag : Placed) (arms : Arms) (v : Value) (i : ℕ) (ps us : Values) →
+pub put_states : (order : Endian) (layout : Layout) (at : ℕ) (b old mid new : List ℕ) (prefix : Parts) (offset : ℕ) (tag : Placed) (tagged_variants : TaggedVariants) (v : Value) (i : ℕ) (ps us : Values) →
     ((j : ℕ) (qs vs : Values) → v ≡ state j qs vs → (i ≡ j) × (ps ≡ qs) × (us ≡ vs)) →
     (HoldParts order prefix b ps → IsPutOver (are_covered prefix ps) at b old mid) →
-    (IsNamedIn order b Direct offset tag arms i us → IsPutOver (covers_arm order layout at b old new Direct offset tag arms i us) at b mid new) →
-    Holds order (states layout prefix offset tag arms) b v → IsPutOver (is_covered (states layout prefix offset tag arms) v) at b old new
-put_states order layout at b old mid new prefix offset tag arms (state j qs vs) i ps us is front_put arm_put held =
+    (IsNamedIn order b Direct offset tag tagged_variants i us → IsPutOver (covers_tagged_variant order layout at b old new Direct offset tag tagged_variants i us) at b mid new) →
+    Holds order (states layout prefix offset tag tagged_variants) b v → IsPutOver (is_covered (states layout prefix offset tag tagged_variants) v) at b old new
+put_states order layout at b old mid new prefix offset tag tagged_variants (state j qs vs) i ps us is front_put tagged_variant_put held =
     let e = is j qs vs refl in
     let front : IsPutOver (are_covered prefix qs) at b old mid = subst (λ xs. IsPutOver (are_covered prefix xs) at b old mid) e.1 (front_put (subst (HoldParts order prefix b) (sym e.1) held.1)) in
-    let named : IsNamedIn order b Direct offset tag arms i us =
-    subst (λ xs. IsNamedIn order b Direct offset tag arms i xs) (sym e.2) (subst (λ x. IsNamedIn order b Direct offset tag arms x vs) (sym e.0) (held.2, held.3, held.4)) in
-    let behind : IsPutOver (λ k. is_byte_at offset (size_of tag) k || is_arm_covered arms j vs k) at b mid new =
-    subst (λ x. IsPutOver (λ k. is_byte_at offset (size_of tag) k || is_arm_covered arms x vs k) at b mid new) e.0
-    (subst (λ xs. IsPutOver (λ k. is_byte_at offset (size_of tag) k || is_arm_covered arms i xs k) at b mid new) e.2 (arm_put named)) in
-    put_both (are_covered prefix qs) (λ k. is_byte_at offset (size_of tag) k || is_arm_covered arms j vs k) at b old mid new front behind
-put_states order layout at b old mid new prefix offset tag arms v i ps us is front_put arm_put held = absurd held
+    let named : IsNamedIn order b Direct offset tag tagged_variants i us =
+    subst (λ xs. IsNamedIn order b Direct offset tag tagged_variants i xs) (sym e.2) (subst (λ x. IsNamedIn order b Direct offset tag tagged_variants x vs) (sym e.0) (held.2, held.3, held.4)) in
+    let behind : IsPutOver (λ k. is_byte_at offset (size_of tag) k || is_tagged_variant_covered tagged_variants j vs k) at b mid new =
+    subst (λ x. IsPutOver (λ k. is_byte_at offset (size_of tag) k || is_tagged_variant_covered tagged_variants x vs k) at b mid new) e.0
+    (subst (λ xs. IsPutOver (λ k. is_byte_at offset (size_of tag) k || is_tagged_variant_covered tagged_variants i xs k) at b mid new) e.2 (tagged_variant_put named)) in
+    put_both (are_covered prefix qs) (λ k. is_byte_at offset (size_of tag) k || is_tagged_variant_covered tagged_variants j vs k) at b old mid new front behind
+put_states order layout at b old mid new prefix offset tag tagged_variants v i ps us is front_put tagged_variant_put held = absurd held
 
--- ---- the arm with an index
+-- ---- the tagged variant with an index
 
-pub arm_covers : (done : List Placed) (vs : List (ℕ × ℕ)) (i : ℕ) (d : ℕ × ℕ) (ws : Values) (k : ℕ) → i < length vs →
-    are_covered (own_fields (placed_in done (get_or vs i d).1)) ws k ≡ is_arm_covered (arms_in done vs) i ws k
-arm_covers done [] i d ws k lt = absurd (omega arith)
-arm_covers done (v ∷ vs) zero d ws k lt = refl
-arm_covers done (v ∷ vs) (suc i) d ws k lt = arm_covers done vs i d ws k (omega arith)
+pub tagged_variant_covers : (done : List Placed) (vs : List (ℕ × ℕ)) (i : ℕ) (d : ℕ × ℕ) (ws : Values) (k : ℕ) → i < length vs →
+    are_covered (own_fields (placed_in done (get_or vs i d).1)) ws k ≡ is_tagged_variant_covered (tagged_variants_in done vs) i ws k
+tagged_variant_covers done [] i d ws k lt = absurd (omega arith)
+tagged_variant_covers done (v ∷ vs) zero d ws k lt = refl
+tagged_variant_covers done (v ∷ vs) (suc i) d ws k lt = tagged_variant_covers done vs i d ws k (omega arith)
 
 -- ---- what calls promise
 
@@ -261,8 +261,8 @@ arm_covers done (v ∷ vs) (suc i) d ws k lt = arm_covers done vs i d ws k (omeg
 abbrev pub PartsPut : Endian → (at : ℕ) → (old new : List ℕ) → Parts → Values → {T E : Type 0} → Result T E → Type 0
 PartsPut order at old new parts vs result = OnOk result (PutsParts order at old new parts vs)
 
-abbrev pub ArmPut : Endian → (at : ℕ) → (old new : List ℕ) → TagEncoding ℕ → (offset : ℕ) → (tag : Placed) → Arms → (index : ℕ) → Values → {T E : Type 0} → Result T E → Type 0
-ArmPut order at old new encoding offset tag arms i vs result = OnOk result (PutsArm order at old new encoding offset tag arms i vs)
+abbrev pub TaggedVariantPut : Endian → (at : ℕ) → (old new : List ℕ) → TagEncoding ℕ → (offset : ℕ) → (tag : Placed) → TaggedVariants → (index : ℕ) → Values → {T E : Type 0} → Result T E → Type 0
+TaggedVariantPut order at old new encoding offset tag tagged_variants i vs result = OnOk result (PutsTaggedVariant order at old new encoding offset tag tagged_variants i vs)
 
 -- a vector's lanes end inside it
 pub vector_room : (ns : List Node) (i lanes : ℕ) (layout : Layout) → placed_at ns i ≡ vector layout (placed_at ns lanes) → has_room (placed_at ns i) ≡ true → size_of (placed_at ns lanes) ≤ layout.size

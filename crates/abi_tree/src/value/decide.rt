@@ -4,29 +4,29 @@ ghost use Rattle.std.specs.Prelude.{◌≡◌, ℕ, ◌+◌, ◌*◌, ◌<◌, �
 ghost use Rattle.abi_base.specs.declared.data_layout.TargetDataLayout.{TargetDataLayout};
 ghost use Rattle.abi_index.specs.RangeSet.{AreMaximalRuns, is_in_ranges, is_in_run};
 ghost use Rattle.abi_tree.specs.Bytes.{AreBytes};
-ghost use Rattle.abi_tree.specs.Deciding.{Decide, DifferAt, KeepsPlaces, arm_for};
-ghost use Rattle.abi_tree.specs.Deciding.{first_told, first_with, place_in, some_number};
+ghost use Rattle.abi_tree.specs.Deciding.{Decide, DifferAt, KeepsPlaces, tagged_variant_for};
+ghost use Rattle.abi_tree.specs.Deciding.{first_tagged, first_with, place_in, some_number};
 ghost use Rattle.abi_tree.specs.Laid.{endian_of, placed_of};
 ghost use Rattle.abi_tree.specs.Laws.{have_lists};
 ghost use Rattle.abi_tree.specs.Needed.{HaveSets, IsKept, IsPartAt};
-ghost use Rattle.abi_tree.specs.Nodes.{arms_in, lent_node, parts_at, placed_at, types_in};
+ghost use Rattle.abi_tree.specs.Nodes.{tagged_variants_in, lent_node, parts_at, placed_at, types_in};
 ghost use Rattle.abi_tree.specs.Placed.{size_of};
 ghost use Rattle.abi_tree.specs.Places.{is_data_place};
 ghost use Rattle.abi_tree.specs.Tree.{Tree};
 ghost use Rattle.abi_tree.specs.Well.{all_at};
 ghost use Rattle.abi_tree.specs.Widths.{have_widths};
-ghost use Rattle.abi_tree.specs.Putting.{PutsCovering, PutsCoveringArm, PutsCoveringEach, PutsCoveringParts};
+ghost use Rattle.abi_tree.specs.Putting.{PutsCovering, PutsCoveringTaggedVariant, PutsCoveringEach, PutsCoveringParts};
 ghost use Rattle.abi_tree.specs.Writing.{IsCopied, IsPutOver};
 ghost use Rattle.abi_tree.specs.declared.mark.Mark.{Mark};
 
-use crate::counted::Counted;
+use crate::counted::CountedNodes;
 use crate::laid::Laid;
 use crate::needed::needed_nodes;
 use crate::node::{NodeRef, Shape, offsets, state_tag_offset, tag_offset};
 use crate::nodes::Nodes;
 use crate::runs_of::{set_at, sets_of};
 use crate::value::named::encoding_of;
-use crate::value::write::{Told, arms_of, put_number, write_tag};
+use crate::value::write::{TagLayout, put_number, tagged_nodes, write_tag};
 use abi_base::{Endian, Size};
 use abi_index::{Idx, RangeSet, VariantIdx};
 use abi_scalar::{Scalar, TagEncoding};
@@ -93,8 +93,8 @@ fn has_byte(set: &RangeSet, k: u64) -> bool
 }
 
 /// The index of the first variant that has a number of its own in the tag.
-fn first_told(encoding: &TagEncoding<VariantIdx>) -> usize
-    ensures { result ≡ first_told encoding.now }
+fn first_tagged(encoding: &TagEncoding<VariantIdx>) -> usize
+    ensures { result ≡ first_tagged encoding.now }
 {
     match encoding {
         TagEncoding::Direct => 0,
@@ -118,7 +118,7 @@ fn first_with(cover: Cover<'_>, variants: &[(u128, usize)], k: u64, otherwise: u
     requires kept { All (λ v. IsKept cover.kept.now v.1) variants.now }
     requires listed { have_lists (types_in cover.nodes.now) (map (λ v. v.1) variants.now) ≡ true }
     ensures { result
-        ≡ first_with (arms_in (types_in cover.entry.nodes.now) variants.now) k 0 otherwise }
+        ≡ first_with (tagged_variants_in (types_in cover.entry.nodes.now) variants.now) k 0 otherwise }
 {
     for i in 0..variants.len() {
         if has_byte(set_at(cover.sets, variants[i].1), k) {
@@ -129,16 +129,16 @@ fn first_with(cover: Cover<'_>, variants: &[(u128, usize)], k: u64, otherwise: u
 }
 
 /// The index of the variant of which a value covers the place.
-fn arm_for(cover: Cover<'_>, told: Told<'_>, place: Option<u64>) -> usize
+fn tagged_variant_for(cover: Cover<'_>, tag_layout: TagLayout<'_>, place: Option<u64>) -> usize
     requires sets { HaveSets cover.nodes.now cover.kept.now cover.sets.now }
-    requires kept { All (λ v. IsKept cover.kept.now v.1) told.arms.now }
-    requires listed { have_lists (types_in cover.nodes.now) (map (λ v. v.1) told.arms.now) ≡ true }
-    ensures { result ≡ arm_for told.entry.encoding.now
-        (arms_in (types_in cover.entry.nodes.now) told.entry.arms.now) place }
+    requires kept { All (λ v. IsKept cover.kept.now v.1) tag_layout.tagged_variants.now }
+    requires listed { have_lists (types_in cover.nodes.now) (map (λ v. v.1) tag_layout.tagged_variants.now) ≡ true }
+    ensures { result ≡ tagged_variant_for tag_layout.entry.encoding.now
+        (tagged_variants_in (types_in cover.entry.nodes.now) tag_layout.entry.tagged_variants.now) place }
 {
-    let first = first_told(told.encoding);
+    let first = first_tagged(tag_layout.encoding);
     match place {
-        Some(k) => first_with(cover, told.arms, k, first),
+        Some(k) => first_with(cover, tag_layout.tagged_variants, k, first),
         None => first,
     }
 }
@@ -255,16 +255,16 @@ fn put_variant(
     ensures put { PutsCovering cover.entry.order at bytes.old bytes.new place
         (placed_at cover.entry.nodes.now node) }
 {
-    let beside = arms_of(here.shape);
+    let beside = tagged_nodes(here.shape);
     let encoding = encoding_of(here.layout);
-    let told = Told {
+    let tag_layout = TagLayout {
         encoding: &encoding,
         tag: beside.tag,
         offset: tag_offset(here.layout),
-        arms: beside.arms,
+        tagged_variants: beside.tagged_variants,
         size: here.layout.size.bytes() as usize,
     };
-    put_arm(cover, node, told, place, at, bytes)
+    put_tagged_variant(cover, node, tag_layout, place, at, bytes)
 }
 
 /// Puts a state that covers the place, its tag and the prefix fields over the bytes of a node that has these.
@@ -288,18 +288,18 @@ fn put_state(
     ensures put { PutsCovering cover.entry.order at bytes.old bytes.new place
         (placed_at cover.entry.nodes.now node) }
 {
-    let beside = arms_of(here.shape);
+    let beside = tagged_nodes(here.shape);
     let direct = TagEncoding::Direct;
-    let told = Told {
+    let tag_layout = TagLayout {
         encoding: &direct,
         tag: beside.tag,
         offset: state_tag_offset(here.layout, beside.prefix.len()),
-        arms: beside.arms,
+        tagged_variants: beside.tagged_variants,
         size: here.layout.size.bytes() as usize,
     };
     let list = offsets(here.layout);
     put_parts(cover, node, list, beside.prefix, place, at, bytes);
-    put_arm(cover, node, told, place, at, bytes)
+    put_tagged_variant(cover, node, tag_layout, place, at, bytes)
 }
 
 /// Puts `count` elements over their bytes, one after another. Where these are all 0 yet, as they are where parts don't
@@ -363,36 +363,36 @@ fn put_parts(
 
 /// Puts the tag of the variant of which a value covers the place, and its fields, over their bytes.
 #[cycle(cover)]
-fn put_arm(
+fn put_tagged_variant(
     cover: Cover<'_>,
     node: usize,
-    told: Told<'_>,
+    tag_layout: TagLayout<'_>,
     place: Option<u64>,
     at: usize,
     bytes: &mut [u8],
 )
     requires sets { HaveSets cover.nodes.now cover.kept.now cover.sets.now }
-    requires tag { told.tag < length cover.nodes.now }
-    requires before { All (λ v. v.1 < node) told.arms.now }
-    requires kept { All (λ v. IsKept cover.kept.now v.1) told.arms.now }
-    requires listed { have_lists (types_in cover.nodes.now) (map (λ v. v.1) told.arms.now) ≡ true }
-    requires width { size_of (placed_at cover.nodes.now told.tag) ≤ 16 }
-    requires inside { at + (told.offset + size_of (placed_at cover.nodes.now told.tag))
+    requires tag { tag_layout.tag < length cover.nodes.now }
+    requires before { All (λ v. v.1 < node) tag_layout.tagged_variants.now }
+    requires kept { All (λ v. IsKept cover.kept.now v.1) tag_layout.tagged_variants.now }
+    requires listed { have_lists (types_in cover.nodes.now) (map (λ v. v.1) tag_layout.tagged_variants.now) ≡ true }
+    requires width { size_of (placed_at cover.nodes.now tag_layout.tag) ≤ 16 }
+    requires inside { at + (tag_layout.offset + size_of (placed_at cover.nodes.now tag_layout.tag))
         ≤ length bytes.old }
     requires fits { All (λ v. at + size_of (placed_at cover.nodes.now v.1) ≤ length bytes.old)
-        told.arms.now }
+        tag_layout.tagged_variants.now }
     ensures long { length bytes.new ≡ length bytes.old }
-    ensures put { PutsCoveringArm cover.entry.order at bytes.old bytes.new place
-        told.entry.encoding.now told.entry.offset (placed_at cover.entry.nodes.now told.entry.tag)
-        (types_in cover.entry.nodes.now) told.entry.arms.now }
+    ensures put { PutsCoveringTaggedVariant cover.entry.order at bytes.old bytes.new place
+        tag_layout.entry.encoding.now tag_layout.entry.offset (placed_at cover.entry.nodes.now tag_layout.entry.tag)
+        (types_in cover.entry.nodes.now) tag_layout.entry.tagged_variants.now }
 {
-    let i = arm_for(cover, told, place);
-    if i >= told.arms.len() {
+    let i = tagged_variant_for(cover, tag_layout, place);
+    if i >= tag_layout.tagged_variants.len() {
         return;
     }
-    let width = cover.nodes.layout(told.tag).size;
-    write_tag(cover.order, told, width, i, at, bytes);
-    put_node(cover, told.arms[i].1, place, at, bytes)
+    let width = cover.nodes.layout(tag_layout.tag).size;
+    write_tag(cover.order, tag_layout, width, i, at, bytes);
+    put_node(cover, tag_layout.tagged_variants[i].1, place, at, bytes)
 }
 
 /// The bytes of a value that covers the place, where it is a data place; `None` elsewhere.
@@ -408,7 +408,7 @@ fn covering_bytes(alloc: Global, laid: &Laid, place: u64) -> Result<Option<Vec<u
 {
     let nodes = laid.nodes();
     let root = nodes.len() - 1;
-    let (kept, _visits) = needed_nodes(alloc, Counted::new(nodes), root)?;
+    let (kept, _visits) = needed_nodes(alloc, CountedNodes::new(nodes), root)?;
     let sets = sets_of(alloc, &kept)?;
     if !has_byte(set_at(&sets, root), place) {
         return Ok(None);

@@ -2,7 +2,7 @@
 
 ghost use Rattle.std.specs.Prelude.{◌≡◌, ◌≢◌, ◌<◌, ◌≤◌, All, ℕ, MatchBool, length, true};
 ghost use Rattle.abi_tree.specs.Placed.{is_flagged};
-ghost use Rattle.abi_tree.specs.Nodes.{arms_in, encoding_of, own_fields, parts_at, placed_at, types_in};
+ghost use Rattle.abi_tree.specs.Nodes.{tagged_variants_in, encoding_of, own_fields, parts_at, placed_at, types_in};
 ghost use Rattle.abi_tree.specs.Well.{all_at, are_nodes};
 ghost use Rattle.abi_tree.specs.Tag.{IsSpanned, Names, NamesByNiche, NamesDirectly, niche_number};
 
@@ -12,7 +12,7 @@ use abi_base::Size;
 use abi_index::{FieldIdx, Idx, VariantIdx};
 use abi_scalar::{LayoutData, TagEncoding, Variants};
 
-/// How a layout's tag tells variants apart.
+/// How a layout's tag distinguishes variants.
 pub(crate) fn encoding_of(layout: &LayoutData<FieldIdx, VariantIdx>) -> TagEncoding<VariantIdx>
     ensures { result ≡ encoding_of layout.now.variants }
 {
@@ -65,8 +65,8 @@ fn is_named_directly(
     requires width { width ≤ 16 }
     requires index { i < length variants.now }
     ensures { MatchBool result
-        (NamesDirectly width (arms_in (types_in nodes.now) variants.now) tag i)
-        (NamesDirectly width (arms_in (types_in nodes.now) variants.now) tag i → ⊥) }
+        (NamesDirectly width (tagged_variants_in (types_in nodes.now) variants.now) tag i)
+        (NamesDirectly width (tagged_variants_in (types_in nodes.now) variants.now) tag i → ⊥) }
 {
     let (number, variant) = variants[i];
     width.truncate(number) == tag && !is_flagged(nodes, variant)
@@ -81,20 +81,30 @@ pub(crate) fn niche_number(width: Size, first: usize, start: u128, i: usize) -> 
     width.truncate(start.wrapping_add((i - first) as u128))
 }
 
-/// Whether the number is that of some variant of the span, other than the untagged one.
-fn is_of_spanned(
-    width: Size,
+/// Which variants a niche names: those from the first to the last but the untagged one, the first by the number `start`.
+#[derive(Clone, Copy)]
+struct NicheSpan {
     untagged: usize,
     first: usize,
     last: usize,
     start: u128,
-    tag: u128,
-) -> bool
+}
+
+/// Whether the number is that of some variant of the span, other than the untagged one.
+fn is_of_spanned(width: Size, span: NicheSpan, tag: u128) -> bool
     requires width { width ≤ 16 }
     ensures { MatchBool result
-        ((i : ℕ) × IsSpanned untagged first last i × (tag ≡ niche_number width first start i))
-        ((i : ℕ) → IsSpanned untagged first last i → tag ≢ niche_number width first start i) }
+        ((i : ℕ) × IsSpanned span.untagged span.first span.last i
+        × (tag ≡ niche_number width span.first span.start i))
+        ((i : ℕ) → IsSpanned span.untagged span.first span.last i →
+        tag ≢ niche_number width span.first span.start i) }
 {
+    let NicheSpan {
+        untagged,
+        first,
+        last,
+        start,
+    } = span;
     for i in first..last {
         if i != untagged && tag == niche_number(width, first, start, i) {
             return true;
@@ -108,22 +118,20 @@ fn is_of_spanned(
 }
 
 /// Whether the number of a tag of this width names the variant by a niche.
-fn is_named_by_niche(
-    width: Size,
-    untagged: usize,
-    span: (usize, usize),
-    start: u128,
-    i: usize,
-    tag: u128,
-) -> bool
+fn is_named_by_niche(width: Size, span: NicheSpan, i: usize, tag: u128) -> bool
     requires width { width ≤ 16 }
     ensures { MatchBool result
-        (NamesByNiche width untagged span.0 span.1 start tag i)
-        (NamesByNiche width untagged span.0 span.1 start tag i → ⊥) }
+        (NamesByNiche width span.untagged span.first span.last span.start tag i)
+        (NamesByNiche width span.untagged span.first span.last span.start tag i → ⊥) }
 {
-    let (first, last) = span;
+    let NicheSpan {
+        untagged,
+        first,
+        last,
+        start,
+    } = span;
     if i == untagged {
-        !is_of_spanned(width, untagged, first, last, start, tag)
+        !is_of_spanned(width, span, tag)
     } else {
         first <= i && i <= last && tag == niche_number(width, first, start, i)
     }
@@ -143,8 +151,8 @@ pub(crate) fn is_named(
     requires width { width ≤ 16 }
     requires index { i < length variants.now }
     ensures { MatchBool result
-        (Names encoding.now width (arms_in (types_in nodes.now) variants.now) tag i)
-        (Names encoding.now width (arms_in (types_in nodes.now) variants.now) tag i → ⊥) }
+        (Names encoding.now width (tagged_variants_in (types_in nodes.now) variants.now) tag i)
+        (Names encoding.now width (tagged_variants_in (types_in nodes.now) variants.now) tag i → ⊥) }
 {
     match encoding {
         TagEncoding::Direct => is_named_directly(nodes, width, variants, i, tag),
@@ -152,16 +160,14 @@ pub(crate) fn is_named(
             untagged_variant,
             niche_variants,
             niche_start,
-        } => is_named_by_niche(
-            width,
-            untagged_variant.as_usize(),
-            (
-                niche_variants.start.as_usize(),
-                niche_variants.last.as_usize(),
-            ),
-            *niche_start,
-            i,
-            tag,
-        ),
+        } => {
+            let span = NicheSpan {
+                untagged: untagged_variant.as_usize(),
+                first: niche_variants.start.as_usize(),
+                last: niche_variants.last.as_usize(),
+                start: *niche_start,
+            };
+            is_named_by_niche(width, span, i, tag)
+        }
     }
 }

@@ -11,10 +11,10 @@ ghost use Rattle.abi_tree.specs.declared.mark.Mark.{Mark};
 ghost use Rattle.abi_tree.specs.Placed.{Placed, layout_of, size_of, tagged};
 ghost use Rattle.abi_tree.specs.Places.{is_data_place};
 ghost use Rattle.abi_tree.specs.Tag.{Names};
-ghost use Rattle.abi_tree.specs.Holding.{HoldArm, HoldEach, HoldParts, Holds, IsAt, tag_at};
-ghost use Rattle.abi_tree.specs.Nodes.{arms_in, encoding_of, variant_left, own_fields, parts_at, placed_at, state_tag_offset, states_in, tag_offset, types_in};
+ghost use Rattle.abi_tree.specs.Holding.{HoldTaggedVariant, HoldEach, HoldParts, Holds, IsAt, tag_at};
+ghost use Rattle.abi_tree.specs.Nodes.{tagged_variants_in, encoding_of, variant_left, own_fields, parts_at, placed_at, state_tag_offset, states_in, tag_offset, types_in};
 ghost use Rattle.abi_tree.specs.Well.{all_at};
-ghost use Rattle.abi_tree.specs.Room.{arms_have_room, has_room, have_room};
+ghost use Rattle.abi_tree.specs.Room.{tagged_variants_have_room, has_room, have_room};
 ghost use Rattle.abi_tree.specs.Widths.{is_narrow};
 ghost use Rattle.abi_scalar.specs.Scalar.{IsNumberOf};
 ghost use Rattle.abi_index.specs.RangeSet.{AreMaximalRuns, is_in_ranges};
@@ -22,14 +22,14 @@ ghost use Rattle.abi_tree.specs.Laid.{endian_of, placed_of};
 ghost use Rattle.abi_tree.specs.declared.value.Value.{Num, List, Variant};
 ghost use Rattle.abi_tree.specs.Reading.{Finds, FindsEach, FindsNamed, FindsNumber, HoldsTwo, IsList, IsNamedIn, KeepsValues};
 
-use crate::counted::Counted;
+use crate::counted::CountedNodes;
 use crate::laid::Laid;
 use crate::node::{Shape, offsets, state_tag_offset, tag_offset};
 use crate::runs_of::data_places;
 use crate::value::Value;
 use crate::value::named::{encoding_of, is_named, own_parts};
 use crate::value::number::{number_in, part_of};
-use crate::value::walk::Walk;
+use crate::value::walk::ValueWalk;
 use abi_base::{Endian, Size};
 use abi_index::{FieldIdx, Idx, VariantIdx};
 use abi_scalar::{LayoutData, Scalar, TagEncoding, Variants};
@@ -59,7 +59,7 @@ fn scalar_number(scalar: &Scalar, order: Endian, bytes: &[u8]) -> Option<u128>
 }
 
 /// The number that these bytes hold as those of a node, where it is a scalar.
-fn read_number(walk: Walk<'_>, node: usize, bytes: &[u8]) -> Option<u128>
+fn read_number(walk: ValueWalk<'_>, node: usize, bytes: &[u8]) -> Option<u128>
     requires there { node < length walk.nodes.now }
     ensures { FindsNumber (λ n.
         Holds walk.entry.order (placed_at walk.entry.nodes.now node) bytes.now (number n)) result }
@@ -76,7 +76,7 @@ fn read_number(walk: Walk<'_>, node: usize, bytes: &[u8]) -> Option<u128>
 }
 
 /// The number that a scalar at the offset in these bytes holds.
-fn read_number_at(walk: Walk<'_>, node: usize, offset: u64, bytes: &[u8]) -> Option<u128>
+fn read_number_at(walk: ValueWalk<'_>, node: usize, offset: u64, bytes: &[u8]) -> Option<u128>
     requires there { node < length walk.nodes.now }
     ensures { FindsNumber (λ n. IsAt offset (size_of (placed_at walk.entry.nodes.now node))
         (λ slice. Holds walk.entry.order (placed_at walk.entry.nodes.now node) slice (number n))
@@ -88,7 +88,7 @@ fn read_number_at(walk: Walk<'_>, node: usize, offset: u64, bytes: &[u8]) -> Opt
 
 /// The two numbers at the first two offsets.
 fn read_pair(
-    walk: Walk<'_>,
+    walk: ValueWalk<'_>,
     offsets: &[Size],
     first: usize,
     second: usize,
@@ -128,14 +128,14 @@ fn read_places(alloc: Global, runs: &[(u64, u64)], bytes: &[u8]) -> Result<Vec<u
 }
 
 /// A union's data bytes.
-fn read_union(walk: Walk<'_>, node: usize, bytes: &[u8]) -> Result<Vec<u8>, AllocError>
+fn read_union(walk: ValueWalk<'_>, node: usize, bytes: &[u8]) -> Result<Vec<u8>, AllocError>
     requires there { node < length walk.nodes.now }
     requires room { has_room (placed_at walk.nodes.now node) ≡ true }
     requires size { length bytes.now ≡ size_of (placed_at walk.nodes.now node) }
     ensures { IfOk result (λ content. content.items
         ≡ picked_bytes (is_data_place (placed_at walk.entry.nodes.now node)) 0 bytes.now) }
 {
-    let places = data_places(walk.alloc, Counted::new(walk.nodes), node)?;
+    let places = data_places(walk.alloc, CountedNodes::new(walk.nodes), node)?;
     read_places(walk.alloc, places.as_slice(), bytes)
 }
 
@@ -200,7 +200,7 @@ fn index_left(layout: &LayoutData<FieldIdx, VariantIdx>) -> usize
 /// The value that these bytes hold as those of a node.
 #[cycle(read)]
 pub(crate) fn read_node(
-    walk: Walk<'_>,
+    walk: ValueWalk<'_>,
     node: usize,
     bytes: &[u8],
 ) -> Result<Option<Value>, AllocError>
@@ -254,7 +254,7 @@ pub(crate) fn read_node(
 /// The value that a node at the offset in these bytes holds.
 #[cycle(read)]
 fn read_part(
-    walk: Walk<'_>,
+    walk: ValueWalk<'_>,
     node: usize,
     offset: u64,
     bytes: &[u8],
@@ -274,7 +274,7 @@ fn read_part(
 /// The values of `count` elements, one after another.
 #[cycle(read)]
 fn read_elements(
-    walk: Walk<'_>,
+    walk: ValueWalk<'_>,
     element: usize,
     count: u64,
     bytes: &[u8],
@@ -300,7 +300,7 @@ fn read_elements(
 /// The values of fields at these offsets, each as a node before this one.
 #[cycle(read)]
 fn read_parts(
-    walk: Walk<'_>,
+    walk: ValueWalk<'_>,
     node: usize,
     offsets: &[Size],
     children: &[usize],
@@ -327,7 +327,7 @@ fn read_parts(
 /// The variant that the tag names, and the values of its fields.
 #[cycle(read)]
 fn read_named(
-    walk: Walk<'_>,
+    walk: ValueWalk<'_>,
     node: usize,
     encoding: &TagEncoding<VariantIdx>,
     tag: usize,
@@ -339,17 +339,17 @@ fn read_named(
     requires first { tag < node }
     requires before { All (λ v. v.1 < node) variants.now }
     requires width { size_of (placed_at walk.nodes.now tag) ≤ 16 }
-    requires room { arms_have_room (length bytes.now)
-        (arms_in (types_in walk.nodes.now) variants.now) ≡ true }
+    requires room { tagged_variants_have_room (length bytes.now)
+        (tagged_variants_in (types_in walk.nodes.now) variants.now) ≡ true }
     ensures { IfOk result (FindsNamed (IsNamedIn walk.entry.order bytes.now encoding.now offset
         (placed_at walk.entry.nodes.now tag)
-        (arms_in (types_in walk.entry.nodes.now) variants.now))) }
+        (tagged_variants_in (types_in walk.entry.nodes.now) variants.now))) }
 {
     let width = walk.nodes.layout(tag).size;
     match part_of(bytes, offset, width.bytes()) {
         Some(part) => {
             let number = number_in(walk.order, part);
-            read_arm(walk, node, encoding, width, number, variants, bytes)
+            read_tagged_variant(walk, node, encoding, width, number, variants, bytes)
         }
         None => Ok(None),
     }
@@ -357,8 +357,8 @@ fn read_named(
 
 /// The variant that the number of a tag of this width names, and the values of its fields.
 #[cycle(read)]
-fn read_arm(
-    walk: Walk<'_>,
+fn read_tagged_variant(
+    walk: ValueWalk<'_>,
     node: usize,
     encoding: &TagEncoding<VariantIdx>,
     width: Size,
@@ -369,11 +369,11 @@ fn read_arm(
     requires there { node < length walk.nodes.now }
     requires before { All (λ v. v.1 < node) variants.now }
     requires width { width ≤ 16 }
-    requires room { arms_have_room (length bytes.now)
-        (arms_in (types_in walk.nodes.now) variants.now) ≡ true }
+    requires room { tagged_variants_have_room (length bytes.now)
+        (tagged_variants_in (types_in walk.nodes.now) variants.now) ≡ true }
     ensures { IfOk result (FindsNamed (λ i vs. Names encoding.now width
-        (arms_in (types_in walk.entry.nodes.now) variants.now) tag i × HoldArm walk.entry.order
-        (arms_in (types_in walk.entry.nodes.now) variants.now) i bytes.now vs)) }
+        (tagged_variants_in (types_in walk.entry.nodes.now) variants.now) tag i × HoldTaggedVariant walk.entry.order
+        (tagged_variants_in (types_in walk.entry.nodes.now) variants.now) i bytes.now vs)) }
 {
     for i in 0..variants.len() {
         if is_named(walk.nodes, encoding, width, variants, i, tag) {
@@ -387,7 +387,11 @@ fn read_arm(
 
 /// The values of the fields of a variant, which has a node of its own.
 #[cycle(read)]
-fn read_own(walk: Walk<'_>, variant: usize, bytes: &[u8]) -> Result<Option<Vec<Value>>, AllocError>
+fn read_own(
+    walk: ValueWalk<'_>,
+    variant: usize,
+    bytes: &[u8],
+) -> Result<Option<Vec<Value>>, AllocError>
     requires there { variant < length walk.nodes.now }
     requires room { have_room (length bytes.now)
         (own_fields (placed_at walk.nodes.now variant)) ≡ true }
@@ -401,7 +405,7 @@ fn read_own(walk: Walk<'_>, variant: usize, bytes: &[u8]) -> Result<Option<Vec<V
 /// The variant that the tag beside these variants names, and the values of its fields.
 #[cycle(read)]
 fn read_variant(
-    walk: Walk<'_>,
+    walk: ValueWalk<'_>,
     node: usize,
     layout: &LayoutData<FieldIdx, VariantIdx>,
     tag: usize,
@@ -413,12 +417,12 @@ fn read_variant(
     requires before { All (λ v. v.1 < node) variants.now }
     requires width { size_of (placed_at walk.nodes.now tag) ≤ 16 }
     requires size { length bytes.now ≡ layout.now.size }
-    requires room { arms_have_room layout.now.size
-        (arms_in (types_in walk.nodes.now) variants.now) ≡ true }
+    requires room { tagged_variants_have_room layout.now.size
+        (tagged_variants_in (types_in walk.nodes.now) variants.now) ≡ true }
     ensures { IfOk result (λ found. (mark : Mark) →
         Finds (Holds walk.entry.order (tagged layout.now mark (tag_offset layout.now)
         (placed_at walk.entry.nodes.now tag) (encoding_of layout.now.variants)
-        (arms_in (types_in walk.entry.nodes.now) variants.now)) bytes.now) found) }
+        (tagged_variants_in (types_in walk.entry.nodes.now) variants.now)) bytes.now) found) }
 {
     let encoding = encoding_of(layout);
     let offset = tag_offset(layout);
@@ -429,7 +433,7 @@ fn read_variant(
 /// The state that the tag names, the values of the prefix fields, and those of the state's locals.
 #[cycle(read)]
 fn read_state(
-    walk: Walk<'_>,
+    walk: ValueWalk<'_>,
     node: usize,
     layout: &LayoutData<FieldIdx, VariantIdx>,
     prefix: &[usize],
@@ -480,7 +484,7 @@ pub fn read_value(alloc: Global, laid: &Laid, bytes: &[u8]) -> Result<Option<Val
         Holds (endian_of laid.now) (placed_of laid.now) bytes.now other → other ≡ value_of v)) }
 {
     let nodes = laid.nodes();
-    let walk = Walk {
+    let walk = ValueWalk {
         alloc,
         order: laid.endian(),
         nodes,

@@ -12,7 +12,7 @@ use std::alloc::Global;
 /// What a walk over nodes hands on from node to node: where memory comes from, the order of a number's bytes, and the
 /// nodes.
 #[derive(Clone, Copy)]
-pub(crate) struct Walk<'a> {
+pub(crate) struct ValueWalk<'a> {
     pub(crate) alloc: Global,
     pub(crate) order: Endian,
     pub(crate) nodes: &'a Nodes,

@@ -14,16 +14,16 @@ ghost use Rattle.abi_tree.specs.Places.{is_data_place};
 ghost use Rattle.abi_scalar.specs.Shape.{listed_offsets};
 ghost use Rattle.abi_tree.specs.Tag.{Names};
 ghost use Rattle.abi_tree.specs.Holding.{Holds};
-ghost use Rattle.abi_tree.specs.Nodes.{arms_in, encoding_of, own_fields, parts_at, placed_at, states_in, tag_offset, types_in};
+ghost use Rattle.abi_tree.specs.Nodes.{tagged_variants_in, encoding_of, own_fields, parts_at, placed_at, states_in, tag_offset, types_in};
 ghost use Rattle.abi_tree.specs.Well.{all_at};
-ghost use Rattle.abi_tree.specs.Room.{arms_have_room, has_room, have_room};
+ghost use Rattle.abi_tree.specs.Room.{tagged_variants_have_room, has_room, have_room};
 ghost use Rattle.abi_index.specs.RangeSet.{AreMaximalRuns, is_in_ranges};
-ghost use Rattle.abi_tree.specs.Reading.{KeepsValues, TellsHeld};
-ghost use Rattle.abi_tree.specs.Covering.{is_covered, is_told};
-ghost use Rattle.abi_tree.specs.Putting.{PutsArm, PutsEach, PutsParts, PutsTag, PutsValue};
+ghost use Rattle.abi_tree.specs.Reading.{KeepsValues, AnswersHeld};
+ghost use Rattle.abi_tree.specs.Covering.{is_covered, is_tagged};
+ghost use Rattle.abi_tree.specs.Putting.{PutsTaggedVariant, PutsEach, PutsParts, PutsTag, PutsValue};
 ghost use Rattle.abi_tree.specs.Writing.{IsPutOver};
 
-use crate::counted::Counted;
+use crate::counted::CountedNodes;
 use crate::laid::Laid;
 use crate::node::{Shape, offsets, state_tag_offset, tag_offset};
 use crate::runs_of::data_places;
@@ -32,7 +32,7 @@ use crate::value::error::ValueError;
 use crate::value::named::{encoding_of, niche_number, own_parts};
 use crate::value::read::read_node;
 use crate::value::same::is_same;
-use crate::value::walk::Walk;
+use crate::value::walk::ValueWalk;
 use abi_base::{Endian, Size};
 use abi_index::{FieldIdx, Idx, VariantIdx};
 use abi_scalar::{LayoutData, TagEncoding};
@@ -86,57 +86,57 @@ fn put_places(runs: &[(u64, u64)], content: &[u8], at: usize, size: usize, bytes
     }
 }
 
-/// What a node names beside its layout where a tag tells its variants or states apart: the prefix fields, which an enum
+/// What a node names beside its layout where a tag distinguishes its variants or states: the prefix fields, which an enum
 /// has none of, the tag, and the variants or states, each with its number.
 #[derive(Clone, Copy)]
-pub(crate) struct Beside<'a> {
+pub(crate) struct TaggedNodes<'a> {
     pub(crate) prefix: &'a [usize],
     pub(crate) tag: usize,
-    pub(crate) arms: &'a [(u128, usize)],
+    pub(crate) tagged_variants: &'a [(u128, usize)],
 }
 
 /// What a node of this shape names beside its layout; nothing where there is no tag.
-pub(crate) fn arms_of(shape: &Shape) -> Beside<'_>
+pub(crate) fn tagged_nodes(shape: &Shape) -> TaggedNodes<'_>
     ensures tagged { (mark : Mark) (tag : ℕ) (all : _) → shape.now ≡ Shape.Tagged mark tag all →
-        (result.tag ≡ tag) × (result.arms.now ≡ all.items) }
+        (result.tag ≡ tag) × (result.tagged_variants.now ≡ all.items) }
     ensures states { (prefix : _) (tag : ℕ) (all : _) → shape.now ≡ Shape.States prefix tag all →
-        (result.prefix.now ≡ prefix.items) × (result.tag ≡ tag) × (result.arms.now ≡ all.items) }
+        (result.prefix.now ≡ prefix.items) × (result.tag ≡ tag) × (result.tagged_variants.now ≡ all.items) }
 {
     match shape {
         Shape::Tagged {
             mark: _,
             tag,
             variants,
-        } => Beside {
+        } => TaggedNodes {
             prefix: &[],
             tag: *tag,
-            arms: variants,
+            tagged_variants: variants,
         },
         Shape::States {
             prefix,
             tag,
             states,
-        } => Beside {
+        } => TaggedNodes {
             prefix,
             tag: *tag,
-            arms: states,
+            tagged_variants: states,
         },
-        _ => Beside {
+        _ => TaggedNodes {
             prefix: &[],
             tag: 0,
-            arms: &[],
+            tagged_variants: &[],
         },
     }
 }
 
-/// What a tag and the variants or states beside it are written by: how it tells them apart, its node, its offset in
+/// What a tag and the variants or states beside it are written by: how it distinguishes them, its node, its offset in
 /// bytes, the variants or states, each with its number, and how many bytes all of them lie in.
 #[derive(Clone, Copy)]
-pub(crate) struct Told<'a> {
+pub(crate) struct TagLayout<'a> {
     pub(crate) encoding: &'a TagEncoding<VariantIdx>,
     pub(crate) tag: usize,
     pub(crate) offset: u64,
-    pub(crate) arms: &'a [(u128, usize)],
+    pub(crate) tagged_variants: &'a [(u128, usize)],
     pub(crate) size: usize,
 }
 
@@ -150,7 +150,7 @@ fn tag_number(
     requires width { width ≤ 16 }
     requires index { i < length variants.now }
     ensures { (done : List Placed) (tag : ℕ) → Names encoding.now width
-        (arms_in done variants.now) tag i → is_told encoding.now i ≡ true → result ≡ tag }
+        (tagged_variants_in done variants.now) tag i → is_tagged encoding.now i ≡ true → result ≡ tag }
 {
     match encoding {
         TagEncoding::Direct => width.truncate(variants[i].0),
@@ -170,8 +170,8 @@ fn tag_number(
 }
 
 /// Whether the variant has a number of its own in the tag.
-fn is_told(encoding: &TagEncoding<VariantIdx>, i: usize) -> bool
-    ensures { result ≡ is_told encoding.now i }
+fn is_tagged(encoding: &TagEncoding<VariantIdx>, i: usize) -> bool
+    ensures { result ≡ is_tagged encoding.now i }
 {
     match encoding {
         TagEncoding::Direct => true,
@@ -185,26 +185,26 @@ fn is_told(encoding: &TagEncoding<VariantIdx>, i: usize) -> bool
 /// Puts the tag of a variant over the bytes at its offset, where the variant has a number of its own.
 pub(crate) fn write_tag(
     order: Endian,
-    told: Told<'_>,
+    tag_layout: TagLayout<'_>,
     width: Size,
     i: usize,
     at: usize,
     bytes: &mut [u8],
 )
     requires width { width ≤ 16 }
-    requires index { i < length told.arms.now }
-    requires fits { at + (told.offset + width) ≤ length bytes.old }
+    requires index { i < length tag_layout.tagged_variants.now }
+    requires fits { at + (tag_layout.offset + width) ≤ length bytes.old }
     ensures long { length bytes.new ≡ length bytes.old }
-    ensures put { PutsTag order at bytes.old bytes.new told.entry.encoding.now
-        told.entry.offset width told.entry.arms.now i }
+    ensures put { PutsTag order at bytes.old bytes.new tag_layout.entry.encoding.now
+        tag_layout.entry.offset width tag_layout.entry.tagged_variants.now i }
 {
-    if is_told(told.encoding, i) {
-        let number = tag_number(told.encoding, width, told.arms, i);
+    if is_tagged(tag_layout.encoding, i) {
+        let number = tag_number(tag_layout.encoding, width, tag_layout.tagged_variants, i);
         put_number(
             order,
             number,
             width.bytes() as usize,
-            at + told.offset as usize,
+            at + tag_layout.offset as usize,
             bytes,
         );
     }
@@ -212,7 +212,7 @@ pub(crate) fn write_tag(
 
 /// Puts a union's data bytes over those from a place on.
 fn write_union(
-    walk: Walk<'_>,
+    walk: ValueWalk<'_>,
     node: usize,
     content: &[u8],
     at: usize,
@@ -228,7 +228,7 @@ fn write_union(
         IsPutOver (is_data_place (placed_at walk.entry.nodes.now node)) at b bytes.old bytes.new) }
 {
     let size = walk.nodes.layout(node).size.bytes() as usize;
-    let places = data_places(walk.alloc, Counted::new(walk.nodes), node)?;
+    let places = data_places(walk.alloc, CountedNodes::new(walk.nodes), node)?;
     put_places(places.as_slice(), content, at, size, bytes);
     Ok(())
 }
@@ -237,7 +237,7 @@ fn write_union(
 /// nothing is said.
 #[cycle(write)]
 pub(crate) fn write_node(
-    walk: Walk<'_>,
+    walk: ValueWalk<'_>,
     node: usize,
     value: &Value,
     at: usize,
@@ -278,10 +278,26 @@ pub(crate) fn write_node(
             write_fields(walk, node, layout, children, values, at, bytes)
         }
         Shape::Tagged { .. } => {
-            write_variant(walk, node, layout, arms_of(here.shape), value, at, bytes)
+            write_variant(
+                walk,
+                node,
+                layout,
+                tagged_nodes(here.shape),
+                value,
+                at,
+                bytes,
+            )
         }
         Shape::States { .. } => {
-            write_state(walk, node, layout, arms_of(here.shape), value, at, bytes)
+            write_state(
+                walk,
+                node,
+                layout,
+                tagged_nodes(here.shape),
+                value,
+                at,
+                bytes,
+            )
         }
     }
 }
@@ -289,7 +305,7 @@ pub(crate) fn write_node(
 /// Puts the values of `count` elements over their bytes, one after another.
 #[cycle(write)]
 fn write_elements(
-    walk: Walk<'_>,
+    walk: ValueWalk<'_>,
     element: usize,
     count: u64,
     values: &[Value],
@@ -315,7 +331,7 @@ fn write_elements(
 /// which stands behind theirs, and how many bytes they lie in serve the contract alone.
 #[cycle(write)]
 fn write_parts(
-    walk: Walk<'_>,
+    walk: ValueWalk<'_>,
     node: usize,
     parts: (&[Size], &[usize]),
     values: &[Value],
@@ -344,7 +360,7 @@ fn write_parts(
 /// Puts the values of the fields of a node, which has this layout, over their bytes.
 #[cycle(write)]
 fn write_fields(
-    walk: Walk<'_>,
+    walk: ValueWalk<'_>,
     node: usize,
     layout: &LayoutData<FieldIdx, VariantIdx>,
     children: &[usize],
@@ -370,48 +386,48 @@ fn write_fields(
 /// Puts a variant over the bytes of a node that has this layout, a tag and variants beside it.
 #[cycle(write)]
 fn write_variant(
-    walk: Walk<'_>,
+    walk: ValueWalk<'_>,
     node: usize,
     layout: &LayoutData<FieldIdx, VariantIdx>,
-    beside: Beside<'_>,
+    beside: TaggedNodes<'_>,
     value: &Value,
     at: usize,
     bytes: &mut [u8],
 ) -> Result<(), AllocError>
     requires there { node < length walk.nodes.now }
     requires first { beside.tag < node }
-    requires before { All (λ v. v.1 < node) beside.arms.now }
+    requires before { All (λ v. v.1 < node) beside.tagged_variants.now }
     requires width { size_of (placed_at walk.nodes.now beside.tag) ≤ 16 }
     requires inside { tag_offset layout.now + size_of (placed_at walk.nodes.now beside.tag)
         ≤ layout.now.size }
-    requires room { arms_have_room layout.now.size
-        (arms_in (types_in walk.nodes.now) beside.arms.now) ≡ true }
+    requires room { tagged_variants_have_room layout.now.size
+        (tagged_variants_in (types_in walk.nodes.now) beside.tagged_variants.now) ≡ true }
     requires fits { at + layout.now.size ≤ length bytes.old }
     ensures long { length bytes.new ≡ length bytes.old }
     ensures put { OnOk result ((mark : Mark) → PutsValue walk.entry.order at bytes.old bytes.new
         (tagged layout.now mark (tag_offset layout.now)
         (placed_at walk.entry.nodes.now beside.entry.tag) (encoding_of layout.now.variants)
-        (arms_in (types_in walk.entry.nodes.now) beside.entry.arms.now)) (value_of value.now)) }
+        (tagged_variants_in (types_in walk.entry.nodes.now) beside.entry.tagged_variants.now)) (value_of value.now)) }
 {
     let encoding = encoding_of(layout);
-    let told = Told {
+    let tag_layout = TagLayout {
         encoding: &encoding,
         tag: beside.tag,
         offset: tag_offset(layout),
-        arms: beside.arms,
+        tagged_variants: beside.tagged_variants,
         size: layout.size.bytes() as usize,
     };
     let (index, values) = value.variant();
-    write_arm(walk, node, told, index, values, at, bytes)
+    write_tagged_variant(walk, node, tag_layout, index, values, at, bytes)
 }
 
 /// Puts a state over the bytes of a node that has this layout, prefix fields, a tag and states beside it.
 #[cycle(write)]
 fn write_state(
-    walk: Walk<'_>,
+    walk: ValueWalk<'_>,
     node: usize,
     layout: &LayoutData<FieldIdx, VariantIdx>,
-    beside: Beside<'_>,
+    beside: TaggedNodes<'_>,
     value: &Value,
     at: usize,
     bytes: &mut [u8],
@@ -419,66 +435,73 @@ fn write_state(
     requires there { node < length walk.nodes.now }
     requires fields { All (λ child. child < node) beside.prefix.now }
     requires first { beside.tag < node }
-    requires before { All (λ v. v.1 < node) beside.arms.now }
+    requires before { All (λ v. v.1 < node) beside.tagged_variants.now }
     requires width { size_of (placed_at walk.nodes.now beside.tag) ≤ 16 }
     requires room { has_room (states_in (types_in walk.nodes.now) layout.now beside.prefix.now
-        beside.tag beside.arms.now) ≡ true }
+        beside.tag beside.tagged_variants.now) ≡ true }
     requires fits { at + layout.now.size ≤ length bytes.old }
     ensures long { length bytes.new ≡ length bytes.old }
     ensures put { OnOk result (PutsValue walk.entry.order at bytes.old bytes.new
         (states_in (types_in walk.entry.nodes.now) layout.now beside.entry.prefix.now
-        beside.entry.tag beside.entry.arms.now) (value_of value.now)) }
+        beside.entry.tag beside.entry.tagged_variants.now) (value_of value.now)) }
 {
     let direct = TagEncoding::Direct;
-    let told = Told {
+    let tag_layout = TagLayout {
         encoding: &direct,
         tag: beside.tag,
         offset: state_tag_offset(layout, beside.prefix.len()),
-        arms: beside.arms,
+        tagged_variants: beside.tagged_variants,
         size: layout.size.bytes() as usize,
     };
     let (state, shared, locals) = value.state();
     write_fields(walk, node, layout, beside.prefix, shared, at, bytes)?;
-    write_arm(walk, node, told, state, locals, at, bytes)
+    write_tagged_variant(walk, node, tag_layout, state, locals, at, bytes)
 }
 
 /// Puts the tag of a variant, and the values of its fields, over their bytes.
 #[cycle(write)]
-fn write_arm(
-    walk: Walk<'_>,
+fn write_tagged_variant(
+    walk: ValueWalk<'_>,
     node: usize,
-    told: Told<'_>,
+    tag_layout: TagLayout<'_>,
     index: usize,
     values: &[Value],
     at: usize,
     bytes: &mut [u8],
 ) -> Result<(), AllocError>
     requires there { node < length walk.nodes.now }
-    requires first { told.tag < node }
-    requires before { All (λ v. v.1 < node) told.arms.now }
-    requires width { size_of (placed_at walk.nodes.now told.tag) ≤ 16 }
-    requires inside { told.offset + size_of (placed_at walk.nodes.now told.tag) ≤ told.size }
-    requires room { arms_have_room told.size
-        (arms_in (types_in walk.nodes.now) told.arms.now) ≡ true }
-    requires fits { at + told.size ≤ length bytes.old }
+    requires first { tag_layout.tag < node }
+    requires before { All (λ v. v.1 < node) tag_layout.tagged_variants.now }
+    requires width { size_of (placed_at walk.nodes.now tag_layout.tag) ≤ 16 }
+    requires inside { tag_layout.offset + size_of (placed_at walk.nodes.now tag_layout.tag) ≤ tag_layout.size }
+    requires room { tagged_variants_have_room tag_layout.size
+        (tagged_variants_in (types_in walk.nodes.now) tag_layout.tagged_variants.now) ≡ true }
+    requires fits { at + tag_layout.size ≤ length bytes.old }
     ensures long { length bytes.new ≡ length bytes.old }
-    ensures put { OnOk result (PutsArm walk.entry.order at bytes.old bytes.new
-        told.entry.encoding.now told.entry.offset (placed_at walk.entry.nodes.now told.entry.tag)
-        (arms_in (types_in walk.entry.nodes.now) told.entry.arms.now) index
+    ensures put { OnOk result (PutsTaggedVariant walk.entry.order at bytes.old bytes.new
+        tag_layout.entry.encoding.now tag_layout.entry.offset (placed_at walk.entry.nodes.now tag_layout.entry.tag)
+        (tagged_variants_in (types_in walk.entry.nodes.now) tag_layout.entry.tagged_variants.now) index
         (values_of values.now)) }
 {
-    if index >= told.arms.len() {
+    if index >= tag_layout.tagged_variants.len() {
         return Ok(());
     }
-    let width = walk.nodes.layout(told.tag).size;
-    write_tag(walk.order, told, width, index, at, bytes);
-    write_own(walk, told.arms[index].1, values, at, told.size, bytes)
+    let width = walk.nodes.layout(tag_layout.tag).size;
+    write_tag(walk.order, tag_layout, width, index, at, bytes);
+    write_own(
+        walk,
+        tag_layout.tagged_variants[index].1,
+        values,
+        at,
+        tag_layout.size,
+        bytes,
+    )
 }
 
 /// Puts the values of the fields of a variant, which has a node of its own, over their bytes.
 #[cycle(write)]
 fn write_own(
-    walk: Walk<'_>,
+    walk: ValueWalk<'_>,
     variant: usize,
     values: &[Value],
     at: usize,
@@ -497,11 +520,11 @@ fn write_own(
 }
 
 /// Whether these bytes hold the value as those of a node, where they hold no more than one.
-fn holds(walk: Walk<'_>, node: usize, value: &Value, bytes: &[u8]) -> Result<bool, AllocError>
+fn holds(walk: ValueWalk<'_>, node: usize, value: &Value, bytes: &[u8]) -> Result<bool, AllocError>
     requires there { node < length walk.nodes.now }
     requires room { has_room (placed_at walk.nodes.now node) ≡ true }
     ensures bytes { AreBytes bytes.now }
-    ensures held { IfOk result (TellsHeld walk.entry.order
+    ensures held { IfOk result (AnswersHeld walk.entry.order
         (placed_at walk.entry.nodes.now node) bytes.now (value_of value.now)) }
 {
     match read_node(walk, node, bytes)? {
@@ -535,7 +558,7 @@ pub fn write_value(alloc: Global, laid: &Laid, value: &Value) -> Result<Vec<u8>,
     let nodes = laid.nodes();
     let root = nodes.len() - 1;
     let order = laid.endian();
-    let walk = Walk {
+    let walk = ValueWalk {
         alloc,
         order,
         nodes,

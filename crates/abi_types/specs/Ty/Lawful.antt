@@ -16,7 +16,7 @@ CanBeNamed (Array stride count) field = ((i : ℕ) → i < count → field i ≡
 CanBeNamed fields field = field_count fields ≤ 0xFFFF_FF01
 
 -- What a layout and the marks beside it keep of the type's fields and variants.
-pub record IsLawfulNode (layout : Layout) (marks : Marks) (field variant : ℕ → Typed) : Type 0 where
+pub record IsWellFormedNode (layout : Layout) (marks : Marks) (field variant : ℕ → Typed) : Type 0 where
   -- each field lies inside, at its offset
   pub inside : (i : ℕ) → i < field_count layout.fields → field_offset layout.fields i + (layout_in (field i)).size ≤ layout.size
   -- and so does each variant
@@ -26,19 +26,19 @@ pub record IsLawfulNode (layout : Layout) (marks : Marks) (field variant : ℕ �
   pub complex : marks.is_complex ≡ true → 0 < field_count layout.fields
 
 -- the laws hold of the type, of its fields and of its variants, and of all that is in them
-abbrev pub IsLawfulType : Typed → Type 0
-IsLawfulType (typed layout marks field variant) =
-    IsLawfulNode layout marks field variant × ((i : ℕ) → i < field_count layout.fields → IsLawfulType (field i))
-    × ((i : ℕ) → i < length (variants_of layout.variants) → IsLawfulType (variant i))
-IsLawfulType no_type = ⊥
+abbrev pub IsWellFormedType : Typed → Type 0
+IsWellFormedType (typed layout marks field variant) =
+    IsWellFormedNode layout marks field variant × ((i : ℕ) → i < field_count layout.fields → IsWellFormedType (field i))
+    × ((i : ℕ) → i < length (variants_of layout.variants) → IsWellFormedType (variant i))
+IsWellFormedType no_type = ⊥
 
--- the index names a variant: the one that there is, or one of those that a tag tells apart
+-- the index names a variant: the one that there is, or one of those that a tag distinguishes
 abbrev pub NamesVariant : Variants ℕ ℕ → (index : ℕ) → Type 0
 NamesVariant (Single only) i = i ≡ only
 NamesVariant (Multiple tag encoding at layouts) i = i < length layouts
 NamesVariant _ i = ⊥
 
--- how many types lie one in another: fewer at a variant that a tag tells apart, and no more at an only one
+-- how many types lie one in another: fewer at a variant that a tag distinguishes, and no more at an only one
 abbrev pub DepthFalls : Variants ℕ ℕ → (at_variant whole : ℕ) → Type 0
 DepthFalls (Multiple tag encoding at layouts) at_variant whole = at_variant < whole
 DepthFalls _ at_variant whole = at_variant ≤ whole

@@ -27,7 +27,7 @@ fields_cover size (Array stride count) field own k = nat_lt (k / stride) count &
 fields_cover size (Arbitrary offsets order) field own k =
     list_any (λ i. nat_le (field_offset (Arbitrary offsets order) i) k && own i (k - field_offset (Arbitrary offsets order) i)) (range_with_len 0 (length offsets))
 
--- some variant that a tag tells apart covers the byte
+-- some variant that a tag distinguishes covers the byte
 abbrev pub variants_cover : Variants ℕ ℕ → (own : (index k : ℕ) → Bool) → (k : ℕ) → Bool
 variants_cover (Multiple tag encoding at layouts) own k = list_any (λ v. own v k) (range_with_len 0 (length layouts))
 variants_cover _ own k = false

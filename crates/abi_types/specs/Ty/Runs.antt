@@ -18,25 +18,25 @@ first_cover t n k = list_any (λ i. moved_to (field_offset (layout_in t).fields 
 abbrev pub elements_cover : (element : Typed) → (stride count k : ℕ) → Bool
 elements_cover element stride count k = repeated stride count (covers_element (layout_in element) (is_place element)) k
 
--- the index is that of a variant, where a tag tells several apart
+-- the index is that of a variant, where a tag distinguishes several
 abbrev pub IsVariantIndex : Variants ℕ ℕ → (index : ℕ) → Type 0
 IsVariantIndex (Multiple tag encoding at layouts) i = i < length layouts
 IsVariantIndex _ i = ⊤
 
--- the index is that of one of several variants that a tag tells apart
+-- the index is that of one of several variants that a tag distinguishes
 abbrev pub IsVariantOfSeveral : Variants ℕ ℕ → (index : ℕ) → Type 0
 IsVariantOfSeveral (Multiple tag encoding at layouts) i = i < length layouts
 IsVariantOfSeveral _ i = ⊥
 
--- how many variants a tag tells apart
+-- how many variants a tag distinguishes
 abbrev pub variant_count : Variants ℕ ℕ → ℕ
 variant_count variants = length (variants_of variants)
 
--- a set for each of the first n variants that a tag tells apart: the bytes that this variant leaves unused
+-- a set for each of the first n variants that a tag distinguishes: the bytes that this variant leaves unused
 abbrev pub AreUnusedOf : Typed → (n : ℕ) → List (List (ℕ × ℕ)) → Type 0
 AreUnusedOf t n sets =
     (length sets ≡ n) × ((v k : ℕ) → v < n → is_in_ranges (get_or sets v []) k ≡ is_unused t v k)
 
--- a set for each variant that a tag tells apart
+-- a set for each variant that a tag distinguishes
 abbrev pub AreUnused : Typed → List (List (ℕ × ℕ)) → Type 0
 AreUnused t sets = AreUnusedOf t (variant_count (layout_in t).variants) sets

@@ -1,4 +1,4 @@
--- A type that is laid out, as handles tell of it.
+-- A type that is laid out, as handles show it.
 use Rattle.std.specs.Prelude.{ℕ, Bool, false, true, None, Option}
 use Rattle.abi_base.specs.declared.pointee.PointeeInfo.{PointeeInfo}
 use Rattle.abi_scalar.specs.declared.backend_repr.BackendRepr.TheVariants.{Memory}
@@ -25,7 +25,7 @@ pub record Marks : Type 0 where
   -- what stands behind the pointer at an offset
   pub pointee : (offset : ℕ) → Option PointeeInfo
 
--- A type: its layout, what it says of itself, its fields by index, and what it is at each variant that a tag tells apart; and
+-- A type: its layout, what it says of itself, its fields by index, and what it is at each variant that a tag distinguishes; and
 -- what stands at an index of no field and no variant.
 pub data Typed : Type 0 where
   typed : Layout → Marks → (field : (index : ℕ) → Typed) → (variant : (index : ℕ) → Typed) → Typed
@@ -47,7 +47,7 @@ no_layout = record {
   randomization_seed = 0;
 }
 
--- a type that tells nothing of itself
+-- a type that says nothing of itself
 abbrev pub no_marks : Marks
 no_marks = record {
   is_adt = false;
@@ -67,7 +67,7 @@ abbrev pub layout_in : Typed → Layout
 layout_in (typed layout marks field variant) = layout
 layout_in no_type = no_layout
 
--- what the type tells of itself
+-- what the type says of itself
 abbrev pub marks_of : Typed → Marks
 marks_of (typed layout marks field variant) = marks
 marks_of no_type = no_marks
@@ -82,7 +82,7 @@ abbrev pub variant_in : Typed → (index : ℕ) → Typed
 variant_in (typed layout marks field variant) i = variant i
 variant_in no_type i = no_type
 
--- the type at one of its variants: what it is there, and the type itself where no tag tells variants apart
+-- the type at one of its variants: what it is there, and the type itself where no tag distinguishes variants
 abbrev pub at_variant : Typed → (index : ℕ) → Typed
 at_variant t i = by (layout_in t).variants
   where

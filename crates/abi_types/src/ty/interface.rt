@@ -3,7 +3,7 @@
 ghost use Rattle.std.specs.Prelude.{◌≡◌, ℕ, ◌<◌};
 ghost use Rattle.abi_scalar.specs.Shape.{field_count};
 ghost use Rattle.abi_types.specs.Ty.Typed.{Typed, at_variant, field_in, layout_in, marks_of};
-ghost use Rattle.abi_types.specs.Ty.Lawful.{IsLawfulType, NamesVariant, DepthFalls};
+ghost use Rattle.abi_types.specs.Ty.Lawful.{IsWellFormedType, NamesVariant, DepthFalls};
 
 use crate::ty::layout::Layout;
 use abi_base::{PointeeInfo, Size};
@@ -40,10 +40,10 @@ impl<'a, Ty> TyAndLayout<'a, Ty> {
     }
 }
 
-/// What a type tells of itself, beside its layout: its fields and variants, each with its own layout, and marks.
+/// What a type says of itself, beside its layout: its fields and variants, each with its own layout, and marks.
 ///
-/// The laws speak of `this` alone and hold for every `cx`: all that is told has to be found from
-/// `this`, and nothing in `cx` alone. So a type carries what it tells, as interned types do: an index
+/// The laws speak of `this` alone and hold for every `cx`: all that is answered has to be found from
+/// `this`, and nothing in `cx` alone. So a type carries what it says, as interned types do: an index
 /// beside a reference to the table that it points into.
 ///
 /// An implementation proves its laws of each `this` of which `is_valid` holds. The type has the layout
@@ -51,7 +51,7 @@ impl<'a, Ty> TyAndLayout<'a, Ty> {
 /// array are all one type, each of at most as many bytes as the stride; fields that are no elements are
 /// at most 0xFFFF_FF01, as many as an index names. A complex number has a field. All of this holds of
 /// its fields and variants, too, and of theirs; the depth falls at each field, and at each variant that
-/// a tag tells apart.
+/// a tag distinguishes.
 pub trait TyAbiInterface<'a, C>: Sized + Debug + Display {
     ghost use Rattle.abi_types.specs.declared.ty.interface.TyAndLayout.{TyAndLayout};
 
@@ -61,10 +61,10 @@ pub trait TyAbiInterface<'a, C>: Sized + Debug + Display {
     /// At least as many as types lie one in another in it.
     ghost depth_of: { TyAndLayout Self → ℕ };
 
-    /// All that it tells.
+    /// All that it says.
     ghost typed_of: { TyAndLayout Self → Typed };
 
-    /// The type at one of its variants: the variant alone, without the tag, where a tag tells variants apart; and the
+    /// The type at one of its variants: the variant alone, without the tag, where a tag distinguishes variants; and the
     /// type itself where there is one variant.
     fn ty_and_layout_for_variant(
         this: TyAndLayout<'a, Self>,
@@ -140,22 +140,22 @@ pub trait TyAbiInterface<'a, C>: Sized + Debug + Display {
         requires { is_valid this }
         ensures { result ≡ (marks_of (typed_of this.entry)).is_passed_indirectly };
 
-    /// A number that falls at each field, and at each variant that a tag tells apart.
+    /// A number that falls at each field, and at each variant that a tag distinguishes.
     fn depth(this: TyAndLayout<'a, Self>) -> u64
         requires { is_valid this }
         ensures { result ≡ depth_of this.entry };
 
-    /// The layout that it tells is the one beside it.
+    /// The layout that it says is the one beside it.
     ghost layout_law: { (this : TyAndLayout Self) → is_valid this → layout_in (typed_of this) ≡ this.layout.0.now };
 
     /// Its fields and variants lie inside it, its elements are all one type and no greater than the
     /// stride, its other fields can be named by an index, and a complex number has a field; and so of
     /// all that is in it.
-    ghost lawful_law: { (this : TyAndLayout Self) → is_valid this → IsLawfulType (typed_of this) };
+    ghost lawful_law: { (this : TyAndLayout Self) → is_valid this → IsWellFormedType (typed_of this) };
 }
 
 impl<'a, Ty> TyAndLayout<'a, Ty> {
-    /// The type at one of its variants: the variant alone, without the tag, where a tag tells variants apart; and the
+    /// The type at one of its variants: the variant alone, without the tag, where a tag distinguishes variants; and the
     /// type itself where there is one variant.
     pub fn for_variant<C>(self, cx: &C, variant_index: VariantIdx) -> TyAndLayout<'a, Ty>
     where

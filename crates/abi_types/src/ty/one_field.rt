@@ -90,7 +90,7 @@ impl<'a, Ty> TyAndLayout<'a, Ty> {
     {
         let at = At::new(self, cx);
         let (i, field) = only_field_of(at, NoBytes::OfLeastAlign)?;
-        Some((i, field.alone()))
+        Some((i, field.as_ty_and_layout()))
     }
 
     /// The one field that has bytes, and its index; None where there is no such field, or several.
@@ -109,6 +109,6 @@ impl<'a, Ty> TyAndLayout<'a, Ty> {
     {
         let at = At::new(self, cx);
         let (i, field) = only_field_of(at, NoBytes::OfAnyAlign)?;
-        Some((i, field.alone()))
+        Some((i, field.as_ty_and_layout()))
     }
 }

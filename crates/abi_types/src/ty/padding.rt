@@ -71,7 +71,7 @@ fn unused_of<W: Walk>(
 }
 
 /// The bytes that some variant covers, and neither this one nor a field that all of them have.
-fn unused<W: Walk>(alloc: Global, this: W, variant: VariantIdx) -> Result<RangeSet, AllocError>
+fn unused_runs<W: Walk>(alloc: Global, this: W, variant: VariantIdx) -> Result<RangeSet, AllocError>
     requires valid { W.is_valid this }
     requires variant { IsVariantIndex (layout_in (W.typed_of this)).variants variant }
     ensures { IfOk result (λ set. (k : ℕ) →
@@ -116,7 +116,7 @@ fn unused_of_each<W: Walk>(
     Ok(IndexVec::from_raw(sets))
 }
 
-/// Of each variant that a tag tells apart the bytes that it leaves unused.
+/// Of each variant that a tag distinguishes the bytes that it leaves unused.
 fn each_unused<W: Walk>(
     alloc: Global,
     this: W,
@@ -168,7 +168,7 @@ impl<'a, Ty> TyAndLayout<'a, Ty> {
     }
 
     /// The bytes that decide nothing in a variant and do in another: those that some variant covers, and neither this
-    /// one nor a field that all of them have, as the tag. None where no tag tells variants apart; where one does, the
+    /// one nor a field that all of them have, as the tag. None where no tag distinguishes variants; where one does, the
     /// index has to be that of a variant. `AllocError` where memory is refused.
     pub fn variant_dependent_padding_ranges<C>(
         &self,
@@ -184,10 +184,10 @@ impl<'a, Ty> TyAndLayout<'a, Ty> {
         ensures { IfOk result (λ set. (k : ℕ) →
             is_in_ranges set k ≡ is_unused (Ty.typed_of self.now) variant_index k) }
     {
-        unused(alloc, At::new(self, cx), variant_index)
+        unused_runs(alloc, At::new(self, cx), variant_index)
     }
 
-    /// What `variant_dependent_padding_ranges` answers, of each variant that a tag tells apart, in one walk over the
+    /// What `variant_dependent_padding_ranges` answers, of each variant that a tag distinguishes, in one walk over the
     /// type; none where no tag does. `AllocError` where memory is refused.
     pub fn each_variant_dependent_padding_ranges<C>(
         &self,

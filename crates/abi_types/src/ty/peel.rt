@@ -44,7 +44,7 @@ impl<'a, Ty> TyAndLayout<'a, Ty> {
         ensures valid { Ty.is_valid result }
         ensures peeled { Ty.typed_of result ≡ peel (Ty.typed_of self.entry) }
     {
-        walk_peel(At::new(&self, cx)).alone()
+        walk_peel(At::new(&self, cx)).as_ty_and_layout()
     }
 
     /// Whether it is passed by a pointer where the calling convention isn't Rust's: what it is wrapped around is marked

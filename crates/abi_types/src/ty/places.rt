@@ -109,7 +109,7 @@ fn put_elements<W: Walk>(
     if stride == 0 {
         return all.add_set(&one, offset);
     }
-    let below = one.before(alloc, stride)?;
+    let below = one.prefix(alloc, stride)?;
     all.add_repeated(&below, stride, count, offset)
 }
 
@@ -141,7 +141,7 @@ pub(crate) fn places_of<W: Walk>(alloc: Global, this: W) -> Result<RangeSet, All
     runs.build(alloc)
 }
 
-/// Puts the runs of what the variants cover that a tag tells apart behind the others, moved on by an offset.
+/// Puts the runs of what the variants cover that a tag distinguishes behind the others, moved on by an offset.
 #[inline(always)]
 #[cycle(places)]
 #[tactic(auto, using(crate::proofs::PlacesLemmas::variant_fits, crate::proofs::PlacesLemmas::variant_falls))]

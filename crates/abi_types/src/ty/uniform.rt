@@ -69,7 +69,7 @@ fn uniform_parts<W: Walk>(this: W) -> Result<HomogeneousAggregate, Heterogeneous
     }
 }
 
-/// The register of a type's fields, and of its variants where a tag tells several apart, and where they end: each
+/// The register of a type's fields, and of its variants where a tag distinguishes several, and where they end: each
 /// variant begins where the fields end that all have.
 #[cycle(uniform)]
 fn run_all<W: Walk>(this: W) -> Result<(HomogeneousAggregate, u64), Heterogeneous>
@@ -91,7 +91,7 @@ fn run_all<W: Walk>(this: W) -> Result<(HomogeneousAggregate, u64), Heterogeneou
             for v in 0..variants.len() {
                 let variant = this.variant(VariantIdx::from_usize(v));
                 let (own, own_end) = run_fields(variant, shared_end)?;
-                found = found.beside(own)?;
+                found = found.merge(own)?;
                 end = end.max(own_end);
             }
             Ok((found, end))
@@ -150,7 +150,7 @@ fn run_listed<W: Walk>(
         if offsets[i].bytes() != end {
             return Err(Heterogeneous);
         }
-        found = found.beside(uniform(field)?)?;
+        found = found.merge(uniform(field)?)?;
         end += field.layout().size.bytes();
     }
     Ok((found, end))
@@ -171,7 +171,7 @@ fn run_union<W: Walk>(this: W, start: u64) -> Result<(HomogeneousAggregate, u64)
         if NoBytes::OfLeastAlign.holds(field.layout()) {
             continue;
         }
-        found = found.beside(uniform(field)?)?;
+        found = found.merge(uniform(field)?)?;
         end = end.max(field.layout().size.bytes());
     }
     Ok((found, end))
@@ -181,7 +181,7 @@ impl<'a, Ty> TyAndLayout<'a, Ty> {
     /// The register that all bytes of the type are passed in, one after another, where they are all passed in registers
     /// of one kind and size; `NoData` where it has no bytes. `Heterogeneous` where parts differ, where bytes of it
     /// belong to no part, and where it has no value, no known size, or is a vector whose length the machine decides.
-    /// The fields of a union, and variants that a tag tells apart, lie side by side, and each variant behind the tag.
+    /// The fields of a union, and variants that a tag distinguishes, lie side by side, and each variant behind the tag.
     pub fn homogeneous_aggregate<C>(&self, cx: &C) -> Result<HomogeneousAggregate, Heterogeneous>
     where
         Ty: TyAbiInterface<'a, C> + Copy,

@@ -7,7 +7,7 @@ use crate::ty::interface::{TyAbiInterface, TyAndLayout};
 use crate::ty::walk::{At, Walk};
 use abi_scalar::{FieldsShape, Variants};
 
-/// Whether it has a tag that tells variants apart, or holds such a type other than in a union.
+/// Whether it has a tag that distinguishes variants, or holds such a type other than in a union.
 #[tactic(auto, using(crate::proofs::VariantPaddingLemmas::padding_steps))]
 fn walk_variant_padding<W: Walk>(this: W) -> bool
     requires { W.is_valid this }
@@ -44,7 +44,7 @@ fn walk_variant_padding<W: Walk>(this: W) -> bool
 }
 
 impl<'a, Ty> TyAndLayout<'a, Ty> {
-    /// Whether it has a tag that tells variants apart, or a field, also in fields, that has one. What a union holds
+    /// Whether it has a tag that distinguishes variants, or a field, also in fields, that has one. What a union holds
     /// doesn't count.
     pub fn has_variant_dependent_padding<C>(&self, cx: &C) -> bool
     where

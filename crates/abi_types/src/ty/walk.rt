@@ -3,7 +3,7 @@
 ghost use Rattle.std.specs.Prelude.{◌≡◌, ℕ, ◌<◌};
 ghost use Rattle.abi_scalar.specs.Shape.{field_count};
 ghost use Rattle.abi_types.specs.Ty.Typed.{Typed, at_variant, field_in, layout_in, marks_of};
-ghost use Rattle.abi_types.specs.Ty.Lawful.{IsLawfulType, NamesVariant, DepthFalls};
+ghost use Rattle.abi_types.specs.Ty.Lawful.{IsWellFormedType, NamesVariant, DepthFalls};
 
 use crate::ty::interface::{TyAbiInterface, TyAndLayout};
 use crate::ty::layout::Layout;
@@ -16,7 +16,7 @@ pub(crate) trait Walk: Copy {
     /// The layout is one of the type.
     ghost is_valid: { Self → Type 0 };
 
-    /// A number that falls at each field, and at each variant that a tag tells apart.
+    /// A number that falls at each field, and at each variant that a tag distinguishes.
     ghost depth_of: { Self → ℕ };
 
     /// The type.
@@ -60,7 +60,7 @@ pub(crate) trait Walk: Copy {
         ensures { result ≡ (marks_of (typed_of self)).is_passed_indirectly };
 
     /// Its fields and variants lie inside it, and are those that its layout promises.
-    ghost lawful_law: { (this : Self) → is_valid this → IsLawfulType (typed_of this) };
+    ghost lawful_law: { (this : Self) → is_valid this → IsWellFormedType (typed_of this) };
 }
 
 /// A type, and what its questions are asked with.
@@ -86,7 +86,7 @@ impl<'a, 'c, Ty, C> At<'a, 'c, Ty, C> {
     }
 
     /// The type alone.
-    pub(crate) fn alone(self) -> TyAndLayout<'a, Ty>
+    pub(crate) fn as_ty_and_layout(self) -> TyAndLayout<'a, Ty>
         ensures { result ≡ record { ty = self.entry.ty; layout = self.entry.layout } }
     {
         TyAndLayout {
@@ -111,26 +111,26 @@ impl<'a, 'c, C, Ty: TyAbiInterface<'a, C> + Copy> Walk for At<'a, 'c, Ty, C> {
 
     fn field(self, i: usize) -> Self {
         let cx = self.cx;
-        let field = Ty::ty_and_layout_field(self.alone(), cx, i);
+        let field = Ty::ty_and_layout_field(self.as_ty_and_layout(), cx, i);
         At::new(&field, cx)
     }
 
     fn variant(self, index: VariantIdx) -> Self {
         let cx = self.cx;
-        let variant = Ty::ty_and_layout_for_variant(self.alone(), cx, index);
+        let variant = Ty::ty_and_layout_for_variant(self.as_ty_and_layout(), cx, index);
         At::new(&variant, cx)
     }
 
     fn is_transparent(self) -> bool {
-        Ty::is_transparent(self.alone())
+        Ty::is_transparent(self.as_ty_and_layout())
     }
 
     fn is_complex(self) -> bool {
         let cx = self.cx;
-        Ty::is_complex_number_lang_item(self.alone(), cx)
+        Ty::is_complex_number_lang_item(self.as_ty_and_layout(), cx)
     }
 
     fn is_passed_indirectly(self) -> bool {
-        Ty::is_pass_indirectly_in_non_rustic_abis_flag_set(self.alone())
+        Ty::is_pass_indirectly_in_non_rustic_abis_flag_set(self.as_ty_and_layout())
     }
 }

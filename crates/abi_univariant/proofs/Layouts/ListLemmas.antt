@@ -12,19 +12,19 @@ use Rattle.abi_scalar.specs.declared.repr.ReprOptions.{ReprOptions}
 use Rattle.abi_scalar.specs.Lawful.{IsLawfulLayout}
 use Rattle.abi_univariant.specs.declared.order.NicheBias.TheVariants.{Start}
 use Rattle.abi_univariant.specs.declared.part.Part.{Part}
-use Rattle.abi_univariant.specs.declared.list_repr.ListRepr.{ListRepr}
-use Rattle.abi_univariant.specs.declared.placing.ListFault.{ListFault}
-use Rattle.abi_univariant.specs.declared.placing.ListFault.TheVariants.{Unsized, TooLarge, OutOfMemory}
+use Rattle.abi_univariant.specs.declared.fields_repr.FieldsRepr.{FieldsRepr}
+use Rattle.abi_univariant.specs.declared.placing.FieldsFault.{FieldsFault}
+use Rattle.abi_univariant.specs.declared.placing.FieldsFault.TheVariants.{Unsized, TooLarge, OutOfMemory}
 use Rattle.abi_scalar.specs.declared.error.LayoutCalculatorError.{LayoutCalculatorError}
 use Rattle.abi_scalar.specs.declared.error.LayoutCalculatorError.TheVariants.{SizeOverflow, UnexpectedUnsized, OutOfMemory as NoMemory}
 use Rattle.abi_univariant.specs.Answer.{IsAnswer}
 use Rattle.abi_univariant.specs.Fault.{IsErrorOf, IsFaultIndex, fault_in}
-use Rattle.abi_univariant.specs.List.{HasLawfulAligns, IsListError, list_seed}
+use Rattle.abi_univariant.specs.List.{HasLawfulAligns, IsUnivariantError, list_seed}
 use Rattle.abi_univariant.specs.ListView.{list_view}
-use Rattle.abi_univariant.specs.Order.{IsNamedOrder, movable}
+use Rattle.abi_univariant.specs.Order.{IsNamedOrder, movable_front}
 use Rattle.abi_univariant.specs.Part.{part_of, parts_of}
 use Rattle.abi_univariant.specs.LawfulPart.{IsLawfulPart}
-use Rattle.abi_univariant.specs.Placement.{IsLawfulPrefix, IsLawfulRepr, IsNonEmptyIfUnsized, list_repr, own_align}
+use Rattle.abi_univariant.specs.Placement.{IsWellFormedPrefix, IsWellFormedRepr, IsNonEmptyIfUnsized, fields_repr, own_align}
 use Rattle.abi_univariant.specs.Run.{IsFaultOf}
 use Rattle.abi_univariant.proofs.Placed.FaultLemmas.{unsized_in}
 use Rattle.abi_univariant.proofs.Views.Lawful.{aggregate_small}
@@ -54,38 +54,38 @@ option_small : (a : Option ℕ) → IfSome a (λ n. n ≤ 29) → unwrap_or a 0 
 option_small None h = omega arith
 option_small (Some n) h = h
 
-pub repr_lawful : (dl : TargetDataLayout) (repr : ReprOptions) (kind : StructKind) (count : ℕ) → IsLawfulDataLayout dl → HasLawfulAligns repr → IsLawfulPrefix kind (size_bound dl) → IsNonEmptyIfUnsized kind count
-    → IsLawfulRepr (list_repr dl repr kind) count (size_bound dl)
+pub repr_lawful : (dl : TargetDataLayout) (repr : ReprOptions) (kind : StructKind) (count : ℕ) → IsLawfulDataLayout dl → HasLawfulAligns repr → IsWellFormedPrefix kind (size_bound dl) → IsNonEmptyIfUnsized kind count
+    → IsWellFormedRepr (fields_repr dl repr kind) count (size_bound dl)
 repr_lawful dl repr kind count law aligns prefix tail =
     let own : own_align dl repr ≤ 29 = own_small (is_some repr.pack) dl law in
     let raised : unwrap_or repr.align 0 ≤ 29 = option_small repr.align aligns.align in
     record { aligned = omega arith; kind = tail; starts = prefix }
 
 -- the field that a fault names is there
-pub fault_index : (repr : ListRepr) (dl : TargetDataLayout) (parts : List Part) (order : List ℕ) (fault : ListFault) → fault_in repr (size_bound dl) parts order ≡ Some fault → All (λ i. i < length parts) order
+pub fault_index : (repr : FieldsRepr) (dl : TargetDataLayout) (parts : List Part) (order : List ℕ) (fault : FieldsFault) → fault_in repr (size_bound dl) parts order ≡ Some fault → All (λ i. i < length parts) order
     → IsFaultIndex (length parts) fault
 fault_index repr dl parts order (Unsized i) e within = (unsized_in repr (size_bound dl) parts order (λ i. i < length parts) i e within).0
 fault_index repr dl parts order TooLarge e within = tt
 fault_index repr dl parts order OutOfMemory e within = tt
 
-pub memory_index : (count : ℕ) (fault : ListFault) → fault ≡ OutOfMemory → IsFaultIndex count fault
+pub memory_index : (count : ℕ) (fault : FieldsFault) → fault ≡ OutOfMemory → IsFaultIndex count fault
 memory_index count (Unsized i) e = cc
 memory_index count TooLarge e = tt
 memory_index count OutOfMemory e = tt
 
-pub fault_named : (repr : ListRepr) (dl : TargetDataLayout) (parts : List Part) (fault : ListFault) → IsNonEmptyIfUnsized repr.kind (length parts) → IsFaultOf dl repr Start parts fault → IsFaultIndex (length parts) fault
+pub fault_named : (repr : FieldsRepr) (dl : TargetDataLayout) (parts : List Part) (fault : FieldsFault) → IsNonEmptyIfUnsized repr.kind (length parts) → IsFaultOf dl repr Start parts fault → IsFaultIndex (length parts) fault
 fault_named repr dl parts fault tail (inl f) =
     fault_index repr dl parts f.0 fault f.2 (within_order (length parts) f.0 (allowed_permutes repr (length parts) f.0 (named_allowed repr Start parts f.0 tail f.1)))
 fault_named repr dl parts fault tail (inr e) = memory_index (length parts) fault e
 
 -- ---- errors
 
-pub error_large : {H : Type 0} (fields : List H) (fault : ListFault) (error : LayoutCalculatorError H) → IsErrorOf fields fault error → error ≡ SizeOverflow → fault ≡ TooLarge
+pub error_large : {H : Type 0} (fields : List H) (fault : FieldsFault) (error : LayoutCalculatorError H) → IsErrorOf fields fault error → error ≡ SizeOverflow → fault ≡ TooLarge
 error_large fields (Unsized i) error h e = let other : error ≡ UnexpectedUnsized h.0 = h.2 in cc
 error_large fields TooLarge error h e = refl
 error_large fields OutOfMemory error h e = cc
 
-pub error_answer : {A H : Type 0} (fields : List H) (fault : ListFault) (error : LayoutCalculatorError H) → (fault ≡ TooLarge) ⊎ (fault ≡ OutOfMemory) → IsErrorOf fields fault error
+pub error_answer : {A H : Type 0} (fields : List H) (fault : FieldsFault) (error : LayoutCalculatorError H) → (fault ≡ TooLarge) ⊎ (fault ≡ OutOfMemory) → IsErrorOf fields fault error
     → IsAnswer {A = A} (Err SizeOverflow) (Err error)
 error_answer fields (Unsized i) error (inl e) h = cc
 error_answer fields TooLarge error (inl e) h = inl (ap (λ x. Err x) h)
@@ -94,20 +94,20 @@ error_answer fields (Unsized i) error (inr e) h = cc
 error_answer fields TooLarge error (inr e) h = cc
 error_answer fields OutOfMemory error (inr e) h = inr (ap (λ x. Err x) h)
 
-pub memory_error : {H : Type 0} (fields : List H) (fault : ListFault) (error : LayoutCalculatorError H) → IsErrorOf fields fault error → fault ≡ OutOfMemory → error ≡ NoMemory
+pub memory_error : {H : Type 0} (fields : List H) (fault : FieldsFault) (error : LayoutCalculatorError H) → IsErrorOf fields fault error → fault ≡ OutOfMemory → error ≡ NoMemory
 memory_error fields (Unsized i) error h e = cc
 memory_error fields TooLarge error h e = cc
 memory_error fields OutOfMemory error h e = h
 
-pub error_exact : {F V H : Type 0} (layout_of : H → LayoutData F V) (dl : TargetDataLayout) (repr : ReprOptions) (kind : StructKind) (list : ListRepr) (fields : List H) (fault : ListFault) (error : LayoutCalculatorError H)
-    → IsFaultOf dl list Start (parts_of dl (map layout_of fields)) fault → IsErrorOf fields fault error → list ≡ list_repr dl repr kind
-    → IsListError layout_of dl repr kind fields error ⊎ (error ≡ NoMemory)
+pub error_exact : {F V H : Type 0} (layout_of : H → LayoutData F V) (dl : TargetDataLayout) (repr : ReprOptions) (kind : StructKind) (list : FieldsRepr) (fields : List H) (fault : FieldsFault) (error : LayoutCalculatorError H)
+    → IsFaultOf dl list Start (parts_of dl (map layout_of fields)) fault → IsErrorOf fields fault error → list ≡ fields_repr dl repr kind
+    → IsUnivariantError layout_of dl repr kind fields error ⊎ (error ≡ NoMemory)
 error_exact layout_of dl repr kind list fields fault error (inl f) h e =
     inl (
       f.0,
-      subst (λ (r : ListRepr). IsNamedOrder r Start (parts_of dl (map layout_of fields)) f.0) e f.1,
+      subst (λ (r : FieldsRepr). IsNamedOrder r Start (parts_of dl (map layout_of fields)) f.0) e f.1,
       fault,
-      subst (λ (r : ListRepr). fault_in r (size_bound dl) (parts_of dl (map layout_of fields)) f.0 ≡ Some fault) e f.2,
+      subst (λ (r : FieldsRepr). fault_in r (size_bound dl) (parts_of dl (map layout_of fields)) f.0 ≡ Some fault) e f.2,
       h,
     )
 error_exact layout_of dl repr kind list fields fault error (inr m) h e = inr (memory_error fields fault error h m)
@@ -118,12 +118,12 @@ pub view_same : (dl : TargetDataLayout) (fixed fixed2 : Bool) (size align align2
     → list_view dl fixed size align ps os ≡ list_view dl fixed2 size align2 ps2 os2
 view_same dl fixed fixed2 size align align2 ps ps2 os os2 a b c d = rw (a, b, c, d) refl
 
-pub movable-map : {A B : Type 0} (f : A → B) (kind : StructKind) (fields : List A) → map f (movable kind fields) ≡ movable kind (map f fields)
-movable-map f AlwaysSized fields = refl
-movable-map f MaybeUnsized fields = sym (take-map f (length fields - 1) fields) ∙ ap (λ n. take (n - 1) (map f fields)) (sym (length-map fields f))
-movable-map f (Prefixed size align) fields = refl
+pub movable_front-map : {A B : Type 0} (f : A → B) (kind : StructKind) (fields : List A) → map f (movable_front kind fields) ≡ movable_front kind (map f fields)
+movable_front-map f AlwaysSized fields = refl
+movable_front-map f MaybeUnsized fields = sym (take-map f (length fields - 1) fields) ∙ ap (λ n. take (n - 1) (map f fields)) (sym (length-map fields f))
+movable_front-map f (Prefixed size align) fields = refl
 
-pub seed_same : {F V H : Type 0} (layout_of : H → LayoutData F V) (repr : ReprOptions) (kind : StructKind) (fields front : List H) → front ≡ movable kind fields
+pub seed_same : {F V H : Type 0} (layout_of : H → LayoutData F V) (repr : ReprOptions) (kind : StructKind) (fields front : List H) → front ≡ movable_front kind fields
     → (sum_by (λ f. f.randomization_seed) (map layout_of front) + repr.field_shuffle_seed) % 2 ^ 64 ≡ list_seed repr kind (map layout_of fields)
 seed_same layout_of repr kind fields front e =
-    ap (λ fs. (sum_by (λ f. f.randomization_seed) fs + repr.field_shuffle_seed) % 2 ^ 64) (ap (map layout_of) e ∙ movable-map layout_of kind fields)
+    ap (λ fs. (sum_by (λ f. f.randomization_seed) fs + repr.field_shuffle_seed) % 2 ^ 64) (ap (map layout_of) e ∙ movable_front-map layout_of kind fields)

@@ -15,20 +15,20 @@ use Rattle.abi_scalar.specs.declared.niche.Niche.{Niche}
 use Rattle.abi_scalar.specs.declared.repr.ReprOptions.{ReprOptions}
 use Rattle.abi_scalar.specs.Repr.{is_abi_fixed}
 use Rattle.abi_scalar.specs.declared.fields_shape.FieldsShape.TheVariants.{Arbitrary}
-use Rattle.abi_univariant.specs.declared.list_repr.ListRepr.{ListRepr}
+use Rattle.abi_univariant.specs.declared.fields_repr.FieldsRepr.{FieldsRepr}
 use Rattle.abi_univariant.specs.declared.order.NicheBias.{NicheBias}
 use Rattle.abi_univariant.specs.declared.order.NicheBias.TheVariants.{Start, End}
 use Rattle.abi_univariant.specs.declared.order.SortKey.{SortKey}
 use Rattle.abi_univariant.specs.declared.part.Part.{Part}
-use Rattle.abi_univariant.specs.declared.placing.ListFault.{ListFault}
+use Rattle.abi_univariant.specs.declared.placing.FieldsFault.{FieldsFault}
 use Rattle.abi_univariant.specs.Fault.{fault_in}
 use Rattle.abi_univariant.specs.InOrder.{IsLaidInOrder, IsOrderedLayout}
-use Rattle.abi_univariant.specs.List.{IsListBy, IsListLayout, unadjusted_of}
+use Rattle.abi_univariant.specs.List.{IsListBy, IsUnivariantLayout, unadjusted_of}
 use Rattle.abi_univariant.specs.ListNiche.{begins_after, niche_in}
 use Rattle.abi_univariant.specs.ListView.{list_view}
-use Rattle.abi_univariant.specs.Order.{IsNamedOrder, IsSortedBefore, IsSortedOrder, compare_keys, key_at, movable, rule_of, sort_key, tail}
+use Rattle.abi_univariant.specs.Order.{IsNamedOrder, IsSortedBefore, IsSortedOrder, compare_keys, key_at, movable_front, rule_of, sort_key, tail}
 use Rattle.abi_univariant.specs.Part.{part_of, parts_of}
-use Rattle.abi_univariant.specs.Placement.{IsAllowed, IsNonEmptyIfUnsized, list_repr, source_order}
+use Rattle.abi_univariant.specs.Placement.{IsAllowed, IsNonEmptyIfUnsized, fields_repr, source_order}
 use Rattle.abi_univariant.specs.Run.{IsNamedLayout, IsPlacedIn, IsRun, space_wanted}
 use Rattle.abi_univariant.proofs.Sorted.Least.{allowed_permutes, named_allowed}
 
@@ -97,14 +97,14 @@ one_sorted keys xs ys s t =
 
 -- ---- one order is named for a bias
 
-named_cases : (b : Bool) (repr : ListRepr) (bias : NicheBias) (fields : List Part) (xs ys : List ℕ)
+named_cases : (b : Bool) (repr : FieldsRepr) (bias : NicheBias) (fields : List Part) (xs ys : List ℕ)
     → MatchBool b (IsSortedBefore repr bias fields xs) (xs ≡ source_order (length fields))
     → MatchBool b (IsSortedBefore repr bias fields ys) (ys ≡ source_order (length fields)) → xs ≡ ys
 named_cases true repr bias fields xs ys s t =
-    s.2 ∙ ap (λ front. front ++ tail repr.kind fields) (one_sorted (map (sort_key (rule_of repr bias (movable repr.kind fields))) (movable repr.kind fields)) s.0 t.0 s.1 t.1) ∙ sym t.2
+    s.2 ∙ ap (λ front. front ++ tail repr.kind fields) (one_sorted (map (sort_key (rule_of repr bias (movable_front repr.kind fields))) (movable_front repr.kind fields)) s.0 t.0 s.1 t.1) ∙ sym t.2
 named_cases false repr bias fields xs ys s t = s ∙ sym t
 
-pub one_named : (repr : ListRepr) (bias : NicheBias) (fields : List Part) (xs ys : List ℕ) → IsNamedOrder repr bias fields xs → IsNamedOrder repr bias fields ys → xs ≡ ys
+pub one_named : (repr : FieldsRepr) (bias : NicheBias) (fields : List Part) (xs ys : List ℕ) → IsNamedOrder repr bias fields xs → IsNamedOrder repr bias fields ys → xs ≡ ys
 one_named repr bias fields xs ys s t = named_cases repr.reorderable repr bias fields xs ys s t
 
 -- ---- fields lie at one place in an order
@@ -141,7 +141,7 @@ pub record IsSame (order order2 offsets offsets2 : List ℕ) (size size2 align a
   aligns : align ≡ align2
   niches : niche ≡ niche2
 
-module _ (dl : TargetDataLayout) (repr : ListRepr) (parts : List Part) (some : IsNonEmptyIfUnsized repr.kind (length parts)) where
+module _ (dl : TargetDataLayout) (repr : FieldsRepr) (parts : List Part) (some : IsNonEmptyIfUnsized repr.kind (length parts)) where
   pub one_placed : (bias : NicheBias) (one order order2 offsets offsets2 : List ℕ) (size size2 align align2 : ℕ) (niche niche2 : Option Niche) → IsAllowed repr (length parts) one
       → order ≡ one → order2 ≡ one → IsPlacedIn dl repr bias parts order offsets size align niche → IsPlacedIn dl repr bias parts order2 offsets2 size2 align2 niche2
       → IsSame order order2 offsets offsets2 size size2 align align2 niche niche2
@@ -197,7 +197,7 @@ module _ (dl : TargetDataLayout) (repr : ListRepr) (parts : List Part) (some : I
       (subst (λ first. IsRun dl repr parts first order2 offsets2 size2 align2 niche2) same b.3)
 
   -- what has a named layout has no fault
-  pub never_refused : (order offsets first : List ℕ) (size align : ℕ) (niche : Option Niche) (fault : ListFault) → IsNamedLayout dl repr parts order offsets size align niche
+  pub never_refused : (order offsets first : List ℕ) (size align : ℕ) (niche : Option Niche) (fault : FieldsFault) → IsNamedLayout dl repr parts order offsets size align niche
       → IsNamedOrder repr Start parts first → fault_in repr (size_bound dl) parts first ≡ Some fault → ⊥
   never_refused order offsets first size align niche fault a named e =
       let same : first ≡ a.0 = one_named repr Start parts first a.0 named a.1 in
@@ -235,16 +235,16 @@ module _ {F V : Type 0} (at : ℕ → F) (first : V) (dl : TargetDataLayout) (re
       }
 
   pub one_layout : (order order2 offsets offsets2 : List ℕ) (a b : LayoutData F V) → IsNonEmptyIfUnsized kind (length (parts_of dl fields))
-      → IsListLayout at first dl repr kind fields order offsets a → IsListLayout at first dl repr kind fields order2 offsets2 b → a ≡ b
+      → IsUnivariantLayout at first dl repr kind fields order offsets a → IsUnivariantLayout at first dl repr kind fields order2 offsets2 b → a ≡ b
   one_layout order order2 offsets offsets2 a b some s t =
-      same_layout (IsNamedLayout dl (list_repr dl repr kind) (parts_of dl fields)) order order2 offsets offsets2 a b
-      (one_named_layout dl (list_repr dl repr kind) (parts_of dl fields) some order order2 offsets offsets2 a.size b.size a.align.abi b.align.abi a.largest_niche b.largest_niche s.named t.named) s t
+      same_layout (IsNamedLayout dl (fields_repr dl repr kind) (parts_of dl fields)) order order2 offsets offsets2 a b
+      (one_named_layout dl (fields_repr dl repr kind) (parts_of dl fields) some order order2 offsets offsets2 a.size b.size a.align.abi b.align.abi a.largest_niche b.largest_niche s.named t.named) s t
 
   -- and in an order that is handed in
   pub one_in_order : (order offsets offsets2 : List ℕ) (a b : LayoutData F V) → IsNonEmptyIfUnsized kind (length (parts_of dl fields))
       → IsOrderedLayout at first dl repr kind fields order offsets a → IsOrderedLayout at first dl repr kind fields order offsets2 b → a ≡ b
   one_in_order order offsets offsets2 a b some s t =
-      let allowed = subst (λ n. IsAllowed (list_repr dl repr kind) n order) (sym (length-map fields (λ f. part_of dl f))) s.named.0 in
+      let allowed = subst (λ n. IsAllowed (fields_repr dl repr kind) n order) (sym (length-map fields (λ f. part_of dl f))) s.named.0 in
       same_layout (IsLaidInOrder dl repr kind fields) order order offsets offsets2 a b
-      (one_placed dl (list_repr dl repr kind) (parts_of dl fields) some Start order order order offsets offsets2 a.size b.size a.align.abi b.align.abi a.largest_niche b.largest_niche
+      (one_placed dl (fields_repr dl repr kind) (parts_of dl fields) some Start order order order offsets offsets2 a.size b.size a.align.abi b.align.abi a.largest_niche b.largest_niche
       allowed refl refl s.named.1 t.named.1) s t

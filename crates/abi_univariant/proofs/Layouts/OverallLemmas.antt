@@ -4,9 +4,9 @@ use Rattle.std.specs.Prelude.{None, Option, Some, sum_by}
 use Rattle.std.specs.List.{list_all}
 use Rattle.std.proofs.lemmas.List.Sums.{sum_by-cons}
 use Rattle.abi_scalar.specs.declared.layout_data.LayoutData.{LayoutData}
-use Rattle.abi_univariant.specs.declared.overall.Overall.{Overall}
-use Rattle.abi_univariant.specs.Fields.{greater, greatest, greatest_asked}
-use Rattle.abi_univariant.specs.Overall.{overall_of, with_list}
+use Rattle.abi_univariant.specs.declared.summary.Summary.{Summary}
+use Rattle.abi_univariant.specs.Fields.{greater_of, greatest, greatest_asked}
+use Rattle.abi_univariant.specs.Summary.{summary_of, with_list}
 
 -- the greatest with a number more
 greatest_more : {A : Type 0} (number : A → ℕ) (xs : List A) (x : A) → max (greatest (map number xs)) (number x) ≡ greatest (map number (xs ++ x ∷ []))
@@ -14,21 +14,21 @@ greatest_more number [] x = omega arith
 greatest_more number (y ∷ ys) x = let more = greatest_more number ys x in omega (arith, more)
 
 -- it doesn't matter which of three alignments are compared first
-greater_assoc : (a b c : Option ℕ) → greater (greater a b) c ≡ greater a (greater b c)
+greater_assoc : (a b c : Option ℕ) → greater_of (greater_of a b) c ≡ greater_of a (greater_of b c)
 greater_assoc None b c = refl
 greater_assoc (Some a) None c = refl
 greater_assoc (Some a) (Some b) None = refl
 greater_assoc (Some a) (Some b) (Some c) = ap (λ n. Some n) (omega arith)
 
 -- an alignment beside none is the greater
-greater_none : (a : Option ℕ) → greater a None ≡ a
+greater_none : (a : Option ℕ) → greater_of a None ≡ a
 greater_none None = refl
 greater_none (Some a) = refl
 
 -- the greatest that is asked for with a list more
-asked_more : {F V : Type 0} (xs : List (LayoutData F V)) (x : LayoutData F V) → greater (greatest_asked xs) x.max_repr_align ≡ greatest_asked (xs ++ x ∷ [])
+asked_more : {F V : Type 0} (xs : List (LayoutData F V)) (x : LayoutData F V) → greater_of (greatest_asked xs) x.max_repr_align ≡ greatest_asked (xs ++ x ∷ [])
 asked_more [] x = sym (greater_none x.max_repr_align)
-asked_more (y ∷ ys) x = greater_assoc y.max_repr_align (greatest_asked ys) x.max_repr_align ∙ ap (greater y.max_repr_align) (asked_more ys x)
+asked_more (y ∷ ys) x = greater_assoc y.max_repr_align (greatest_asked ys) x.max_repr_align ∙ ap (greater_of y.max_repr_align) (asked_more ys x)
 
 -- the sum with a number more
 sum_more : {A : Type 0} (number : A → ℕ) (xs : List A) (x : A) → sum_by number xs + number x ≡ sum_by number (xs ++ x ∷ [])
@@ -57,7 +57,7 @@ all_more p (y ∷ ys) x = by (p y) ∙ ap (λ b. p y && b) (all_more p ys x)
     by false = refl
 
 -- what the lists have together with one more of them
-pub overall_more : {F V : Type 0} (xs : List (LayoutData F V)) (x : LayoutData F V) → with_list (overall_of xs) x ≡ overall_of (xs ++ x ∷ [])
+pub overall_more : {F V : Type 0} (xs : List (LayoutData F V)) (x : LayoutData F V) → with_list (summary_of xs) x ≡ summary_of (xs ++ x ∷ [])
 overall_more xs x =
     rw (
       greatest_more (λ l. l.size) xs x,

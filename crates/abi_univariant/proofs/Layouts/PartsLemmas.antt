@@ -9,7 +9,7 @@ use Rattle.abi_univariant.specs.Part.{part_of, parts_of}
 use Rattle.abi_univariant.specs.Placement.{no_part}
 use Rattle.abi_univariant.proofs.Layouts.ListLemmas.{length-parts}
 
--- the part that a field's layout tells is the one at its index
+-- the part that a field's layout says is the one at its index
 pub part_told : {F V H : Type 0} (layout_of : H → LayoutData F V) (dl : TargetDataLayout) (fields : List H) (i : ℕ) (d : H) → i < length fields
     → part_of dl (layout_of (get_or fields i d)) ≡ part_at (parts_of dl (map layout_of fields)) i
 part_told layout_of dl fields i d short =

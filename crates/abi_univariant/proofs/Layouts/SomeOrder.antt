@@ -10,16 +10,16 @@ use Rattle.std.proofs.lemmas.List.{get_or-map, length-map}
 use Rattle.std.proofs.lemmas.List.Edits.{length-swap, swapped_from_swap}
 use Rattle.std.proofs.lemmas.List.FromFn.{get_or-map-range_with_len, get_or-range_with_len, length-map-range_with_len, length-range_with_len}
 use Rattle.std.proofs.lemmas.List.Sorted.{IsPermutation-cons, IsPermutation-keeps, IsPermutation-middle, IsPermutation-refl, IsPermutation-sym, IsPermutation-trans, length_permutation, ranks_by}
-use Rattle.abi_univariant.specs.declared.list_repr.ListRepr.{ListRepr}
+use Rattle.abi_univariant.specs.declared.fields_repr.FieldsRepr.{FieldsRepr}
 use Rattle.abi_univariant.specs.declared.order.NicheBias.{NicheBias}
 use Rattle.abi_univariant.specs.declared.order.SortKey.{SortKey}
 use Rattle.abi_univariant.specs.declared.part.Part.{Part}
-use Rattle.abi_univariant.specs.Order.{IsNamedOrder, IsSortedBefore, IsSortedOrder, key_at, movable, rule_of, sort_key, tail}
+use Rattle.abi_univariant.specs.Order.{IsNamedOrder, IsSortedBefore, IsSortedOrder, key_at, movable_front, rule_of, sort_key, tail}
 use Rattle.abi_base.specs.declared.data_layout.TargetDataLayout.{TargetDataLayout}
 use Rattle.abi_base.specs.DataLayout.{size_bound}
 use Rattle.abi_scalar.specs.declared.niche.Niche.{Niche}
 use Rattle.abi_univariant.specs.declared.order.NicheBias.TheVariants.{Start, End}
-use Rattle.abi_univariant.specs.declared.placing.ListFault.{ListFault}
+use Rattle.abi_univariant.specs.declared.placing.FieldsFault.{FieldsFault}
 use Rattle.abi_univariant.specs.Fault.{fault_in}
 use Rattle.abi_univariant.specs.ListNiche.{begins_after, niche_in}
 use Rattle.abi_univariant.specs.LawfulPart.{IsLawfulPart}
@@ -144,14 +144,14 @@ some_sorted keys =
       },
     )
 
-named_if : (b : Bool) (repr : ListRepr) (bias : NicheBias) (fields : List Part)
+named_if : (b : Bool) (repr : FieldsRepr) (bias : NicheBias) (fields : List Part)
     → (order : List ℕ) × MatchBool b (IsSortedBefore repr bias fields order) (order ≡ source_order (length fields))
 named_if true repr bias fields =
-    let front = some_sorted (map (sort_key (rule_of repr bias (movable repr.kind fields))) (movable repr.kind fields)) in
+    let front = some_sorted (map (sort_key (rule_of repr bias (movable_front repr.kind fields))) (movable_front repr.kind fields)) in
     (front.0 ++ tail repr.kind fields, (front.0, front.1, refl))
 named_if false repr bias fields = (source_order (length fields), refl)
 
-pub some_named : (repr : ListRepr) (bias : NicheBias) (fields : List Part) → (order : List ℕ) × IsNamedOrder repr bias fields order
+pub some_named : (repr : FieldsRepr) (bias : NicheBias) (fields : List Part) → (order : List ℕ) × IsNamedOrder repr bias fields order
 some_named repr bias fields = named_if repr.reorderable repr bias fields
 
 -- ---- fields that lie so in an order have places in source order
@@ -228,7 +228,7 @@ some_places n order places p long =
 
 -- ---- a list has an answer
 
-module _ (dl : TargetDataLayout) (repr : ListRepr) (parts : List Part) (law : All (IsLawfulPart dl) parts) (some : IsNonEmptyIfUnsized repr.kind (length parts)) where
+module _ (dl : TargetDataLayout) (repr : FieldsRepr) (parts : List Part) (law : All (IsLawfulPart dl) parts) (some : IsNonEmptyIfUnsized repr.kind (length parts)) where
   pub some_placed : (bias : NicheBias) (order : List ℕ) → IsAllowed repr (length parts) order → fault_in repr (size_bound dl) parts order ≡ None
       → (offsets : List ℕ) × IsPlacedIn dl repr bias parts order offsets (size_in repr parts order) (align_of repr parts) (niche_in dl repr bias parts order)
   some_placed bias order allowed clear =
@@ -265,8 +265,8 @@ module _ (dl : TargetDataLayout) (repr : ListRepr) (parts : List Part) (law : Al
         (found.0, found.1, found.2, found.3, found.4, (ends.0, ends.1, found.5))
 
 -- a list of lawful parts has a fault in the order that is named first, or a layout
-pub some_layout : (dl : TargetDataLayout) (repr : ListRepr) (parts : List Part) → All (IsLawfulPart dl) parts → IsNonEmptyIfUnsized repr.kind (length parts)
-    → ((first : List ℕ) × IsNamedOrder repr Start parts first × ((fault : ListFault) × (fault_in repr (size_bound dl) parts first ≡ Some fault)))
+pub some_layout : (dl : TargetDataLayout) (repr : FieldsRepr) (parts : List Part) → All (IsLawfulPart dl) parts → IsNonEmptyIfUnsized repr.kind (length parts)
+    → ((first : List ℕ) × IsNamedOrder repr Start parts first × ((fault : FieldsFault) × (fault_in repr (size_bound dl) parts first ≡ Some fault)))
     ⊎ ((order : List ℕ) × (offsets : List ℕ) × (size : ℕ) × (align : ℕ) × (niche : Option Niche) × IsNamedLayout dl repr parts order offsets size align niche)
 some_layout dl repr parts law some =
     layout_if (fault_in repr (size_bound dl) parts first.0) refl
@@ -274,8 +274,8 @@ some_layout dl repr parts law some =
     first : (order : List ℕ) × IsNamedOrder repr Start parts order
     first = some_named repr Start parts
 
-    layout_if : (o : Option ListFault) → fault_in repr (size_bound dl) parts first.0 ≡ o
-        → ((order : List ℕ) × IsNamedOrder repr Start parts order × ((fault : ListFault) × (fault_in repr (size_bound dl) parts order ≡ Some fault)))
+    layout_if : (o : Option FieldsFault) → fault_in repr (size_bound dl) parts first.0 ≡ o
+        → ((order : List ℕ) × IsNamedOrder repr Start parts order × ((fault : FieldsFault) × (fault_in repr (size_bound dl) parts order ≡ Some fault)))
         ⊎ ((order : List ℕ) × (offsets : List ℕ) × (size : ℕ) × (align : ℕ) × (niche : Option Niche) × IsNamedLayout dl repr parts order offsets size align niche)
     layout_if (Some fault) e = inl (first.0, first.1, (fault, e))
     layout_if None e =

@@ -37,8 +37,8 @@ rounded_by n m p (inr q) =
     let up : m * (n / m + 1) ≡ n + (m - n % m) = omega arith in
     rw same (near n m (n + (m - n % m)) (subst (λ x. m ∣ x) up (dvd-mul_right m (n / m + 1))) (omega arith) (omega arith))
 
-pub rounded : (n m : ℕ) → 0 < m → IsRounded n m (next_multiple_of n m)
-rounded n m p = rounded_by n m p (⊎_elim (λ l. inr l) (λ l. inl (omega arith)) (cases_lt 0 (n % m)))
+pub round_up : (n m : ℕ) → 0 < m → IsRounded n m (next_multiple_of n m)
+round_up n m p = rounded_by n m p (⊎_elim (λ l. inr l) (λ l. inl (omega arith)) (cases_lt 0 (n % m)))
 
 -- a lower power of two divides a higher one
 pub pow_dvd : (i j : ℕ) → i ≤ j → 2 ^ i ∣ 2 ^ j
@@ -48,7 +48,7 @@ pow_dvd i j h =
 
 -- a number rounded to 2 ^ align
 pub rounded_to : (n align : ℕ) → IsRounded n (2 ^ align) (next_multiple_of n (2 ^ align))
-rounded_to n align = rounded n (2 ^ align) (pow_pos align)
+rounded_to n align = round_up n (2 ^ align) (pow_pos align)
 
 -- a multiple stays as it is
 pub round_multiple : (n align : ℕ) → 2 ^ align ∣ n → next_multiple_of n (2 ^ align) ≡ n

@@ -13,11 +13,11 @@ use Rattle.abi_base.specs.declared.data_layout.TargetDataLayout.{TargetDataLayou
 use Rattle.abi_scalar.specs.declared.niche.Niche.{Niche}
 use Rattle.abi_scalar.specs.Pair.{larger_niche}
 use Rattle.abi_univariant.specs.declared.part.Part.{Part}
-use Rattle.abi_univariant.specs.declared.list_repr.ListRepr.{ListRepr}
+use Rattle.abi_univariant.specs.declared.fields_repr.FieldsRepr.{FieldsRepr}
 use Rattle.abi_univariant.specs.declared.list_niche.GreatestNiche.{GreatestNiche}
 use Rattle.abi_univariant.specs.declared.order.NicheBias.{NicheBias}
 use Rattle.abi_univariant.specs.declared.order.NicheBias.TheVariants.{Start, End}
-use Rattle.abi_univariant.specs.declared.placing.ListFault.TheVariants.{Unsized, TooLarge}
+use Rattle.abi_univariant.specs.declared.placing.FieldsFault.TheVariants.{Unsized, TooLarge}
 use Rattle.abi_univariant.specs.Fault.{fault_from, is_empty, is_maybe_unsized}
 use Rattle.abi_univariant.specs.declared.list_niche.PlacedField.{PlacedField}
 use Rattle.abi_univariant.specs.ListNiche.{IsPlacedField, greatest_niche, greater_niche, niche_of_part, niche_of_placed}
@@ -117,7 +117,7 @@ niche_if parts true x y = refl
 niche_if parts false x y = refl
 
 -- after k fields
-pub record IsPlaced (dl : TargetDataLayout) (repr : ListRepr) (bound from : ℕ) (parts : List Part) (order : List ℕ) (k : ℕ) (offsets : List ℕ) (end : ℕ) (niche : GreatestNiche) : Type 0 where
+pub record IsPlaced (dl : TargetDataLayout) (repr : FieldsRepr) (bound from : ℕ) (parts : List Part) (order : List ℕ) (k : ℕ) (offsets : List ℕ) (end : ℕ) (niche : GreatestNiche) : Type 0 where
   pub room : length offsets ≡ length parts
   pub places : map (slice_index offsets) (take k order) ≡ offsets_from repr.pack from (in_order parts (take k order))
   pub ends : end ≡ end_from repr.pack from (in_order parts (take k order))
@@ -129,24 +129,24 @@ goes_on : (order : List ℕ) (k i : ℕ) → k < length order → i ≡ get_or o
 goes_on order k i short is = drop_more order k 0 short ∙ ap (λ x. x ∷ drop (k + 1) order) (sym is)
 
 -- a field without a fault leaves that of the rest
-fault_later : (repr : ListRepr) (bound : ℕ) (parts : List Part) (from i : ℕ) (is : List ℕ) (part : Part) → part ≡ get_or parts i no_part
+fault_later : (repr : FieldsRepr) (bound : ℕ) (parts : List Part) (from i : ℕ) (is : List ℕ) (part : Part) → part ≡ get_or parts i no_part
     → is_unsized part.view && not (is_maybe_unsized repr.kind) ≡ false → place_of repr.pack from part + part.size < bound → is_unsized part.view && not (is_empty is) ≡ false
     → fault_from repr bound parts from (i ∷ is) ≡ fault_from repr bound parts (place_of repr.pack from part + part.size) is
 fault_later repr bound parts from i is part e here short later =
     let yes : nat_lt (place_of repr.pack from part + part.size) bound ≡ true = grind (arith, nat_tests) in
     rw (← e, here, yes, later) refl
 
-fault_unsized : (repr : ListRepr) (bound : ℕ) (parts : List Part) (from i : ℕ) (is : List ℕ) (part : Part) → part ≡ get_or parts i no_part
+fault_unsized : (repr : FieldsRepr) (bound : ℕ) (parts : List Part) (from i : ℕ) (is : List ℕ) (part : Part) → part ≡ get_or parts i no_part
     → is_unsized part.view && not (is_maybe_unsized repr.kind) ≡ true → fault_from repr bound parts from (i ∷ is) ≡ Some (Unsized i)
 fault_unsized repr bound parts from i is part e here = rw (← e, here) refl
 
-fault_large : (repr : ListRepr) (bound : ℕ) (parts : List Part) (from i : ℕ) (is : List ℕ) (part : Part) → part ≡ get_or parts i no_part
+fault_large : (repr : FieldsRepr) (bound : ℕ) (parts : List Part) (from i : ℕ) (is : List ℕ) (part : Part) → part ≡ get_or parts i no_part
     → is_unsized part.view && not (is_maybe_unsized repr.kind) ≡ false → bound ≤ place_of repr.pack from part + part.size → fault_from repr bound parts from (i ∷ is) ≡ Some TooLarge
 fault_large repr bound parts from i is part e here large =
     let no : nat_lt (place_of repr.pack from part + part.size) bound ≡ false = grind (arith, nat_tests) in
     rw (← e, here, no) refl
 
-fault_followed : (repr : ListRepr) (bound : ℕ) (parts : List Part) (from i : ℕ) (is : List ℕ) (part : Part) → part ≡ get_or parts i no_part
+fault_followed : (repr : FieldsRepr) (bound : ℕ) (parts : List Part) (from i : ℕ) (is : List ℕ) (part : Part) → part ≡ get_or parts i no_part
     → is_unsized part.view && not (is_maybe_unsized repr.kind) ≡ false → place_of repr.pack from part + part.size < bound → is_unsized part.view && not (is_empty is) ≡ true
     → fault_from repr bound parts from (i ∷ is) ≡ Some (Unsized i)
 fault_followed repr bound parts from i is part e here short later =
@@ -160,7 +160,7 @@ empty_drop (suc k) [] = sym (grind (arith, nat_tests))
 empty_drop (suc k) (i ∷ is) = empty_drop k is ∙ grind (arith, nat_tests)
 
 -- one more field is placed
-pub placed_more : (dl : TargetDataLayout) (repr : ListRepr) (bound from : ℕ) (parts : List Part) (order : List ℕ) (k i : ℕ) (offsets : List ℕ) (end v next : ℕ) (best larger : GreatestNiche) (part : Part)
+pub placed_more : (dl : TargetDataLayout) (repr : FieldsRepr) (bound from : ℕ) (parts : List Part) (order : List ℕ) (k i : ℕ) (offsets : List ℕ) (end v next : ℕ) (best larger : GreatestNiche) (part : Part)
     → IsPermutation (source_order (length parts)) order → IsPlaced dl repr bound from parts order k offsets end best → k < length order → i ≡ get_or order k 0
     → i < length parts → part ≡ get_or parts i no_part → v ≡ place_of repr.pack end part → next ≡ v + part.size → IsLawfulPart dl part
     → larger.first ≡ (if nat_lt best.free part.free then niche_of_part v part.largest_niche else best.first)
@@ -191,20 +191,20 @@ placed_more dl repr bound from parts order k i offsets end v next best larger pa
           ∙ ap (fault_from repr bound parts end) (sym (goes_on order k i short is)) ∙ inv.fault;
     }
 
-pub placed_unsized : (dl : TargetDataLayout) (repr : ListRepr) (bound from : ℕ) (parts : List Part) (order : List ℕ) (k i : ℕ) (offsets : List ℕ) (end : ℕ) (best : GreatestNiche) (part : Part)
+pub placed_unsized : (dl : TargetDataLayout) (repr : FieldsRepr) (bound from : ℕ) (parts : List Part) (order : List ℕ) (k i : ℕ) (offsets : List ℕ) (end : ℕ) (best : GreatestNiche) (part : Part)
     → IsPlaced dl repr bound from parts order k offsets end best → k < length order → i ≡ get_or order k 0 → part ≡ get_or parts i no_part
     → is_unsized part.view && not (is_maybe_unsized repr.kind) ≡ true → fault_from repr bound parts from order ≡ Some (Unsized i)
 placed_unsized dl repr bound from parts order k i offsets end best part inv short is named here =
     sym inv.fault ∙ ap (fault_from repr bound parts end) (goes_on order k i short is) ∙ fault_unsized repr bound parts end i (drop (k + 1) order) part named here
 
-pub placed_large : (dl : TargetDataLayout) (repr : ListRepr) (bound from : ℕ) (parts : List Part) (order : List ℕ) (k i : ℕ) (offsets : List ℕ) (end v : ℕ) (best : GreatestNiche) (part : Part)
+pub placed_large : (dl : TargetDataLayout) (repr : FieldsRepr) (bound from : ℕ) (parts : List Part) (order : List ℕ) (k i : ℕ) (offsets : List ℕ) (end v : ℕ) (best : GreatestNiche) (part : Part)
     → IsPlaced dl repr bound from parts order k offsets end best → k < length order → i ≡ get_or order k 0 → part ≡ get_or parts i no_part
     → is_unsized part.view && not (is_maybe_unsized repr.kind) ≡ false → v ≡ place_of repr.pack end part → ¬ (v + part.size < bound) → fault_from repr bound parts from order ≡ Some TooLarge
 placed_large dl repr bound from parts order k i offsets end v best part inv short is named sized at full =
     let sum : v + part.size ≡ place_of repr.pack end part + part.size = ap (λ x. x + part.size) at in
     sym inv.fault ∙ ap (fault_from repr bound parts end) (goes_on order k i short is) ∙ fault_large repr bound parts end i (drop (k + 1) order) part named sized (omega (arith, sum, full))
 
-pub placed_followed : (dl : TargetDataLayout) (repr : ListRepr) (bound from : ℕ) (parts : List Part) (order : List ℕ) (k i : ℕ) (offsets : List ℕ) (end v : ℕ) (best : GreatestNiche) (part : Part)
+pub placed_followed : (dl : TargetDataLayout) (repr : FieldsRepr) (bound from : ℕ) (parts : List Part) (order : List ℕ) (k i : ℕ) (offsets : List ℕ) (end v : ℕ) (best : GreatestNiche) (part : Part)
     → IsPlaced dl repr bound from parts order k offsets end best → k < length order → i ≡ get_or order k 0 → part ≡ get_or parts i no_part
     → is_unsized part.view && not (is_maybe_unsized repr.kind) ≡ false → v ≡ place_of repr.pack end part → v + part.size < bound → is_unsized part.view && nat_lt (k + 1) (length order) ≡ true
     → fault_from repr bound parts from order ≡ Some (Unsized i)

@@ -9,10 +9,10 @@ use Rattle.abi_base.specs.DataLayout.{size_bound}
 use Rattle.abi_scalar.specs.declared.niche.Niche.{Niche}
 use Rattle.abi_scalar.specs.Lawful.{IsLawfulNiche}
 use Rattle.abi_univariant.specs.declared.part.Part.{Part}
-use Rattle.abi_univariant.specs.declared.list_repr.ListRepr.{ListRepr}
+use Rattle.abi_univariant.specs.declared.fields_repr.FieldsRepr.{FieldsRepr}
 use Rattle.abi_univariant.specs.declared.order.NicheBias.{NicheBias}
 use Rattle.abi_univariant.specs.declared.order.NicheBias.TheVariants.{Start, End}
-use Rattle.abi_univariant.specs.declared.placing.ListFault.{ListFault}
+use Rattle.abi_univariant.specs.declared.placing.FieldsFault.{FieldsFault}
 use Rattle.abi_univariant.specs.Fault.{fault_in, is_maybe_unsized}
 use Rattle.abi_univariant.specs.ListNiche.{begins_after, biased_niche, greatest_niche, niche_in, space_beside}
 use Rattle.abi_univariant.specs.Order.{IsNamedOrder, IsSortedBefore}
@@ -42,7 +42,7 @@ greatest_inside bias dl pack whole from (p ∷ ps) law inside =
     greater_has bias dl (IsLawfulNiche dl whole) _ _ (part_lawful dl (place_of pack from p) p.size whole p.largest_niche one.niche (omega (arith, later, inside)))
     (greatest_inside bias dl pack whole (place_of pack from p + p.size) ps (All-tail (IsLawfulPart dl) p ps law) inside)
 
-pub niche_inside : (bias : NicheBias) (dl : TargetDataLayout) (repr : ListRepr) (parts : List Part) (order : List ℕ) → All (IsLawfulPart dl) parts → IsPermutation (source_order (length parts)) order
+pub niche_inside : (bias : NicheBias) (dl : TargetDataLayout) (repr : FieldsRepr) (parts : List Part) (order : List ℕ) → All (IsLawfulPart dl) parts → IsPermutation (source_order (length parts)) order
     → IfSome (niche_in dl repr bias parts order) (IsLawfulNiche dl (size_in repr parts order))
 niche_inside bias dl repr parts order law p =
     greatest_inside bias dl repr.pack (size_in repr parts order) (start_of repr.pack repr.kind) (in_order parts order)
@@ -59,7 +59,7 @@ first_is : (b : Bool) (A B : Type 0) → b ≡ false → B → MatchBool b A B
 first_is true A B e a = cc
 first_is false A B e a = a
 
-pub named_second : (dl : TargetDataLayout) (repr : ListRepr) (parts : List Part) (first order offsets : List ℕ) (size1 size align space : ℕ) (niche1 niche : Option Niche)
+pub named_second : (dl : TargetDataLayout) (repr : FieldsRepr) (parts : List Part) (first order offsets : List ℕ) (size1 size align space : ℕ) (niche1 niche : Option Niche)
     → IsNamedOrder repr Start parts first → fault_in repr (size_bound dl) parts first ≡ None → size1 ≡ size_in repr parts first → niche1 ≡ niche_in dl repr Start parts first
     → (if may_move repr.kind (length parts) then space_beside dl size1 niche1 else None) ≡ Some space
     → IsNamedOrder repr End parts order → IsPlacedIn dl repr End parts order offsets size align niche → begins_after space niche ≡ true
@@ -73,7 +73,7 @@ named_second dl repr parts first order offsets size1 size align space niche1 nic
     ((order ≡ first) × IsPlacedIn dl repr Start parts order offsets size align niche)) in
     (first, named, clear, subst P (sym wanted) (order, second, second_is _ _ _ (ap (begins_after space) (sym placed.largest) ∙ late) (refl, placed)))
 
-pub named_still : (dl : TargetDataLayout) (repr : ListRepr) (parts : List Part) (order second offsets : List ℕ) (size align space : ℕ) (niche niche2 : Option Niche)
+pub named_still : (dl : TargetDataLayout) (repr : FieldsRepr) (parts : List Part) (order second offsets : List ℕ) (size align space : ℕ) (niche niche2 : Option Niche)
     → IsNamedOrder repr Start parts order → IsPlacedIn dl repr Start parts order offsets size align niche
     → (if may_move repr.kind (length parts) then space_beside dl size niche else None) ≡ Some space
     → IsNamedOrder repr End parts second → niche2 ≡ niche_in dl repr End parts second → begins_after space niche2 ≡ false
@@ -95,17 +95,17 @@ biased_is Start first last Q f l = f
 biased_is End first last Q f l = l
 
 -- source order is named for either bias
-named_in_source : (b : Bool) (repr : ListRepr) (parts : List Part) (order : List ℕ) → b ≡ false → MatchBool b (IsSortedBefore repr Start parts order) (order ≡ source_order (length parts))
+named_in_source : (b : Bool) (repr : FieldsRepr) (parts : List Part) (order : List ℕ) → b ≡ false → MatchBool b (IsSortedBefore repr Start parts order) (order ≡ source_order (length parts))
     → MatchBool b (IsSortedBefore repr End parts order) (order ≡ source_order (length parts))
 named_in_source true repr parts order e named = cc
 named_in_source false repr parts order e named = named
 
-placed_last : (dl : TargetDataLayout) (repr : ListRepr) (parts : List Part) (order offsets : List ℕ) (size align : ℕ) (niche last : Option Niche) → IsPlacedIn dl repr Start parts order offsets size align niche
+placed_last : (dl : TargetDataLayout) (repr : FieldsRepr) (parts : List Part) (order offsets : List ℕ) (size align : ℕ) (niche last : Option Niche) → IsPlacedIn dl repr Start parts order offsets size align niche
     → last ≡ niche_in dl repr End parts order → IsPlacedIn dl repr End parts order offsets size align last
 placed_last dl repr parts order offsets size align niche last p e =
     record { count = p.count; places = p.places; alignment = p.alignment; extent = p.extent; faultless = p.faultless; largest = e }
 
-by_last : (b : Bool) (dl : TargetDataLayout) (repr : ListRepr) (parts : List Part) (order offsets : List ℕ) (size align space : ℕ) (niche last : Option Niche) → begins_after space last ≡ b
+by_last : (b : Bool) (dl : TargetDataLayout) (repr : FieldsRepr) (parts : List Part) (order offsets : List ℕ) (size align space : ℕ) (niche last : Option Niche) → begins_after space last ≡ b
     → repr.reorderable ≡ false → IsNamedOrder repr Start parts order → IsPlacedIn dl repr Start parts order offsets size align niche
     → (if may_move repr.kind (length parts) then space_beside dl size niche else None) ≡ Some space → last ≡ niche_in dl repr End parts order
     → IsNamedLayout dl repr parts order offsets size align (if b then last else niche)
@@ -116,7 +116,7 @@ by_last false dl repr parts order offsets size align space niche last late fixed
     named_still dl repr parts order order offsets size align space niche last named placed some (named_in_source repr.reorderable repr parts order fixed named) ends late
 
 -- so its layout has the last of its greatest niches where that begins late enough
-pub named_fixed : (dl : TargetDataLayout) (repr : ListRepr) (parts : List Part) (order offsets : List ℕ) (size align space : ℕ) (niche last : Option Niche)
+pub named_fixed : (dl : TargetDataLayout) (repr : FieldsRepr) (parts : List Part) (order offsets : List ℕ) (size align space : ℕ) (niche last : Option Niche)
     → repr.reorderable ≡ false → IsNamedOrder repr Start parts order → IsPlacedIn dl repr Start parts order offsets size align niche
     → (if may_move repr.kind (length parts) then space_beside dl size niche else None) ≡ Some space → last ≡ niche_in dl repr End parts order
     → IsNamedLayout dl repr parts order offsets size align (if begins_after space last then last else niche)
@@ -134,7 +134,7 @@ some_moves : (b : Bool) (o : Option ℕ) (space : ℕ) → (if b then o else Non
 some_moves true o space e = refl
 some_moves false o space e = cc
 
-pub second_clear : (dl : TargetDataLayout) (repr : ListRepr) (parts : List Part) (first second : List ℕ) (o : Option ℕ) (space : ℕ) → All (IsLawfulPart dl) parts → IsNonEmptyIfUnsized repr.kind (length parts)
+pub second_clear : (dl : TargetDataLayout) (repr : FieldsRepr) (parts : List Part) (first second : List ℕ) (o : Option ℕ) (space : ℕ) → All (IsLawfulPart dl) parts → IsNonEmptyIfUnsized repr.kind (length parts)
     → IsNamedOrder repr Start parts first → fault_in repr (size_bound dl) parts first ≡ None
     → (if may_move repr.kind (length parts) then o else None) ≡ Some space
     → IsNamedOrder repr End parts second → fault_in repr (size_bound dl) parts second ≡ None
@@ -152,7 +152,7 @@ second_clear dl repr parts first second o space law some named clear wanted ends
     = (rounded_to (end_from repr.pack (start_of repr.pack repr.kind) (in_order parts second)) (align_of repr parts)).above in
     fault_in-none repr (size_bound dl) parts second (faultless_of_sized repr (size_bound dl) parts (start_of repr.pack repr.kind) second there (omega (arith, up, small))) small
 
-pub second_never : (dl : TargetDataLayout) (repr : ListRepr) (parts : List Part) (first : List ℕ) (o : Option ℕ) (space : ℕ) (fault : ListFault) → All (IsLawfulPart dl) parts → IsNonEmptyIfUnsized repr.kind (length parts)
+pub second_never : (dl : TargetDataLayout) (repr : FieldsRepr) (parts : List Part) (first : List ℕ) (o : Option ℕ) (space : ℕ) (fault : FieldsFault) → All (IsLawfulPart dl) parts → IsNonEmptyIfUnsized repr.kind (length parts)
     → IsNamedOrder repr Start parts first → fault_in repr (size_bound dl) parts first ≡ None
     → (if may_move repr.kind (length parts) then o else None) ≡ Some space
     → IsFaultOf dl repr End parts fault → IsFaultOf dl repr Start parts fault
@@ -173,16 +173,16 @@ maybe_run None A B m = inl m
 maybe_run (Some n) A B m = inr (n, m)
 
 -- The layout is that of a named order.
-pub record IsBiased (dl : TargetDataLayout) (repr : ListRepr) (parts : List Part) (order offsets : List ℕ) (size align : ℕ) (niche : Option Niche) : Type 0 where
+pub record IsBiased (dl : TargetDataLayout) (repr : FieldsRepr) (parts : List Part) (order offsets : List ℕ) (size align : ℕ) (niche : Option Niche) : Type 0 where
   pub bias : NicheBias
   pub named : IsNamedOrder repr bias parts order
   pub placed : IsPlacedIn dl repr bias parts order offsets size align niche
 
-started : (dl : TargetDataLayout) (repr : ListRepr) (parts : List Part) (bias : NicheBias) (named_one order offsets : List ℕ) (size align : ℕ) (niche : Option Niche)
+started : (dl : TargetDataLayout) (repr : FieldsRepr) (parts : List Part) (bias : NicheBias) (named_one order offsets : List ℕ) (size align : ℕ) (niche : Option Niche)
     → IsNamedOrder repr bias parts named_one → order ≡ named_one → IsPlacedIn dl repr bias parts order offsets size align niche → IsBiased dl repr parts order offsets size align niche
 started dl repr parts bias one order offsets size align niche named same placed = record { bias = bias; named = subst (IsNamedOrder repr bias parts) (sym same) named; placed = placed }
 
-run_cases : (dl : TargetDataLayout) (repr : ListRepr) (parts : List Part) (first order offsets : List ℕ) (size align : ℕ) (niche : Option Niche) → IsNamedOrder repr Start parts first
+run_cases : (dl : TargetDataLayout) (repr : FieldsRepr) (parts : List Part) (first order offsets : List ℕ) (size align : ℕ) (niche : Option Niche) → IsNamedOrder repr Start parts first
     → ((order ≡ first) × IsPlacedIn dl repr Start parts order offsets size align niche)
     ⊎ ((space : ℕ) × ((second : List ℕ) × IsNamedOrder repr End parts second
     × MatchBool (begins_after space (niche_in dl repr End parts second))
@@ -196,7 +196,7 @@ run_cases dl repr parts first order offsets size align niche named (inr r) =
     (either_run (begins_after r.0 (niche_in dl repr End parts r.1.0)) ((order ≡ r.1.0) × IsPlacedIn dl repr End parts order offsets size align niche)
     ((order ≡ first) × IsPlacedIn dl repr Start parts order offsets size align niche) r.1.2)
 
-pub biased_of : (dl : TargetDataLayout) (repr : ListRepr) (parts : List Part) (order offsets : List ℕ) (size align : ℕ) (niche : Option Niche)
+pub biased_of : (dl : TargetDataLayout) (repr : FieldsRepr) (parts : List Part) (order offsets : List ℕ) (size align : ℕ) (niche : Option Niche)
     → IsNamedLayout dl repr parts order offsets size align niche → IsBiased dl repr parts order offsets size align niche
 biased_of dl repr parts order offsets size align niche n =
     run_cases dl repr parts n.0 order offsets size align niche n.1

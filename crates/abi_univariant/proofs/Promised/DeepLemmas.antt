@@ -8,10 +8,10 @@ use Rattle.abi_scalar.specs.declared.layout_data.LayoutData.{LayoutData}
 use Rattle.abi_scalar.specs.declared.niche.Niche.{Niche}
 use Rattle.abi_scalar.specs.Lawful.{IsLawfulNiche}
 use Rattle.abi_univariant.specs.declared.part.Part.{Part}
-use Rattle.abi_univariant.specs.declared.list_repr.ListRepr.{ListRepr}
+use Rattle.abi_univariant.specs.declared.fields_repr.FieldsRepr.{FieldsRepr}
 use Rattle.abi_univariant.specs.declared.order.NicheBias.TheVariants.{Start}
-use Rattle.abi_univariant.specs.declared.placing.ListFault.{ListFault}
-use Rattle.abi_univariant.specs.declared.placing.ListFault.TheVariants.{Unsized, TooLarge, OutOfMemory}
+use Rattle.abi_univariant.specs.declared.placing.FieldsFault.{FieldsFault}
+use Rattle.abi_univariant.specs.declared.placing.FieldsFault.TheVariants.{Unsized, TooLarge, OutOfMemory}
 use Rattle.abi_univariant.specs.Fault.{fault_in}
 use Rattle.abi_univariant.specs.List.{AreSized}
 use Rattle.abi_univariant.specs.Part.{is_unsized, parts_of}
@@ -27,27 +27,27 @@ use Rattle.abi_univariant.proofs.Placed.RunLemmas.{IsBiased, aligned_parts}
 use Rattle.abi_univariant.proofs.Sorted.Sorting.{within_order}
 
 -- an order that is named for a bias is allowed
-pub in_order_of : (dl : TargetDataLayout) (repr : ListRepr) (parts : List Part) (order offsets : List ℕ) (size align : ℕ) (niche : Option Niche) → IsNonEmptyIfUnsized repr.kind (length parts)
+pub in_order_of : (dl : TargetDataLayout) (repr : FieldsRepr) (parts : List Part) (order offsets : List ℕ) (size align : ℕ) (niche : Option Niche) → IsNonEmptyIfUnsized repr.kind (length parts)
     → IsBiased dl repr parts order offsets size align niche → IsInOrder dl repr parts order offsets size align niche
 in_order_of dl repr parts order offsets size align niche tail b = record { allowed = named_allowed repr b.bias parts order tail b.named; bias = b.bias; placed = b.placed }
 
-pub biased_least : (dl : TargetDataLayout) (repr : ListRepr) (parts : List Part) (order offsets : List ℕ) (size align : ℕ) (niche : Option Niche) (other : List ℕ) → All (IsLawfulPart dl) parts
+pub biased_least : (dl : TargetDataLayout) (repr : FieldsRepr) (parts : List Part) (order offsets : List ℕ) (size align : ℕ) (niche : Option Niche) (other : List ℕ) → All (IsLawfulPart dl) parts
     → IsNonEmptyIfUnsized repr.kind (length parts) → IsBiased dl repr parts order offsets size align niche → IsAllowed repr (length parts) other → size ≤ size_in repr parts other
 biased_least dl repr parts order offsets size align niche other law tail b q =
     rw b.placed.extent (named_least repr b.bias parts order other (aligned_parts dl parts law) tail b.named q)
 
-pub biased_sum : (dl : TargetDataLayout) (repr : ListRepr) (parts : List Part) (order offsets : List ℕ) (size align : ℕ) (niche : Option Niche) → All (IsLawfulPart dl) parts
+pub biased_sum : (dl : TargetDataLayout) (repr : FieldsRepr) (parts : List Part) (order offsets : List ℕ) (size align : ℕ) (niche : Option Niche) → All (IsLawfulPart dl) parts
     → IsTrue repr.reorderable → IsSized repr.kind → IsBiased dl repr parts order offsets size align niche → size ≡ sum_rounded repr parts
 biased_sum dl repr parts order offsets size align niche law free sized b = b.placed.extent ∙ named_tight repr b.bias parts order (aligned_parts dl parts law) free sized b.named
 
 -- ---- the niche
 
-pub biased_inside : (dl : TargetDataLayout) (repr : ListRepr) (parts : List Part) (order offsets : List ℕ) (size align : ℕ) (niche : Option Niche) → All (IsLawfulPart dl) parts
+pub biased_inside : (dl : TargetDataLayout) (repr : FieldsRepr) (parts : List Part) (order offsets : List ℕ) (size align : ℕ) (niche : Option Niche) → All (IsLawfulPart dl) parts
     → IsNonEmptyIfUnsized repr.kind (length parts) → IsBiased dl repr parts order offsets size align niche → IfSome niche (IsLawfulNiche dl size)
 biased_inside dl repr parts order offsets size align niche law tail b =
     ordered_inside dl repr parts order offsets size align niche law (in_order_of dl repr parts order offsets size align niche tail b)
 
-pub biased_index : (dl : TargetDataLayout) (repr : ListRepr) (parts : List Part) (order offsets : List ℕ) (size align : ℕ) (niche : Option Niche)
+pub biased_index : (dl : TargetDataLayout) (repr : FieldsRepr) (parts : List Part) (order offsets : List ℕ) (size align : ℕ) (niche : Option Niche)
     → IsNonEmptyIfUnsized repr.kind (length parts) → IsBiased dl repr parts order offsets size align niche → IfSome niche (IsNicheOfIndex offsets parts)
 biased_index dl repr parts order offsets size align niche tail b =
     ordered_index dl repr parts order offsets size align niche (in_order_of dl repr parts order offsets size align niche tail b)
@@ -55,7 +55,7 @@ biased_index dl repr parts order offsets size align niche tail b =
 -- ---- the refusal
 
 -- a list that is refused for its size is too large in each order
-pub fault_large_all : (dl : TargetDataLayout) (repr : ListRepr) (parts : List Part) (fault : ListFault) → All (IsLawfulPart dl) parts → IsNonEmptyIfUnsized repr.kind (length parts)
+pub fault_large_all : (dl : TargetDataLayout) (repr : FieldsRepr) (parts : List Part) (fault : FieldsFault) → All (IsLawfulPart dl) parts → IsNonEmptyIfUnsized repr.kind (length parts)
     → IsFaultOf dl repr Start parts fault → fault ≡ TooLarge → (other : List ℕ) → IsAllowed repr (length parts) other → size_bound dl ≤ size_in repr parts other
 fault_large_all dl repr parts fault law tail (inl f) is other q =
     all_too_large repr Start parts f.0 (size_bound dl) (aligned_parts dl parts law) tail f.1 (large_in repr (size_bound dl) parts f.0 (f.2 ∙ ap (λ x. Some x) is)) other q
@@ -68,7 +68,7 @@ sized_at layout_of dl (h ∷ hs) zero sized short = All-head (λ f. is_unsized f
 sized_at layout_of dl (h ∷ hs) (suc i) sized short = sized_at layout_of dl hs i (All-tail (λ f. is_unsized f.backend_repr ≡ false) (layout_of h) (map layout_of hs) sized) (omega arith)
 
 -- fields that are sized have no fault but their size
-pub sized_cases : {F V H : Type 0} (layout_of : H → LayoutData F V) (dl : TargetDataLayout) (repr : ListRepr) (hs : List H) (order : List ℕ) (fault : ListFault) → AreSized (map layout_of hs)
+pub sized_cases : {F V H : Type 0} (layout_of : H → LayoutData F V) (dl : TargetDataLayout) (repr : FieldsRepr) (hs : List H) (order : List ℕ) (fault : FieldsFault) → AreSized (map layout_of hs)
     → All (λ i. i < length (parts_of dl (map layout_of hs))) order → fault_in repr (size_bound dl) (parts_of dl (map layout_of hs)) order ≡ Some fault → fault ≡ TooLarge
 sized_cases layout_of dl repr hs order (Unsized i) sized within e =
     let u = unsized_in repr (size_bound dl) (parts_of dl (map layout_of hs)) order (λ i. i < length (parts_of dl (map layout_of hs))) i e within in
@@ -79,21 +79,21 @@ sized_cases layout_of dl repr hs order TooLarge sized within e = refl
 sized_cases layout_of dl repr hs order OutOfMemory sized within e = absurd (memory_in repr (size_bound dl) (parts_of dl (map layout_of hs)) order e)
 
 -- in an allowed order sized fields have no other fault than the size
-pub sized_in_order : {F V H : Type 0} (layout_of : H → LayoutData F V) (dl : TargetDataLayout) (repr : ListRepr) (hs : List H) (order : List ℕ) (fault : ListFault) → AreSized (map layout_of hs)
+pub sized_in_order : {F V H : Type 0} (layout_of : H → LayoutData F V) (dl : TargetDataLayout) (repr : FieldsRepr) (hs : List H) (order : List ℕ) (fault : FieldsFault) → AreSized (map layout_of hs)
     → IsAllowed repr (length (parts_of dl (map layout_of hs))) order → fault_in repr (size_bound dl) (parts_of dl (map layout_of hs)) order ≡ Some fault → fault ≡ TooLarge
 sized_in_order layout_of dl repr hs order fault sized allowed e =
     let count = length (parts_of dl (map layout_of hs)) in
     sized_cases layout_of dl repr hs order fault sized (within_order count order (allowed_permutes repr count order allowed)) e
 
--- a list of sized fields is refused for its size, or for want of memory
-pub sized_fault : {F V H : Type 0} (layout_of : H → LayoutData F V) (dl : TargetDataLayout) (repr : ListRepr) (hs : List H) (fault : ListFault) → AreSized (map layout_of hs)
+-- a list of sized fields is refused for its size, or for that memory ran out
+pub sized_fault : {F V H : Type 0} (layout_of : H → LayoutData F V) (dl : TargetDataLayout) (repr : FieldsRepr) (hs : List H) (fault : FieldsFault) → AreSized (map layout_of hs)
     → IsNonEmptyIfUnsized repr.kind (length (parts_of dl (map layout_of hs))) → IsFaultOf dl repr Start (parts_of dl (map layout_of hs)) fault → (fault ≡ TooLarge) ⊎ (fault ≡ OutOfMemory)
 sized_fault layout_of dl repr hs fault sized tail (inl f) =
     inl (sized_in_order layout_of dl repr hs f.0 fault sized (named_allowed repr Start (parts_of dl (map layout_of hs)) f.0 tail f.1) f.2)
 sized_fault layout_of dl repr hs fault sized tail (inr e) = inr e
 
 -- what is laid out has an order that is not too large
-pub biased_fits : (dl : TargetDataLayout) (repr : ListRepr) (parts : List Part) (order offsets : List ℕ) (size align : ℕ) (niche : Option Niche)
+pub biased_fits : (dl : TargetDataLayout) (repr : FieldsRepr) (parts : List Part) (order offsets : List ℕ) (size align : ℕ) (niche : Option Niche)
     → IsNonEmptyIfUnsized repr.kind (length parts) → IsBiased dl repr parts order offsets size align niche
     → ((other : List ℕ) → IsAllowed repr (length parts) other → size_bound dl ≤ size_in repr parts other) → ⊥
 biased_fits dl repr parts order offsets size align niche tail b all =

@@ -7,7 +7,7 @@ use Rattle.abi_scalar.specs.declared.layout_data.LayoutData.{LayoutData}
 use Rattle.abi_scalar.specs.declared.niche.Niche.{Niche}
 use Rattle.abi_scalar.specs.Lawful.{IsLawfulLayout, IsLawfulNiche}
 use Rattle.abi_univariant.specs.declared.part.Part.{Part}
-use Rattle.abi_univariant.specs.declared.list_repr.ListRepr.{ListRepr}
+use Rattle.abi_univariant.specs.declared.fields_repr.FieldsRepr.{FieldsRepr}
 use Rattle.abi_univariant.specs.Apart.{AreAligned, AreApart}
 use Rattle.abi_univariant.specs.ListNiche.{HasLargestNiche, IsNicheOfPart, niche_in}
 use Rattle.abi_univariant.specs.LawfulPart.{IsLawfulPart}
@@ -23,13 +23,13 @@ use Rattle.abi_univariant.proofs.Placed.RunLemmas.{niche_inside}
 use Rattle.abi_univariant.proofs.Sorted.Sorting.{in_order-permutation, within_order}
 use Rattle.abi_univariant.proofs.Placed.SourceLemmas.{Lies, length-in, offset_at, part_in, parts_after, parts_aligned, parts_apart}
 
-pub ordered_permutes : (dl : TargetDataLayout) (repr : ListRepr) (parts : List Part) (order offsets : List ℕ) (size align : ℕ) (niche : Option Niche) → IsInOrder dl repr parts order offsets size align niche → IsPermutation (source_order (length parts)) order
+pub ordered_permutes : (dl : TargetDataLayout) (repr : FieldsRepr) (parts : List Part) (order offsets : List ℕ) (size align : ℕ) (niche : Option Niche) → IsInOrder dl repr parts order offsets size align niche → IsPermutation (source_order (length parts)) order
 ordered_permutes dl repr parts order offsets size align niche b = allowed_permutes repr (length parts) order b.allowed
 
-pub ordered_lies : (dl : TargetDataLayout) (repr : ListRepr) (parts : List Part) (order offsets : List ℕ) (size align : ℕ) (niche : Option Niche) → IsInOrder dl repr parts order offsets size align niche → Lies repr.pack (start_of repr.pack repr.kind) parts order offsets
+pub ordered_lies : (dl : TargetDataLayout) (repr : FieldsRepr) (parts : List Part) (order offsets : List ℕ) (size align : ℕ) (niche : Option Niche) → IsInOrder dl repr parts order offsets size align niche → Lies repr.pack (start_of repr.pack repr.kind) parts order offsets
 ordered_lies dl repr parts order offsets size align niche b = record { permutes = ordered_permutes dl repr parts order offsets size align niche b; count = b.placed.count; places = b.placed.places }
 
-ordered_up : (dl : TargetDataLayout) (repr : ListRepr) (parts : List Part) (order offsets : List ℕ) (size align : ℕ) (niche : Option Niche)
+ordered_up : (dl : TargetDataLayout) (repr : FieldsRepr) (parts : List Part) (order offsets : List ℕ) (size align : ℕ) (niche : Option Niche)
     → IsInOrder dl repr parts order offsets size align niche → end_from repr.pack (start_of repr.pack repr.kind) (in_order parts order) ≤ size
 ordered_up dl repr parts order offsets size align niche b = rw b.placed.extent (rounded_to (end_from repr.pack (start_of repr.pack repr.kind) (in_order parts order)) (align_of repr parts)).above
 
@@ -41,7 +41,7 @@ aligns_of : {F V H : Type 0} (layout_of : H → LayoutData F V) (dl : TargetData
 aligns_of layout_of dl pack [] = refl
 aligns_of layout_of dl pack (h ∷ hs) = ap (λ xs. cut pack (layout_of h).align.abi ∷ xs) (aligns_of layout_of dl pack hs)
 
-pub ordered_apart : {F V H : Type 0} (layout_of : H → LayoutData F V) (dl : TargetDataLayout) (repr : ListRepr) (hs : List H) (order offsets : List ℕ) (size align : ℕ) (niche : Option Niche)
+pub ordered_apart : {F V H : Type 0} (layout_of : H → LayoutData F V) (dl : TargetDataLayout) (repr : FieldsRepr) (hs : List H) (order offsets : List ℕ) (size align : ℕ) (niche : Option Niche)
     → IsInOrder dl repr (parts_of dl (map layout_of hs)) order offsets size align niche
     → AreApart size offsets (map (λ h. (layout_of h).size) hs)
 ordered_apart layout_of dl repr hs order offsets size align niche b =
@@ -49,21 +49,21 @@ ordered_apart layout_of dl repr hs order offsets size align niche b =
     (parts_apart repr.pack (start_of repr.pack repr.kind) size (parts_of dl (map layout_of hs)) order offsets
     (ordered_lies dl repr (parts_of dl (map layout_of hs)) order offsets size align niche b) (ordered_up dl repr (parts_of dl (map layout_of hs)) order offsets size align niche b))
 
-pub ordered_aligned : {F V H : Type 0} (layout_of : H → LayoutData F V) (dl : TargetDataLayout) (repr : ListRepr) (hs : List H) (order offsets : List ℕ) (size align : ℕ) (niche : Option Niche)
+pub ordered_aligned : {F V H : Type 0} (layout_of : H → LayoutData F V) (dl : TargetDataLayout) (repr : FieldsRepr) (hs : List H) (order offsets : List ℕ) (size align : ℕ) (niche : Option Niche)
     → IsInOrder dl repr (parts_of dl (map layout_of hs)) order offsets size align niche
     → AreAligned offsets (map (λ h. cut repr.pack (layout_of h).align.abi) hs)
 ordered_aligned layout_of dl repr hs order offsets size align niche b =
     subst (AreAligned offsets) (aligns_of layout_of dl repr.pack hs)
     (parts_aligned repr.pack (start_of repr.pack repr.kind) (parts_of dl (map layout_of hs)) order offsets (ordered_lies dl repr (parts_of dl (map layout_of hs)) order offsets size align niche b))
 
-pub ordered_after : (dl : TargetDataLayout) (repr : ListRepr) (parts : List Part) (order offsets : List ℕ) (size align : ℕ) (niche : Option Niche)
+pub ordered_after : (dl : TargetDataLayout) (repr : FieldsRepr) (parts : List Part) (order offsets : List ℕ) (size align : ℕ) (niche : Option Niche)
     → IsInOrder dl repr parts order offsets size align niche → All (λ o. start_of repr.pack repr.kind ≤ o) offsets
 ordered_after dl repr parts order offsets size align niche b =
     parts_after repr.pack (start_of repr.pack repr.kind) parts order offsets (ordered_lies dl repr parts order offsets size align niche b)
 
 -- ---- the niche
 
-pub ordered_inside : (dl : TargetDataLayout) (repr : ListRepr) (parts : List Part) (order offsets : List ℕ) (size align : ℕ) (niche : Option Niche) → All (IsLawfulPart dl) parts
+pub ordered_inside : (dl : TargetDataLayout) (repr : FieldsRepr) (parts : List Part) (order offsets : List ℕ) (size align : ℕ) (niche : Option Niche) → All (IsLawfulPart dl) parts
     → IsInOrder dl repr parts order offsets size align niche → IfSome niche (IsLawfulNiche dl size)
 ordered_inside dl repr parts order offsets size align niche law b =
     rw (b.placed.largest, b.placed.extent) (niche_inside b.bias dl repr parts order law (ordered_permutes dl repr parts order offsets size align niche b))
@@ -78,14 +78,14 @@ from_memory pack from parts order offsets n l h =
       own = rw (← offset_at pack from parts order offsets h.index (get_or order h.index 0) l short refl, ← part_in parts order h.index (get_or order h.index 0) short refl) h.own;
     }
 
-pub ordered_index : (dl : TargetDataLayout) (repr : ListRepr) (parts : List Part) (order offsets : List ℕ) (size align : ℕ) (niche : Option Niche)
+pub ordered_index : (dl : TargetDataLayout) (repr : FieldsRepr) (parts : List Part) (order offsets : List ℕ) (size align : ℕ) (niche : Option Niche)
     → IsInOrder dl repr parts order offsets size align niche → IfSome niche (IsNicheOfIndex offsets parts)
 ordered_index dl repr parts order offsets size align niche b =
     rw b.placed.largest (weaken_niche (IsNicheOfIndex (offsets_from repr.pack (start_of repr.pack repr.kind) (in_order parts order)) (in_order parts order)) (IsNicheOfIndex offsets parts) (niche_in dl repr b.bias parts order)
     (λ n h. from_memory repr.pack (start_of repr.pack repr.kind) parts order offsets n (ordered_lies dl repr parts order offsets size align niche b) h)
     (greatest_of_index b.bias dl (offsets_from repr.pack (start_of repr.pack repr.kind) (in_order parts order)) (in_order parts order)))
 
-pub ordered_of_part : {F V H : Type 0} (layout_of : H → LayoutData F V) (dl : TargetDataLayout) (repr : ListRepr) (hs : List H) (order offsets : List ℕ) (size align : ℕ) (niche : Option Niche)
+pub ordered_of_part : {F V H : Type 0} (layout_of : H → LayoutData F V) (dl : TargetDataLayout) (repr : FieldsRepr) (hs : List H) (order offsets : List ℕ) (size align : ℕ) (niche : Option Niche)
     → IsInOrder dl repr (parts_of dl (map layout_of hs)) order offsets size align niche
     → IfSome niche (IsNicheOfPart offsets (map layout_of hs))
 ordered_of_part layout_of dl repr hs order offsets size align niche b =
@@ -93,7 +93,7 @@ ordered_of_part layout_of dl repr hs order offsets size align niche b =
     (λ n h. of_part layout_of dl offsets hs n h.index (b.placed.count ∙ length-parts layout_of dl hs) (omega (arith, h.within, length-parts layout_of dl hs)) h.own)
     (ordered_index dl repr (parts_of dl (map layout_of hs)) order offsets size align niche b)
 
-pub ordered_largest : {F V H : Type 0} (layout_of : H → LayoutData F V) (dl : TargetDataLayout) (repr : ListRepr) (hs : List H) (order offsets : List ℕ) (size align : ℕ) (niche : Option Niche)
+pub ordered_largest : {F V H : Type 0} (layout_of : H → LayoutData F V) (dl : TargetDataLayout) (repr : FieldsRepr) (hs : List H) (order offsets : List ℕ) (size align : ℕ) (niche : Option Niche)
     → All (λ h. IsLawfulLayout dl (layout_of h)) hs → IsInOrder dl repr (parts_of dl (map layout_of hs)) order offsets size align niche
     → HasLargestNiche dl niche (map layout_of hs)
 ordered_largest layout_of dl repr hs order offsets size align niche law b =

@@ -10,7 +10,7 @@ use Rattle.abi_scalar.specs.declared.repr.ReprOptions.{ReprOptions}
 use Rattle.abi_univariant.specs.declared.part.Part.{Part}
 use Rattle.abi_univariant.specs.Least.{size_by}
 use Rattle.abi_univariant.specs.Part.{parts_of}
-use Rattle.abi_univariant.specs.Placement.{align_of, cut, in_order, list_repr, prefix_align, size_in, start_of}
+use Rattle.abi_univariant.specs.Placement.{align_of, cut, in_order, fields_repr, prefix_align, size_in, start_of}
 use Rattle.abi_univariant.proofs.Offsets.Ends.{end_from-mono}
 use Rattle.abi_univariant.proofs.Offsets.Rounding.{pow_dvd, rounded_to}
 use Rattle.abi_univariant.proofs.Sorted.Tight.{greatest}
@@ -49,4 +49,4 @@ size_in-grows pack align reorderable kind larger parts order starts aligns =
 pub size_by-prefixed : {F V : Type 0} (dl : TargetDataLayout) (repr : ReprOptions) (fields : List (LayoutData F V)) (order : List ℕ) (n b : ℕ)
     → size_by dl repr AlwaysSized fields order ≤ size_by dl repr (Prefixed n b) fields order
 size_by-prefixed dl repr fields order n b =
-    size_in-grows repr.pack (list_repr dl repr AlwaysSized).align (list_repr dl repr AlwaysSized).reorderable AlwaysSized (Prefixed n b) (parts_of dl fields) order (omega arith) (omega arith)
+    size_in-grows repr.pack (fields_repr dl repr AlwaysSized).align (fields_repr dl repr AlwaysSized).reorderable AlwaysSized (Prefixed n b) (parts_of dl fields) order (omega arith) (omega arith)

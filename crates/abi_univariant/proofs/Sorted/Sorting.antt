@@ -13,23 +13,23 @@ use Rattle.abi_base.specs.declared.struct_kind.StructKind.{StructKind}
 use Rattle.abi_base.specs.declared.struct_kind.StructKind.TheVariants.{AlwaysSized, MaybeUnsized, Prefixed}
 use Rattle.abi_univariant.specs.declared.order.SortKey.{SortKey}
 use Rattle.abi_univariant.specs.Placement.{IsNonEmptyIfUnsized, no_part, in_order, source_order}
-use Rattle.abi_univariant.specs.declared.list_repr.ListRepr.{ListRepr}
+use Rattle.abi_univariant.specs.declared.fields_repr.FieldsRepr.{FieldsRepr}
 use Rattle.abi_univariant.specs.declared.order.NicheBias.{NicheBias}
-use Rattle.abi_univariant.specs.Order.{IsSortedBefore, IsSortedOrder, movable, rule_of, sort_key, tail, compare_keys}
+use Rattle.abi_univariant.specs.Order.{IsSortedBefore, IsSortedOrder, movable_front, rule_of, sort_key, tail, compare_keys}
 use Rattle.abi_univariant.proofs.Offsets.Ends.{RisesFrom, FallsFrom}
 
 -- what holds of all holds of those that may move
-pub movable_all : {A : Type 0} (P : A → Type 0) (kind : StructKind) (fields : List A) → All P fields → All P (movable kind fields)
+pub movable_all : {A : Type 0} (P : A → Type 0) (kind : StructKind) (fields : List A) → All P fields → All P (movable_front kind fields)
 movable_all P AlwaysSized fields law = law
 movable_all P MaybeUnsized fields law = All-take P (length fields - 1) fields law
 movable_all P (Prefixed size align) fields law = law
 
-pub tail_of_all : (kind : StructKind) (fields : List Part) → IsNonEmptyIfUnsized kind (length fields) → length fields ≤ length (movable kind fields) → [] ≡ tail kind fields
+pub tail_of_all : (kind : StructKind) (fields : List Part) → IsNonEmptyIfUnsized kind (length fields) → length fields ≤ length (movable_front kind fields) → [] ≡ tail kind fields
 tail_of_all AlwaysSized fields some h = refl
 tail_of_all MaybeUnsized fields some h = absurd (omega (arith, length-take (length fields - 1) fields))
 tail_of_all (Prefixed size align) fields some h = refl
 
-pub tail_of_front : (kind : StructKind) (fields : List Part) → length (movable kind fields) < length fields → length (movable kind fields) ∷ [] ≡ tail kind fields
+pub tail_of_front : (kind : StructKind) (fields : List Part) → length (movable_front kind fields) < length fields → length (movable_front kind fields) ∷ [] ≡ tail kind fields
 tail_of_front AlwaysSized fields h = absurd (omega arith)
 tail_of_front MaybeUnsized fields h = ap (λ n. n ∷ []) (omega (arith, length-take (length fields - 1) fields))
 tail_of_front (Prefixed size align) fields h = absurd (omega arith)
@@ -43,7 +43,7 @@ few_sorted keys few = record {
   stable = λ x. refl;
 }
 
-source_before : (kind : StructKind) (fields : List Part) → IsNonEmptyIfUnsized kind (length fields) → source_order (length fields) ≡ source_order (length (movable kind fields)) ++ tail kind fields
+source_before : (kind : StructKind) (fields : List Part) → IsNonEmptyIfUnsized kind (length fields) → source_order (length fields) ≡ source_order (length (movable_front kind fields)) ++ tail kind fields
 source_before AlwaysSized fields some = sym (append-nil (source_order (length fields)))
 source_before MaybeUnsized fields some =
     let all : length fields ≡ (length fields - 1) + 1 = omega (arith, some) in
@@ -52,9 +52,9 @@ source_before MaybeUnsized fields some =
 source_before (Prefixed size align) fields some = sym (append-nil (source_order (length fields)))
 
 -- so source order is the one that is named
-pub few_named : (repr : ListRepr) (bias : NicheBias) (fields : List Part) → IsNonEmptyIfUnsized repr.kind (length fields) → length (movable repr.kind fields) < 2 → IsSortedBefore repr bias fields (source_order (length fields))
+pub few_named : (repr : FieldsRepr) (bias : NicheBias) (fields : List Part) → IsNonEmptyIfUnsized repr.kind (length fields) → length (movable_front repr.kind fields) < 2 → IsSortedBefore repr bias fields (source_order (length fields))
 few_named repr bias fields some few =
-    let front = movable repr.kind fields in
+    let front = movable_front repr.kind fields in
     let key = sort_key (rule_of repr bias front) in
     let many : length (map key front) ≡ length front = length-map front key in (
       source_order (length front),

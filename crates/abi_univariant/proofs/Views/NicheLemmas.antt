@@ -13,7 +13,7 @@ use Rattle.abi_base.specs.Primitive.{primitive_size, IsLawfulPrimitive, KnowsPri
 use Rattle.abi_scalar.specs.declared.niche.Niche.{Niche}
 use Rattle.abi_scalar.specs.declared.layout_data.LayoutData.{LayoutData}
 use Rattle.abi_scalar.specs.Lawful.{IsLawfulLayout, IsLawfulNiche}
-use Rattle.abi_scalar.specs.Niche.{IsReadableNiche, available_in, niche_size}
+use Rattle.abi_scalar.specs.Niche.{IsWellFormedNiche, available_in, niche_size}
 use Rattle.abi_scalar.specs.Range.{AreWithin}
 use Rattle.abi_scalar.proofs.CountLemmas.{free_counted}
 use Rattle.abi_scalar.proofs.RangeLemmas.{none_free}
@@ -106,7 +106,7 @@ readable_size dl (OfFloat float.F128) h = (tt, omega arith, omega arith)
 readable_size dl (OfFloat float.PpcF128) h = (tt, omega arith, omega arith)
 readable_size dl (Pointer space) h = (h.0, h.1.some, h.1.most)
 
-pub lawful_readable : (dl : TargetDataLayout) (size : ℕ) (niche : Option Niche) → IfSome niche (IsLawfulNiche dl size) → IfSome niche (IsReadableNiche dl)
+pub lawful_readable : (dl : TargetDataLayout) (size : ℕ) (niche : Option Niche) → IfSome niche (IsLawfulNiche dl size) → IfSome niche (IsWellFormedNiche dl)
 lawful_readable dl size None h = tt
 lawful_readable dl size (Some niche) h =
     let r = readable_size dl niche.value h.pointer in

@@ -44,7 +44,7 @@ same_number m n = told (eqb_tells m n)
     told (inl t) = inl t.1
     told (inr f) = inr f.1
 
--- things that are told apart by a number
+-- things that are distinguished by a number
 by_number : {A : Type 0} → (number : A → ℕ) → (at : ℕ → A) → ((a : A) → at (number a) ≡ a) → (a b : A) → IsTold (a ≡ b)
 by_number number at back a b = told (same_number (number a) (number b))
   where

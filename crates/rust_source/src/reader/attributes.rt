@@ -16,7 +16,7 @@ use crate::reader::cursor::{
     take_until,
 };
 use crate::reader::depth::{most_nested, one_level_deeper};
-use crate::reader::known_attributes::{is_known, names_other_trait};
+use crate::reader::known_attributes::{is_known, names_copy, names_other_trait};
 use crate::reader::literals::Number;
 use crate::reader::naming::word_text;
 use crate::reader::repr::{NOTHING, asks, next_number, refuse_repr, with_repr};
@@ -39,6 +39,8 @@ pub(crate) struct Attributes {
     pub valid_range: Option<(u128, u128)>,
     /// The first fault of a `repr`, which what a `cfg` takes out doesn't have.
     pub fault: Option<SourceFault>,
+    /// Whether a `derive` of `Copy` is among them.
+    pub derives_copy: bool,
     /// Whether a `derive` may bring in attributes of its own.
     pub has_helpers: bool,
     /// Where the first attribute stands that isn't known, and that no `derive` before it may have brought in.
@@ -60,6 +62,7 @@ const NONE: Attributes = Attributes {
     repr: NOTHING,
     valid_range: None,
     fault: None,
+    derives_copy: false,
     has_helpers: false,
     unknown: None,
 };
@@ -192,7 +195,10 @@ fn read_simple(
         said.valid_range = Some(range_in(inside)?);
         return Ok(said);
     }
-    said.has_helpers = said.has_helpers || (name == "derive" && names_other_trait(inside));
+    if name == "derive" {
+        said.derives_copy = said.derives_copy || names_copy(inside);
+        said.has_helpers = said.has_helpers || names_other_trait(inside);
+    }
     Ok(said)
 }
 

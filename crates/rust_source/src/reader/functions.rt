@@ -63,7 +63,7 @@ fn function_named(alloc: Global, name: Symbol, at: Place) -> Definition
         parameters: Vec::new(alloc),
     };
     let kind = ItemKind::Const(Const {
-        ty: Type::Function,
+        ty: Type::Function(Vec::new(alloc)),
         value: None,
         owner: None,
     });

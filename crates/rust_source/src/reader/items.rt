@@ -65,6 +65,7 @@ fn item_in(standing: Standing, said: &Attributes, one: Definition) -> Item
         parameters: head.parameters,
         repr: said.repr,
         valid_range: said.valid_range,
+        derives_copy: said.derives_copy,
         unknown_attribute: said.unknown,
         kind,
     }

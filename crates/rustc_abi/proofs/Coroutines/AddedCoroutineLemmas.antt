@@ -14,9 +14,9 @@ use Rattle.abi_scalar.specs.Lawful.{IsLawfulLayout}
 use Rattle.abi_scalar.specs.Scalar.{scalar_size}
 use Rattle.abi_scalar.specs.Shape.{listed_offsets}
 use Rattle.abi_scalar.specs.Variant.{variants_of}
-use Rattle.abi_calc.specs.Coroutine.Clash.{AreStatesApart, IsToldByState}
+use Rattle.abi_calc.specs.Coroutine.Clash.{AreStatesApart, IsDistinguishedByState}
 use Rattle.abi_calc.specs.Coroutine.Layout.{IsStateTag}
-use Rattle.abi_calc.specs.Coroutine.Lists.{AreOwnLists, behind, own_of}
+use Rattle.abi_calc.specs.Coroutine.Lists.{AreOwnLists, state_list_kind, own_of}
 use Rattle.abi_calc.specs.Coroutine.Promotion.{promoted_of}
 use Rattle.abi_calc.proofs.CoroutineLemmas.Promised.{IsAsked, map_first, map_picked}
 use Rattle.abi_calc.proofs.CoroutineLemmas.Deep.{coroutine_promised, coroutine_told}
@@ -93,39 +93,39 @@ module _ (dl : TargetDataLayout) (law : IsLawfulDataLayout dl) (pres ps : List P
   within = states_within (length pres) (length ps) all pairs none
 
   module _ (layout : Layout) (laid : IsCoroutined dl pres tag (one_scalar dl tag) ps all pairs (Ok layout)) where
-    told : IsToldByState dl (λ i. i) (map layout_of pres) (map layout_of ps) all layout
-    told =
+    tag_distinguishes : IsDistinguishedByState dl (λ i. i) (map layout_of pres) (map layout_of ps) all layout
+    tag_distinguishes =
         coroutine_told layout_of dl pres tag (one_scalar dl tag) ps all (conflicts_of (length ps) pairs) asked within (conflict_rows (length ps) pairs)
         (states_once (length pres) (length ps) all pairs none) layout laid
 
-    same_tag : told.tag ≡ tag
-    same_tag = let is : layout.variants ≡ _ = ap (λ l. l.variants) laid.5 in let also = told.told in cc
+    same_tag : tag_distinguishes.tag ≡ tag
+    same_tag = let is : layout.variants ≡ _ = ap (λ l. l.variants) laid.5 in let also = tag_distinguishes.tag_distinguishes in cc
 
     -- it has as many states
     pub coroutine_variants : length (variants_of layout.variants) ≡ length all
     coroutine_variants =
-        ap (λ variants. length (variants_of variants)) told.told
-        ∙ states_count layout.size told.offsets (map (λ (f : Layout). f.size) (map layout_of pres) ++ scalar_size dl told.tag ∷ []) (map layout_of ps) all told.layouts told.apart
+        ap (λ variants. length (variants_of variants)) tag_distinguishes.tag_distinguishes
+        ∙ states_count layout.size tag_distinguishes.offsets (map (λ (f : Layout). f.size) (map layout_of pres) ++ scalar_size dl tag_distinguishes.tag ∷ []) (map layout_of ps) all tag_distinguishes.layouts tag_distinguishes.apart
 
     pub coroutine_flag : IsFlaggedBy (map layout_of pres) (map layout_of ps) layout.uninhabited
     coroutine_flag =
         let first = laid.1 in
-        let count = own_count dl (behind laid.0) ps promoted all laid.2 laid.3 in
+        let count = own_count dl (state_list_kind laid.0) ps promoted all laid.2 laid.3 in
         subst (IsFlaggedBy (map layout_of pres) (map layout_of ps)) (sym (ap (λ l. l.uninhabited) laid.5))
         (flagged_by (map layout_of pres) (layout_of (one_scalar dl tag)) (map layout_of ps) (members_of promoted) (map (own_of promoted) all) laid.2 laid.0.uninhabited refl
         (first.2.uninhabited ∙ ap (list_any (λ (f : Layout). f.uninhabited)) (map_first layout_of pres (one_scalar dl tag) ps promoted))
         (omega (arith, count, some_state (length pres) (length ps) all pairs none))
-        (own_flags dl (behind laid.0) ps promoted all laid.2 laid.3))
+        (own_flags dl (state_list_kind laid.0) ps promoted all laid.2 laid.3))
 
-    states_laid : IsStatesLayout dl pres ps all layout told.offsets tag told.layouts
+    states_laid : IsStatesLayout dl pres ps all layout tag_distinguishes.offsets tag tag_distinguishes.layouts
     states_laid = record {
       some = some_state (length pres) (length ps) all pairs none;
       known = within;
-      long = told.count ∙ ap (λ n. n + 1) (length-map pres layout_of);
-      apart = states_apart layout.size told.offsets (map size_of pres ++ scalar_size dl tag ∷ []) ps all told.layouts within
-          (subst (λ sizes. AreStatesApart layout.size told.offsets (sizes ++ scalar_size dl tag ∷ []) (map layout_of ps) all told.layouts) (sym (map_sizes layout_of pres))
-          (subst (λ t. AreStatesApart layout.size told.offsets (map (λ (f : Layout). f.size) (map layout_of pres) ++ scalar_size dl t ∷ []) (map layout_of ps) all told.layouts) same_tag told.apart));
-      numbers = rw same_tag at told.numbers;
+      long = tag_distinguishes.count ∙ ap (λ n. n + 1) (length-map pres layout_of);
+      apart = states_apart layout.size tag_distinguishes.offsets (map size_of pres ++ scalar_size dl tag ∷ []) ps all tag_distinguishes.layouts within
+          (subst (λ sizes. AreStatesApart layout.size tag_distinguishes.offsets (sizes ++ scalar_size dl tag ∷ []) (map layout_of ps) all tag_distinguishes.layouts) (sym (map_sizes layout_of pres))
+          (subst (λ t. AreStatesApart layout.size tag_distinguishes.offsets (map (λ (f : Layout). f.size) (map layout_of pres) ++ scalar_size dl t ∷ []) (map layout_of ps) all tag_distinguishes.layouts) same_tag tag_distinguishes.apart));
+      numbers = rw same_tag at tag_distinguishes.numbers;
       lawful = (coroutine_promised layout_of dl pres tag (one_scalar dl tag) ps all (conflicts_of (length ps) pairs) asked (Ok layout) laid).lawful;
       view = ap (λ l. l.backend_repr) laid.5;
       niche = ap (λ l. l.largest_niche) laid.5;
@@ -135,9 +135,9 @@ module _ (dl : TargetDataLayout) (law : IsLawfulDataLayout dl) (pres ps : List P
     -- a coroutine that is laid out keeps its values
     coroutine_fits : (prefix_trees locals : Trees) → EachFits dl prefix_trees pres → EachFits dl locals ps → Fits dl (coroutine prefix_trees locals all pairs) (placed_coroutine dl pres tag ps all layout)
     coroutine_fits prefix_trees locals first own =
-        let offsets : listed_offsets layout.fields ≡ told.offsets = ap listed_offsets told.fields in
-        let layouts : variants_of layout.variants ≡ told.layouts = ap variants_of told.told in
-        rw (offsets, layouts) (Fits-states dl prefix_trees locals pres ps all pairs layout told.offsets tag told.layouts states_laid first own)
+        let offsets : listed_offsets layout.fields ≡ tag_distinguishes.offsets = ap listed_offsets tag_distinguishes.fields in
+        let layouts : variants_of layout.variants ≡ tag_distinguishes.layouts = ap variants_of tag_distinguishes.tag_distinguishes in
+        rw (offsets, layouts) (Fits-states dl prefix_trees locals pres ps all pairs layout tag_distinguishes.offsets tag tag_distinguishes.layouts states_laid first own)
 
     -- a coroutine's layout
     pub IsAdded-coroutine : (old new : List Node) (i : ℕ) (prefix_trees locals : Trees) → IsPut old new i (placed_coroutine dl pres tag ps all layout) → AreLaying dl prefix_trees (Ok pres) →
@@ -161,7 +161,7 @@ own_coroutine_fault dl pres ps all pairs e fault = inr (rw fault refl)
 pub lent_count : {H : Type 0} (f : H → Layout) (hs : List H) (ns : List Node) (children : List ℕ) → map f hs ≡ map layout_of (all_at ns children) → length hs ≡ length children
 lent_count f hs ns children same = sym (length-map hs f) ∙ ap length same ∙ length-map (all_at ns children) layout_of ∙ length-map children (placed_in (types_in ns))
 
--- the own fault of a coroutine is told by how many nodes there are
+-- the own fault of a coroutine is given by how many nodes there are
 pub fault_of_nodes : (ns : List Node) (prefix locals : List ℕ) (all : List (List ℕ)) (pairs : List (ℕ × ℕ)) →
     coroutine_fault (length (all_at ns prefix)) (length (all_at ns locals)) all pairs ≡ coroutine_fault (length prefix) (length locals) all pairs
 fault_of_nodes ns prefix locals all pairs =

@@ -13,12 +13,12 @@ use Rattle.abi_calc.proofs.CoroutineLemmas.Deep.{coroutine_apart}
 use Rattle.abi_tree.specs.Tree.{Tree, scalar, pair, never, unit, array, vector, struct, union, enum, coroutine, Trees}
 use Rattle.abi_tree.specs.declared.mark.Mark.{Mark}
 use Rattle.abi_tree.specs.declared.mark.Mark.TheVariants.{Plain}
-use Rattle.abi_tree.specs.Placed.{Placed, layout_of, parts_of_arm}
+use Rattle.abi_tree.specs.Placed.{Placed, layout_of, parts_of_tagged_variant}
 use Rattle.abi_scalar.specs.Layout.{Layout}
 use Rattle.abi_tree.specs.Nodes.{parts_at, placed_in}
 use Rattle.rustc_abi.specs.Clash.{AreClashingLocalsApart, DoLocalsClash, HasLocal, HaveLocalsOneOffset, IsPart}
 use Rattle.rustc_abi.specs.Coroutines.{conflicts_of}
-use Rattle.rustc_abi.specs.Enums.{arms_at}
+use Rattle.rustc_abi.specs.Enums.{tagged_variants_at}
 use Rattle.rustc_abi.specs.Laying.{AreLaying, IsCoroutineOf, IsLaying, coroutine_fault, one_scalar}
 use Rattle.rustc_abi.proofs.Faults.CoroutineFaultLemmas.{conflict_columns, conflict_rows, conflicts_within, entry_of, states_once, states_within}
 use Rattle.rustc_abi.proofs.Trees.LaidLemmas.{all_whole, whole_lawful, coroutine_asked, coroutine_laid}
@@ -32,14 +32,14 @@ part_of (x ∷ offsets) [] place o p h = absurd h
 part_of (x ∷ offsets) (q ∷ ps) zero o p h = (ap (λ y. Some y) h.0, ap (λ y. Some y) h.1)
 part_of (x ∷ offsets) (q ∷ ps) (suc place) o p h = part_of offsets ps place o p h
 
--- a part of an arm has the offset of its layout, and is of its types
-arm_part : (whole : Layout) (mark : Mark) (first : ℕ) (layouts : List (VariantLayout ℕ)) (numbers : List ℕ) (all : List (List Placed)) (i place o : ℕ) (p : Placed) → IsPart (parts_of_arm (arms_at whole mark first layouts numbers all) i) place o p
+-- a part of a tagged variant has the offset of its layout, and is of its types
+tagged_variant_part : (whole : Layout) (mark : Mark) (first : ℕ) (layouts : List (VariantLayout ℕ)) (numbers : List ℕ) (all : List (List Placed)) (i place o : ℕ) (p : Placed) → IsPart (parts_of_tagged_variant (tagged_variants_at whole mark first layouts numbers all) i) place o p
     → (layout : VariantLayout ℕ) × (slice_get layouts i ≡ Some layout) × (slice_get layout.field_offsets place ≡ Some o) × (ps : List Placed) × (slice_get all i ≡ Some ps) × (slice_get ps place ≡ Some p)
-arm_part whole mark first [] numbers all i place o p h = absurd h
-arm_part whole mark first (l ∷ layouts) [] all i place o p h = absurd h
-arm_part whole mark first (l ∷ layouts) (n ∷ numbers) [] i place o p h = absurd h
-arm_part whole mark first (l ∷ layouts) (n ∷ numbers) (ps ∷ all) zero place o p h = let found = part_of l.field_offsets ps place o p h in (l, refl, found.0, ps, refl, found.1)
-arm_part whole mark first (l ∷ layouts) (n ∷ numbers) (ps ∷ all) (suc i) place o p h = arm_part whole mark (first + 1) layouts numbers all i place o p h
+tagged_variant_part whole mark first [] numbers all i place o p h = absurd h
+tagged_variant_part whole mark first (l ∷ layouts) [] all i place o p h = absurd h
+tagged_variant_part whole mark first (l ∷ layouts) (n ∷ numbers) [] i place o p h = absurd h
+tagged_variant_part whole mark first (l ∷ layouts) (n ∷ numbers) (ps ∷ all) zero place o p h = let found = part_of l.field_offsets ps place o p h in (l, refl, found.0, ps, refl, found.1)
+tagged_variant_part whole mark first (l ∷ layouts) (n ∷ numbers) (ps ∷ all) (suc i) place o p h = tagged_variant_part whole mark (first + 1) layouts numbers all i place o p h
 
 -- what stands at a place of a list, for each item something
 mapped_at : {A B : Type 0} (f : A → B) (xs : List A) (i : ℕ) (x : A) (y : B) → slice_get xs i ≡ Some x → slice_get (map f xs) i ≡ Some y → f x ≡ y
@@ -52,10 +52,10 @@ module _ (ps : List Placed) (states : List (List ℕ)) (layouts : List (VariantL
       subst (λ l. l < length ps) (get_or_from_slice_get state place local 0 there) (whole place 0 (slice_get_within state place local there))
 
   -- a local that some state has is one of the locals, where the calculator's layout of the state has it
-  has_local : (whole : Layout) (mark : Mark) (local o : ℕ) (x : Placed) → HasLocal states (arms_at whole mark 0 layouts numbers (map (map (placed_in ps)) states)) local o x
+  has_local : (whole : Layout) (mark : Mark) (local o : ℕ) (x : Placed) → HasLocal states (tagged_variants_at whole mark 0 layouts numbers (map (map (placed_in ps)) states)) local o x
       → HasLocalAt states layouts local o × (slice_get (map layout_of ps) local ≡ Some (layout_of x))
   has_local whole mark local o x (i, state, place, here, there, is) =
-      let found = arm_part whole mark 0 layouts numbers (map (map (placed_in ps)) states) i place o x is in
+      let found = tagged_variant_part whole mark 0 layouts numbers (map (map (placed_in ps)) states) i place o x is in
       let own : map (placed_in ps) state ≡ found.3 = mapped_at (map (placed_in ps)) states i state found.3 here found.4 in
       let type : placed_in ps local ≡ x = mapped_at (placed_in ps) state place local x there (ap (λ qs. slice_get qs place) own ∙ found.5) in
       let short : local < length ps = local_short i place local state here there in (

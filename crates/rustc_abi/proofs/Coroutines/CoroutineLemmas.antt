@@ -19,14 +19,14 @@ use Rattle.abi_univariant.specs.Placement.{source_order}
 use Rattle.abi_tree.specs.Tree.{Tree, coroutine, Trees, no_trees, more_trees}
 use Rattle.abi_tree.specs.Value.{Value, number, two, list, variant, state, bytes, Values, no_values, more_values}
 use Rattle.abi_tree.specs.declared.mark.Mark.TheVariants.{Plain}
-use Rattle.abi_tree.specs.Placed.{Placed, Parts, part, first_part, more_parts, Arms, layout_of, size_of, states, parts_of_arm}
+use Rattle.abi_tree.specs.Placed.{Placed, Parts, part, first_part, more_parts, TaggedVariants, layout_of, size_of, states, parts_of_tagged_variant}
 use Rattle.abi_scalar.specs.Layout.{Layout}
 use Rattle.abi_tree.specs.Values.{EachAt, IsValueOf, IsValueAt, HasValue, HaveValues, LocalsHaveValues, LocalsOfEach, VectorsHaveValues}
 use Rattle.abi_tree.specs.Room.{has_room}
 use Rattle.abi_tree.specs.Faithful.{IsFaithful, IsFlagTrue}
 use Rattle.abi_tree.specs.Fits.{Fits}
 use Rattle.abi_tree.specs.Nodes.{parts_at}
-use Rattle.rustc_abi.specs.Enums.{arms_at}
+use Rattle.rustc_abi.specs.Enums.{tagged_variants_at}
 use Rattle.rustc_abi.specs.Laying.{one_scalar}
 use Rattle.rustc_abi.specs.Adding.{EachFits}
 use Rattle.rustc_abi.proofs.Values.PartsLemmas.{LieBeside}
@@ -36,10 +36,10 @@ use Rattle.rustc_abi.proofs.Values.AnywhereLemmas.{value_anywhere}
 use Rattle.rustc_abi.proofs.Enums.TaggedLemmas.{unflagged}
 use Rattle.abi_tree.proofs.Places.RoomLemmas.{within_room}
 use Rattle.rustc_abi.proofs.Enums.EnumLemmas.{some_niche}
-use Rattle.rustc_abi.proofs.Coroutines.StateArmsLemmas.{StatesFit, few_states, tree_at, value_at}
+use Rattle.rustc_abi.proofs.Coroutines.StateTaggedVariantsLemmas.{StatesFit, few_states, tree_at, value_at}
 use Rattle.rustc_abi.proofs.Coroutines.StatesLemmas.{states_exists, states_only, states_padding, states_unique}
 use Rattle.rustc_abi.proofs.Coroutines.StateFlagLemmas.{IsFlaggedBy}
-use Rattle.rustc_abi.proofs.Coroutines.StatePlacesLemmas.{EachStateApart, picked_types, shared_apart, state_arms, state_arms_at, state_arms_common, state_arms_fit, state_arms_room, state_arms_untagged}
+use Rattle.rustc_abi.proofs.Coroutines.StatePlacesLemmas.{EachStateApart, picked_types, shared_apart, state_tagged_variants, state_tagged_variants_at, state_tagged_variants_common, state_tagged_variants_fit, state_tagged_variants_room, state_tagged_variants_untagged}
 
 -- ---- the flag
 
@@ -85,14 +85,14 @@ only_first true false rest implied clear = refl
 only_first false false rest implied clear = refl
 
 module _ (dl : TargetDataLayout) (prefix_trees locals : Trees) (all : List (List ℕ)) (conflicts : List (ℕ × ℕ)) (layout : Layout) (starts : List ℕ) (pres : List Placed)
-    (offset : ℕ) (tag : Placed) (arms : Arms) where
+    (offset : ℕ) (tag : Placed) (tagged_variants : TaggedVariants) where
   abbrev tree : Tree
   tree = coroutine prefix_trees locals all conflicts
 
   abbrev placed : Placed
-  placed = states layout (parts_at starts pres) offset tag arms
+  placed = states layout (parts_at starts pres) offset tag tagged_variants
 
-  of_coroutine : (flag : Bool) → 0 < length all → ((vs : Values) × EachAt (IsValueAt dl locals) (get_or all 0 []) (parts_of_arm arms 0) vs) → HaveSome dl prefix_trees starts pres flag →
+  of_coroutine : (flag : Bool) → 0 < length all → ((vs : Values) × EachAt (IsValueAt dl locals) (get_or all 0 []) (parts_of_tagged_variant tagged_variants 0) vs) → HaveSome dl prefix_trees starts pres flag →
       MatchBool flag ((v : Value) → IsValueOf dl tree placed v → ⊥) (VectorsHaveValues dl tree → (v : Value) × IsValueOf dl tree placed v)
   of_coroutine true some own h = none
     where
@@ -107,7 +107,7 @@ module _ (dl : TargetDataLayout) (prefix_trees locals : Trees) (all : List (List
 
   -- a coroutine has no value where some prefix field has none
   pub flag_states : layout.uninhabited ≡ list_any (λ f. f.uninhabited) (map layout_of pres) → 0 < length all → AreApart layout.size starts (map size_of pres) → EachFits dl prefix_trees pres →
-      LocalsOfEach dl prefix_trees → ((vs : Values) × EachAt (IsValueAt dl locals) (get_or all 0 []) (parts_of_arm arms 0) vs) → IsFlagTrue dl tree placed
+      LocalsOfEach dl prefix_trees → ((vs : Values) × EachAt (IsValueAt dl locals) (get_or all 0 []) (parts_of_tagged_variant tagged_variants 0) vs) → IsFlagTrue dl tree placed
   flag_states e some apart fits own_locals own =
       rw e (of_coroutine (list_any (λ f. f.uninhabited) (map layout_of pres)) some own (each_flag dl layout.size prefix_trees starts pres apart fits (flags_true dl prefix_trees pres fits own_locals)))
 
@@ -151,14 +151,14 @@ module _ (dl : TargetDataLayout) (prefix_trees locals : Trees) (pres ps : List P
   abbrev w : ℕ
   w = scalar_size dl tag
 
-  abbrev arms : Arms
-  arms = state_arms layout layouts ps 0 all
+  abbrev tagged_variants : TaggedVariants
+  tagged_variants = state_tagged_variants layout layouts ps 0 all
 
   abbrev whole_tree : Tree
   whole_tree = coroutine prefix_trees locals all conflicts
 
   abbrev whole : Placed
-  whole = states layout (parts_at starts pres) offset (one_scalar dl tag) arms
+  whole = states layout (parts_at starts pres) offset (one_scalar dl tag) tagged_variants
 
   same_count : length starts ≡ length pres
   same_count = length-take-le (length pres) offsets (omega (arith, laid.long))
@@ -172,7 +172,7 @@ module _ (dl : TargetDataLayout) (prefix_trees locals : Trees) (pres ps : List P
   room : has_room whole ≡ true
   room =
       both_true (room_of dl layout.size prefix_trees starts pres shared.0 prefix_fits)
-      (both_true (both_true (le-leb (offset + w) layout.size shared.2) refl) (state_arms_room dl layout layout.size offset w starts pres same_count locals ps locals_fit 0 all layouts apart laid.known))
+      (both_true (both_true (le-leb (offset + w) layout.size shared.2) refl) (state_tagged_variants_room dl layout layout.size offset w starts pres same_count locals ps locals_fit 0 all layouts apart laid.known))
 
   number_of_state : (i : ℕ) → i < length all → IsNumberOf w tag i
   number_of_state i below =
@@ -185,11 +185,11 @@ module _ (dl : TargetDataLayout) (prefix_trees locals : Trees) (pres ps : List P
   few = few_states w tag all number_of_state
 
   module _ (have : LocalsHaveValues dl whole_tree) where
-    fit : StatesFit dl layout.size offset w prefix_trees (parts_at starts pres) locals all arms
+    fit : StatesFit dl layout.size offset w prefix_trees (parts_at starts pres) locals all tagged_variants
     fit = record {
       first = together dl layout.size prefix_trees starts pres shared.0 prefix_fits have.0;
       beside = shared.1;
-      each = state_arms_fit dl layout layout.size offset w starts pres same_count locals ps locals_fit 0 all layouts apart laid.known have.1;
+      each = state_tagged_variants_fit dl layout layout.size offset w starts pres same_count locals ps locals_fit 0 all layouts apart laid.known have.1;
     }
 
     flag : layout.uninhabited ≡ list_any (λ f. f.uninhabited) (map layout_of pres)
@@ -199,15 +199,15 @@ module _ (dl : TargetDataLayout) (prefix_trees locals : Trees) (pres ps : List P
 
     faithful : IsFaithful dl whole_tree whole
     faithful = record {
-      exists = states_exists dl layout prefix_trees (parts_at starts pres) offset tag locals all conflicts arms fit shared.2 few;
-      only = states_only dl layout prefix_trees (parts_at starts pres) offset tag locals all conflicts arms fit;
-      unique = states_unique dl layout prefix_trees (parts_at starts pres) offset tag locals all conflicts arms fit few;
+      exists = states_exists dl layout prefix_trees (parts_at starts pres) offset tag locals all conflicts tagged_variants fit shared.2 few;
+      only = states_only dl layout prefix_trees (parts_at starts pres) offset tag locals all conflicts tagged_variants fit;
+      unique = states_unique dl layout prefix_trees (parts_at starts pres) offset tag locals all conflicts tagged_variants fit few;
       niche = some_niche layout.largest_niche _ (λ n e. absurd (cc (laid.niche, e)));
       inside = some_niche layout.largest_niche _ (λ n e. absurd (cc (laid.niche, e)));
-      padding = states_padding dl layout prefix_trees (parts_at starts pres) offset tag locals all conflicts arms fit;
+      padding = states_padding dl layout prefix_trees (parts_at starts pres) offset tag locals all conflicts tagged_variants fit;
       view = λ b v h. rw laid.view tt;
-      flag = flag_states dl prefix_trees locals all conflicts layout starts pres offset (one_scalar dl tag) arms flag laid.some shared.0 prefix_fits have.0
-          (first_values dl locals ps locals_fit have.2 all laid.known laid.some (parts_of_arm arms 0));
+      flag = flag_states dl prefix_trees locals all conflicts layout starts pres offset (one_scalar dl tag) tagged_variants flag laid.some shared.0 prefix_fits have.0
+          (first_values dl locals ps locals_fit have.2 all laid.known laid.some (parts_of_tagged_variant tagged_variants 0));
     }
 
   fits_whole : Fits dl whole_tree whole
@@ -219,16 +219,16 @@ module _ (dl : TargetDataLayout) (prefix_trees locals : Trees) (pres ps : List P
     common = λ have. (
       common_each dl prefix_trees starts pres prefix_fits have.0,
       tt,
-      state_arms_common dl layout layout.size offset w starts pres same_count locals ps locals_fit 0 all layouts laid.known have.1,
+      state_tagged_variants_common dl layout layout.size offset w starts pres same_count locals ps locals_fit 0 all layouts laid.known have.1,
     );
     untagged = λ have. (
       untagged_each dl prefix_trees starts pres prefix_fits have.0,
-      state_arms_untagged dl layout layout.size offset w starts pres same_count locals ps locals_fit 0 all layouts laid.known have.1,
+      state_tagged_variants_untagged dl layout layout.size offset w starts pres same_count locals ps locals_fit 0 all layouts laid.known have.1,
     );
   }
 
-  -- a coroutine that a tag tells apart keeps its values
-  pub Fits-states : Fits dl whole_tree (states layout (parts_at offsets pres) offset (one_scalar dl tag) (arms_at layout Plain 0 layouts (source_order (length all)) (map (picked_types ps) all)))
+  -- a coroutine that a tag distinguishes keeps its values
+  pub Fits-states : Fits dl whole_tree (states layout (parts_at offsets pres) offset (one_scalar dl tag) (tagged_variants_at layout Plain 0 layouts (source_order (length all)) (map (picked_types ps) all)))
   Fits-states =
-      subst (λ arms. Fits dl whole_tree (states layout (parts_at offsets pres) offset (one_scalar dl tag) arms)) (sym (state_arms_at layout layouts ps 0 all))
-      (subst (λ prefix. Fits dl whole_tree (states layout prefix offset (one_scalar dl tag) arms)) (parts_of_few offsets pres) fits_whole)
+      subst (λ tagged_variants. Fits dl whole_tree (states layout (parts_at offsets pres) offset (one_scalar dl tag) tagged_variants)) (sym (state_tagged_variants_at layout layouts ps 0 all))
+      (subst (λ prefix. Fits dl whole_tree (states layout prefix offset (one_scalar dl tag) tagged_variants)) (parts_of_few offsets pres) fits_whole)

@@ -14,7 +14,7 @@ use Rattle.abi_tree.specs.Laws.{have_places}
 use Rattle.rustc_abi.specs.Laying.{coroutine_fault, most_fields, one_scalar}
 use Rattle.abi_tree.specs.Placed.{Placed, layout_of, size_of}
 use Rattle.abi_scalar.specs.Layout.{Layout}
-use Rattle.rustc_abi.proofs.Faults.CoroutineFaultLemmas.{few_items}
+use Rattle.rustc_abi.proofs.Faults.CoroutineFaultLemmas.{inline_items}
 use Rattle.rustc_abi.proofs.Places.InsideLemmas.{coroutine_places}
 use Rattle.rustc_abi.proofs.Places.LawsLemmas.{ends_in, lengths_in}
 
@@ -25,7 +25,7 @@ state_places dl law pres ps states conflicts before there none tag tells layout 
     let found = coroutine_places dl law pres ps states conflicts before there none tag tells layout h in
     let sizes : List ℕ = map size_of pres ++ size_of (one_scalar dl tag) ∷ [] in
     let count : length (listed_offsets layout.fields) ≡ length sizes = lengths_in layout.size (listed_offsets layout.fields) sizes found.0 in
-    let few : length pres + 1 + length ps ≤ most_fields = few_items (length pres) (length ps) states conflicts none in
+    let few : length pres + 1 + length ps ≤ most_fields = inline_items (length pres) (length ps) states conflicts none in
     ap (λ f. have_places layout.size f sizes) found.1
     ∙ both_true (ends_in layout.size (listed_offsets layout.fields) sizes found.0)
     (le-leb (length (listed_offsets layout.fields)) 0xFFFF_FF01 (omega (arith, count, few, length-append (map size_of pres) (size_of (one_scalar dl tag) ∷ []), length-map pres size_of)))

@@ -14,18 +14,18 @@ use Rattle.abi_univariant.specs.Placement.{source_order}
 use Rattle.abi_tree.specs.declared.node.Shape.TheVariants.{States}
 use Rattle.abi_tree.specs.declared.node.Node.{Node}
 use Rattle.abi_tree.specs.declared.mark.Mark.TheVariants.{Plain}
-use Rattle.abi_tree.specs.Placed.{Placed, size_of, states, Parts, Arms, nothing}
+use Rattle.abi_tree.specs.Placed.{Placed, size_of, states, Parts, TaggedVariants, nothing}
 use Rattle.abi_scalar.specs.Layout.{Layout}
-use Rattle.abi_tree.specs.Nodes.{placed_in, parts_at, arms_in, state_tag_offset, meaning, types_in, Keeps}
-use Rattle.rustc_abi.specs.Enums.{arms_at}
+use Rattle.abi_tree.specs.Nodes.{placed_in, parts_at, tagged_variants_in, state_tag_offset, meaning, types_in, Keeps}
+use Rattle.rustc_abi.specs.Enums.{tagged_variants_at}
 use Rattle.rustc_abi.specs.Inside.{VariantsInside}
 use Rattle.abi_tree.specs.Laws.{have_places, keeps_laws, sizes_at}
 use Rattle.abi_tree.specs.Well.{IsPut, all_at, is_node}
-use Rattle.rustc_abi.specs.Adding.{AreArms, variants_in}
+use Rattle.rustc_abi.specs.Adding.{AreTaggedVariants, variants_in}
 use Rattle.abi_tree.proofs.Meaning.NodesLemmas.{length-types_in, Keeps-trans}
 use Rattle.rustc_abi.proofs.Trees.ListLemmas.{all_below}
 use Rattle.rustc_abi.proofs.Trees.LayLemmas.{all_at-kept}
-use Rattle.rustc_abi.proofs.Enums.ArmNodesLemmas.{tagged_before}
+use Rattle.rustc_abi.proofs.Enums.TaggedVariantNodesLemmas.{tagged_before}
 use Rattle.rustc_abi.proofs.Places.LawsLemmas.{several_laws}
 use Rattle.rustc_abi.proofs.Coroutines.StatePlacesLemmas.{picked_types}
 
@@ -121,11 +121,11 @@ each_few n locals (ks ∷ all) (c ∷ children) few same =
 -- ---- the whole
 
 -- the node of a coroutine keeps the laws
-pub states_keep : (old one two : List Node) (t : ℕ) (tag : Placed) (prefix : Vec ℕ Global) (all : Vec (ℕ × ℕ) Global) (arms : Arms) (layout : Layout) (each : List (List Placed)) → IsPut old one t tag →
-    AreArms one two (map (λ l. l.size) (variants_of layout.variants)) all.items arms → All (λ child. child < length old) prefix.items →
+pub states_keep : (old one two : List Node) (t : ℕ) (tag : Placed) (prefix : Vec ℕ Global) (all : Vec (ℕ × ℕ) Global) (tagged_variants : TaggedVariants) (layout : Layout) (each : List (List Placed)) → IsPut old one t tag →
+    AreTaggedVariants one two (map (λ l. l.size) (variants_of layout.variants)) all.items tagged_variants → All (λ child. child < length old) prefix.items →
     have_places layout.size layout.fields (map size_of (all_at old prefix.items) ++ size_of tag ∷ []) ≡ true → VariantsInside layout.size (variants_of layout.variants) each →
     keeps_laws (types_in two) layout (States prefix t all) ≡ true
-states_keep old one two t tag prefix all arms layout each first middle there places inside =
+states_keep old one two t tag prefix all tagged_variants layout each first middle there places inside =
     let here : placed_in (types_in two) t ≡ tag = middle.kept.same t (omega (arith, length-types_in one, first.last)) ∙ first.meant in
     let kept : Keeps (types_in old) (types_in two) = Keeps-trans (types_in old) (types_in one) (types_in two) first.kept middle.kept in
     let sizes : sizes_at (types_in two) (prefix.items ++ t ∷ []) ≡ map size_of (all_at old prefix.items) ++ size_of tag ∷ [] =
@@ -136,45 +136,45 @@ states_keep old one two t tag prefix all arms layout each first middle there pla
     (ap (have_places layout.size layout.fields) sizes ∙ places) middle.sized middle.listed inside
 
 -- a node for a coroutine, behind those for the tag and for each state
-pub IsPut-states : (old one two new : List Node) (t i : ℕ) (tag : Placed) (prefix : Vec ℕ Global) (all : Vec (ℕ × ℕ) Global) (sizes : List ℕ) (arms : Arms) (layout : Layout) → IsPut old one t tag →
-    AreArms one two sizes all.items arms → IsPut two new i (meaning (types_in two) layout (States prefix t all)) → All (λ child. child < length old) prefix.items →
-    IsPut old new i (states layout (parts_at (listed_offsets layout.fields) (all_at old prefix.items)) (state_tag_offset layout (length prefix.items)) tag arms)
-IsPut-states old one two new t i tag prefix all sizes arms layout first middle last there =
+pub IsPut-states : (old one two new : List Node) (t i : ℕ) (tag : Placed) (prefix : Vec ℕ Global) (all : Vec (ℕ × ℕ) Global) (sizes : List ℕ) (tagged_variants : TaggedVariants) (layout : Layout) → IsPut old one t tag →
+    AreTaggedVariants one two sizes all.items tagged_variants → IsPut two new i (meaning (types_in two) layout (States prefix t all)) → All (λ child. child < length old) prefix.items →
+    IsPut old new i (states layout (parts_at (listed_offsets layout.fields) (all_at old prefix.items)) (state_tag_offset layout (length prefix.items)) tag tagged_variants)
+IsPut-states old one two new t i tag prefix all sizes tagged_variants layout first middle last there =
     let here : placed_in (types_in two) t ≡ tag = middle.kept.same t (omega (arith, length-types_in one, first.last)) ∙ first.meant in
     let kept : Keeps (types_in old) (types_in two) = Keeps-trans (types_in old) (types_in one) (types_in two) first.kept middle.kept in
     let same : all_at two prefix.items ≡ all_at old prefix.items = all_at-kept old two kept prefix.items there in
     let offset : ℕ = state_tag_offset layout (length prefix.items) in
-    let whole : List Placed → Placed → Arms → Placed = λ ps p own. states layout (parts_at (listed_offsets layout.fields) ps) offset p own in
+    let whole : List Placed → Placed → TaggedVariants → Placed = λ ps p own. states layout (parts_at (listed_offsets layout.fields) ps) offset p own in
     record {
       kept = Keeps-trans (types_in old) (types_in two) (types_in new) kept last.kept;
       well = λ h. last.well (middle.well (first.well h));
       last = last.last;
       meant =
-          last.meant ∙ ap (λ ps. whole ps (placed_in (types_in two) t) (arms_in (types_in two) all.items)) same
-          ∙ ap (λ p. whole (all_at old prefix.items) p (arms_in (types_in two) all.items)) here
+          last.meant ∙ ap (λ ps. whole ps (placed_in (types_in two) t) (tagged_variants_in (types_in two) all.items)) same
+          ∙ ap (λ p. whole (all_at old prefix.items) p (tagged_variants_in (types_in two) all.items)) here
           ∙ ap (whole (all_at old prefix.items) tag) middle.meant;
     }
 
--- what the node means, as the layout of a coroutine tells it: by the types of the prefix fields, and by lists of indices
+-- what the node means, as the layout of a coroutine says it: by the types of the prefix fields, and by lists of indices
 pub states_told : (layout : Layout) (pres : List Placed) (prefix : List ℕ) (tag : Placed) (layouts : List (VariantLayout ℕ)) (ps : List Placed) (all : List (Vec ℕ Global)) →
     length pres ≡ length prefix →
     states layout (parts_at (listed_offsets layout.fields) pres) (state_tag_offset layout (length prefix)) tag
-    (arms_at layout Plain 0 layouts (source_order (length all)) (map (λ ks. map (placed_in ps) ks.items) all))
+    (tagged_variants_at layout Plain 0 layouts (source_order (length all)) (map (λ ks. map (placed_in ps) ks.items) all))
     ≡ states layout (parts_at (listed_offsets layout.fields) pres) (get_or (listed_offsets layout.fields) (length pres) 0) tag
-    (arms_at layout Plain 0 layouts (source_order (length (map (λ ks. ks.items) all))) (map (picked_types ps) (map (λ ks. ks.items) all)))
+    (tagged_variants_at layout Plain 0 layouts (source_order (length (map (λ ks. ks.items) all))) (map (picked_types ps) (map (λ ks. ks.items) all)))
 states_told layout pres prefix tag layouts ps all same =
     let first : Parts = parts_at (listed_offsets layout.fields) pres in
     let many : length (map (λ ks. ks.items) all) ≡ length all = length-map all (λ ks. ks.items) in
     let types : map (picked_types ps) (map (λ ks. ks.items) all) ≡ map (λ ks. map (placed_in ps) ks.items) all = map-map (picked_types ps) (λ ks. ks.items) all in
-    ap (λ n. states layout first (state_tag_offset layout n) tag (arms_at layout Plain 0 layouts (source_order (length all)) (map (λ ks. map (placed_in ps) ks.items) all))) (sym same)
-    ∙ ap (λ n. states layout first (state_tag_offset layout (length pres)) tag (arms_at layout Plain 0 layouts (source_order n) (map (λ ks. map (placed_in ps) ks.items) all))) (sym many)
-    ∙ ap (λ vs. states layout first (state_tag_offset layout (length pres)) tag (arms_at layout Plain 0 layouts (source_order (length (map (λ ks. ks.items) all))) vs)) (sym types)
+    ap (λ n. states layout first (state_tag_offset layout n) tag (tagged_variants_at layout Plain 0 layouts (source_order (length all)) (map (λ ks. map (placed_in ps) ks.items) all))) (sym same)
+    ∙ ap (λ n. states layout first (state_tag_offset layout (length pres)) tag (tagged_variants_at layout Plain 0 layouts (source_order n) (map (λ ks. map (placed_in ps) ks.items) all))) (sym many)
+    ∙ ap (λ vs. states layout first (state_tag_offset layout (length pres)) tag (tagged_variants_at layout Plain 0 layouts (source_order (length (map (λ ks. ks.items) all))) vs)) (sym types)
 
 -- a node for a coroutine names earlier ones
-pub states_before : (old one two : List Node) (t n : ℕ) (tag : Placed) (prefix : Vec ℕ Global) (all : Vec (ℕ × ℕ) Global) (sizes : List ℕ) (arms : Arms) → IsPut old one t tag → n ≡ length two →
-    AreArms one two sizes all.items arms → All (λ child. child < length old) prefix.items → is_node n (States prefix t all) ≡ true
-states_before old one two t n tag prefix all sizes arms put e h there =
+pub states_before : (old one two : List Node) (t n : ℕ) (tag : Placed) (prefix : Vec ℕ Global) (all : Vec (ℕ × ℕ) Global) (sizes : List ℕ) (tagged_variants : TaggedVariants) → IsPut old one t tag → n ≡ length two →
+    AreTaggedVariants one two sizes all.items tagged_variants → All (λ child. child < length old) prefix.items → is_node n (States prefix t all) ≡ true
+states_before old one two t n tag prefix all sizes tagged_variants put e h there =
     let behind : length old ≤ length one = omega (arith, put.kept.longer, length-types_in old, length-types_in one) in
     let longer : length one ≤ length two = omega (arith, h.kept.longer, length-types_in one, length-types_in two) in
     both_true (all_below n prefix.items (All-weaker (λ child. child < length old) (λ child. child < n) (λ child lt. omega arith) prefix.items there))
-    (tagged_before one two t n all sizes arms Plain (omega (arith, put.last)) e h)
+    (tagged_before one two t n all sizes tagged_variants Plain (omega (arith, put.last)) e h)

@@ -10,19 +10,19 @@ use Rattle.abi_scalar.specs.Variant.{variant_layout}
 use Rattle.abi_univariant.specs.Apart.{AreApart, IsBeside}
 use Rattle.abi_tree.specs.Tree.{Trees, no_trees, more_trees}
 use Rattle.abi_tree.specs.declared.mark.Mark.TheVariants.{Plain}
-use Rattle.abi_tree.specs.Placed.{Placed, Arms, no_arms, arm, size_of}
+use Rattle.abi_tree.specs.Placed.{Placed, TaggedVariants, no_tagged_variants, tagged_variant, size_of}
 use Rattle.abi_scalar.specs.Layout.{Layout}
 use Rattle.abi_tree.specs.Values.{LocalsHaveValues, LocalsOfEach}
-use Rattle.abi_tree.specs.Room.{arms_have_room}
+use Rattle.abi_tree.specs.Room.{tagged_variants_have_room}
 use Rattle.abi_tree.specs.Fits.{Fits}
-use Rattle.abi_tree.specs.Unions.{IsCommon, InUnionsOfArms}
-use Rattle.abi_tree.specs.Untagged.{UntaggedNamedOfArms}
+use Rattle.abi_tree.specs.Unions.{IsCommon, InUnionsOfTaggedVariants}
+use Rattle.abi_tree.specs.Untagged.{UntaggedNamedOfTaggedVariants}
 use Rattle.abi_tree.specs.Nodes.{parts_at, placed_in}
-use Rattle.rustc_abi.specs.Enums.{arms_at}
+use Rattle.rustc_abi.specs.Enums.{tagged_variants_at}
 use Rattle.rustc_abi.specs.Adding.{EachFits}
 use Rattle.rustc_abi.proofs.Values.PartsLemmas.{LieBeside}
 use Rattle.rustc_abi.proofs.Values.FieldsLemmas.{beside_parts, common_each, room_of, together, untagged_each}
-use Rattle.rustc_abi.proofs.Coroutines.StateArmsLemmas.{AreBeside, StateArmsFit, picked_trees, tree_at}
+use Rattle.rustc_abi.proofs.Coroutines.StateTaggedVariantsLemmas.{AreBeside, StateTaggedVariantsFit, picked_trees, tree_at}
 
 -- ---- what the calculator lays apart
 
@@ -32,22 +32,22 @@ picked_types ps ks = map (placed_in ps) ks
 
 -- states beside a tag: each has its index, counted from the first one's on, the layout that it has as a type of its own, and
 -- its locals at the offsets of its layout
-abbrev pub state_arms : (whole : Layout) → List (VariantLayout ℕ) → (locals : List Placed) → (from : ℕ) → List (List ℕ)
-    → Arms
-state_arms whole (l ∷ layouts) ps from (ks ∷ all) =
-    arm from (variant_layout whole from l) Plain (parts_at l.field_offsets (picked_types ps ks))
-    (state_arms whole layouts ps (from + 1) all)
-state_arms whole _ ps from _ = no_arms
+abbrev pub state_tagged_variants : (whole : Layout) → List (VariantLayout ℕ) → (locals : List Placed) → (from : ℕ) → List (List ℕ)
+    → TaggedVariants
+state_tagged_variants whole (l ∷ layouts) ps from (ks ∷ all) =
+    tagged_variant from (variant_layout whole from l) Plain (parts_at l.field_offsets (picked_types ps ks))
+    (state_tagged_variants whole layouts ps (from + 1) all)
+state_tagged_variants whole _ ps from _ = no_tagged_variants
 
 -- they are the variants with the indices as numbers
-pub state_arms_at : (whole : Layout) (layouts : List (VariantLayout ℕ)) (ps : List Placed) (from : ℕ) (all : List (List ℕ))
-    → arms_at whole Plain from layouts (range_with_len from (length all)) (map (picked_types ps) all)
-    ≡ state_arms whole layouts ps from all
-state_arms_at whole [] ps from all = refl
-state_arms_at whole (l ∷ layouts) ps from [] = refl
-state_arms_at whole (l ∷ layouts) ps from (ks ∷ all) =
-    ap (arm from (variant_layout whole from l) Plain (parts_at l.field_offsets (picked_types ps ks)))
-    (state_arms_at whole layouts ps (from + 1) all)
+pub state_tagged_variants_at : (whole : Layout) (layouts : List (VariantLayout ℕ)) (ps : List Placed) (from : ℕ) (all : List (List ℕ))
+    → tagged_variants_at whole Plain from layouts (range_with_len from (length all)) (map (picked_types ps) all)
+    ≡ state_tagged_variants whole layouts ps from all
+state_tagged_variants_at whole [] ps from all = refl
+state_tagged_variants_at whole (l ∷ layouts) ps from [] = refl
+state_tagged_variants_at whole (l ∷ layouts) ps from (ks ∷ all) =
+    ap (tagged_variant from (variant_layout whole from l) Plain (parts_at l.field_offsets (picked_types ps ks)))
+    (state_tagged_variants_at whole layouts ps (from + 1) all)
 
 -- the shared fields and the locals of each state share no byte and end inside the size
 abbrev pub EachStateApart : (size : ℕ) → (offsets sizes : List ℕ) → (locals : List Placed) → List (List ℕ) → List (VariantLayout ℕ) → Type 0
@@ -148,12 +148,12 @@ module _ (dl : TargetDataLayout) where
     Known all = All (All (λ k. k < length ps)) all
 
     -- locals that lie apart fit together, beside the tag and the prefix fields
-    pub state_arms_fit : (from : ℕ) (all : List (List ℕ)) (layouts : List (VariantLayout ℕ)) → Apart all layouts → Known all → LocalsOfEach dl ts →
-        StateArmsFit dl size o w (parts_at starts pres) ts from all (state_arms whole layouts ps from all)
-    state_arms_fit from [] [] apart known locals = tt
-    state_arms_fit from [] (l ∷ layouts) apart known locals = absurd apart
-    state_arms_fit from (ks ∷ all) [] apart known locals = absurd apart
-    state_arms_fit from (ks ∷ all) (l ∷ layouts) apart known locals =
+    pub state_tagged_variants_fit : (from : ℕ) (all : List (List ℕ)) (layouts : List (VariantLayout ℕ)) → Apart all layouts → Known all → LocalsOfEach dl ts →
+        StateTaggedVariantsFit dl size o w (parts_at starts pres) ts from all (state_tagged_variants whole layouts ps from all)
+    state_tagged_variants_fit from [] [] apart known locals = tt
+    state_tagged_variants_fit from [] (l ∷ layouts) apart known locals = absurd apart
+    state_tagged_variants_fit from (ks ∷ all) [] apart known locals = absurd apart
+    state_tagged_variants_fit from (ks ∷ all) (l ∷ layouts) apart known locals =
         let qs : List Placed = picked_types ps ks in
         let last = apart_last o w l.field_offsets qs size starts pres same apart.0 in
         let own = fits_picked ts ps fits ks (All-head (All (λ k. k < length ps)) ks all known) in (
@@ -161,41 +161,41 @@ module _ (dl : TargetDataLayout) where
           together dl size (picked_trees ts ks) l.field_offsets qs last.2 own (locals_picked ts ks locals),
           beside_parts o w l.field_offsets qs last.1,
           beside_locals o w l.field_offsets qs size starts pres same apart.0,
-          state_arms_fit (from + 1) all layouts apart.1 (All-tail (All (λ k. k < length ps)) ks all known) locals,
+          state_tagged_variants_fit (from + 1) all layouts apart.1 (All-tail (All (λ k. k < length ps)) ks all known) locals,
         )
 
     -- each local of each state ends inside the size
-    pub state_arms_room : (from : ℕ) (all : List (List ℕ)) (layouts : List (VariantLayout ℕ)) → Apart all layouts → Known all → arms_have_room size (state_arms whole layouts ps from all) ≡ true
-    state_arms_room from [] [] apart known = refl
-    state_arms_room from [] (l ∷ layouts) apart known = absurd apart
-    state_arms_room from (ks ∷ all) [] apart known = absurd apart
-    state_arms_room from (ks ∷ all) (l ∷ layouts) apart known =
+    pub state_tagged_variants_room : (from : ℕ) (all : List (List ℕ)) (layouts : List (VariantLayout ℕ)) → Apart all layouts → Known all → tagged_variants_have_room size (state_tagged_variants whole layouts ps from all) ≡ true
+    state_tagged_variants_room from [] [] apart known = refl
+    state_tagged_variants_room from [] (l ∷ layouts) apart known = absurd apart
+    state_tagged_variants_room from (ks ∷ all) [] apart known = absurd apart
+    state_tagged_variants_room from (ks ∷ all) (l ∷ layouts) apart known =
         let qs : List Placed = picked_types ps ks in
         both_true
         (room_of dl size (picked_trees ts ks) l.field_offsets qs (apart_last o w l.field_offsets qs size starts pres same apart.0).2
         (fits_picked ts ps fits ks (All-head (All (λ k. k < length ps)) ks all known)))
-        (state_arms_room (from + 1) all layouts apart.1 (All-tail (All (λ k. k < length ps)) ks all known))
+        (state_tagged_variants_room (from + 1) all layouts apart.1 (All-tail (All (λ k. k < length ps)) ks all known))
 
     -- what each local keeps in its unions
-    pub state_arms_common : (from : ℕ) (all : List (List ℕ)) (layouts : List (VariantLayout ℕ)) → Known all → LocalsOfEach dl ts →
-        InUnionsOfArms (IsCommon dl.endian) (state_arms whole layouts ps from all)
-    state_arms_common from [] [] known locals = tt
-    state_arms_common from [] (l ∷ layouts) known locals = tt
-    state_arms_common from (ks ∷ all) [] known locals = tt
-    state_arms_common from (ks ∷ all) (l ∷ layouts) known locals = (
+    pub state_tagged_variants_common : (from : ℕ) (all : List (List ℕ)) (layouts : List (VariantLayout ℕ)) → Known all → LocalsOfEach dl ts →
+        InUnionsOfTaggedVariants (IsCommon dl.endian) (state_tagged_variants whole layouts ps from all)
+    state_tagged_variants_common from [] [] known locals = tt
+    state_tagged_variants_common from [] (l ∷ layouts) known locals = tt
+    state_tagged_variants_common from (ks ∷ all) [] known locals = tt
+    state_tagged_variants_common from (ks ∷ all) (l ∷ layouts) known locals = (
       common_each dl (picked_trees ts ks) l.field_offsets (picked_types ps ks) (fits_picked ts ps fits ks (All-head (All (λ k. k < length ps)) ks all known)) (locals_picked ts ks locals),
-      state_arms_common (from + 1) all layouts (All-tail (All (λ k. k < length ps)) ks all known) locals,
+      state_tagged_variants_common (from + 1) all layouts (All-tail (All (λ k. k < length ps)) ks all known) locals,
     )
 
     -- the untagged variants in each local name themselves
-    pub state_arms_untagged : (from : ℕ) (all : List (List ℕ)) (layouts : List (VariantLayout ℕ)) → Known all → LocalsOfEach dl ts →
-        UntaggedNamedOfArms dl.endian (state_arms whole layouts ps from all)
-    state_arms_untagged from [] [] known locals = tt
-    state_arms_untagged from [] (l ∷ layouts) known locals = tt
-    state_arms_untagged from (ks ∷ all) [] known locals = tt
-    state_arms_untagged from (ks ∷ all) (l ∷ layouts) known locals = (
+    pub state_tagged_variants_untagged : (from : ℕ) (all : List (List ℕ)) (layouts : List (VariantLayout ℕ)) → Known all → LocalsOfEach dl ts →
+        UntaggedNamedOfTaggedVariants dl.endian (state_tagged_variants whole layouts ps from all)
+    state_tagged_variants_untagged from [] [] known locals = tt
+    state_tagged_variants_untagged from [] (l ∷ layouts) known locals = tt
+    state_tagged_variants_untagged from (ks ∷ all) [] known locals = tt
+    state_tagged_variants_untagged from (ks ∷ all) (l ∷ layouts) known locals = (
       untagged_each dl (picked_trees ts ks) l.field_offsets (picked_types ps ks) (fits_picked ts ps fits ks (All-head (All (λ k. k < length ps)) ks all known)) (locals_picked ts ks locals),
-      state_arms_untagged (from + 1) all layouts (All-tail (All (λ k. k < length ps)) ks all known) locals,
+      state_tagged_variants_untagged (from + 1) all layouts (All-tail (All (λ k. k < length ps)) ks all known) locals,
     )
 
     -- where there is a state, the prefix fields lie apart, and beside the tag, which ends inside

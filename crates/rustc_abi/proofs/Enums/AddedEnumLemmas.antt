@@ -12,10 +12,10 @@ use Rattle.abi_scalar.specs.declared.repr.ReprOptions.{ReprOptions}
 use Rattle.abi_scalar.specs.declared.variants.RangeFrom.{RangeFrom}
 use Rattle.abi_scalar.specs.declared.variants.RangeToInclusive.{RangeToInclusive}
 use Rattle.abi_scalar.specs.Lawful.{IsLawfulLayout}
-use Rattle.abi_calc.specs.declared.enums.path.Path.{Path}
-use Rattle.abi_calc.specs.declared.enums.path.Path.TheVariants.{NoValue, OneList, Several}
+use Rattle.abi_calc.specs.declared.enums.strategy.EnumStrategy.{EnumStrategy}
+use Rattle.abi_calc.specs.declared.enums.strategy.EnumStrategy.TheVariants.{NoValue, OneList, Several}
 use Rattle.abi_calc.specs.Enums.Answer.{IsTypeAnswer}
-use Rattle.abi_calc.specs.Enums.Path.{path_of}
+use Rattle.abi_calc.specs.Enums.EnumStrategy.{strategy_of}
 use Rattle.abi_calc.proofs.EnumLemmas.SameType.{IsSameError, same_type, same_type_error}
 use Rattle.rustc_abi.specs.declared.error.LayError.{LayError}
 use Rattle.rustc_abi.specs.declared.error.LayError.TheVariants.{OutOfMemory}
@@ -29,7 +29,7 @@ use Rattle.rustc_abi.specs.Error.{IsRefused, lay_error}
 use Rattle.rustc_abi.specs.Enums.{IsCalculated, IsEnumed, IsTagIntegerAnswer, discriminants_of, layouts_of, numbered_from}
 use Rattle.rustc_abi.specs.Laying.{IsEnumOf, IsLaying, VariantsLaying, enum_fault, placed_enum}
 use Rattle.abi_tree.specs.Well.{IsPut}
-use Rattle.rustc_abi.specs.Adding.{HasReadableTag, HasVariants, IsAdded, VariantsFit, variants_in}
+use Rattle.rustc_abi.specs.Adding.{HasWellFormedTag, HasVariants, IsAdded, VariantsFit, variants_in}
 use Rattle.abi_tree.specs.Nodes.{placed_in, types_in}
 use Rattle.rustc_abi.proofs.Enums.CalculatedLemmas.{calculated_fits, calculated_tag, calculated_variants}
 use Rattle.rustc_abi.proofs.Trees.LaidLemmas.{aligns_of, each_of, numbers_for, tags_of}
@@ -52,7 +52,7 @@ enum_tree_refused dl repr all variants e exact (inr f) = inr (inr (variants, exa
 -- what nodes an enum's layout asks for
 pub enumed_nodes : (dl : TargetDataLayout) → IsLawfulDataLayout dl → (repr : ReprOptions) (numbers : List ℕ) (variants : List (List Placed)) (layout : Layout) → enum_fault dl repr numbers variants ≡ None →
     length numbers ≡ length variants → All (All (λ p. IsLawfulLayout dl (layout_of p))) variants → IsEnumed dl repr numbers variants (Ok layout) →
-    HasVariants (length variants) layout.variants × HasReadableTag dl layout.variants
+    HasVariants (length variants) layout.variants × HasWellFormedTag dl layout.variants
 enumed_nodes dl law repr numbers variants layout none long lawful enumed =
     let aligns = aligns_of dl law repr numbers variants none long in
     let each = each_of dl law repr numbers variants none long in
@@ -84,7 +84,7 @@ same_name calculator.BadOrder calculator.BadOrder h = refl
 same_name calculator.OutOfMemory calculator.OutOfMemory h = refl
 same_name _ _ h = absurd h
 
--- either it is want of memory, or it isn't
+-- either it is that memory ran out, or it isn't
 pub memory_or : {H : Type 0} (e : LayoutCalculatorError H) → (lay_error e ≡ OutOfMemory) ⊎ (e ≡ calculator.OutOfMemory → ⊥)
 memory_or (calculator.UnexpectedUnsized a) = inr (λ e. cc)
 memory_or calculator.SizeOverflow = inr (λ e. cc)
@@ -100,19 +100,19 @@ memory_or calculator.OutOfMemory = inl refl
 module _ {H : Type 0} (f : H → Layout) (dl : TargetDataLayout) (repr : ReprOptions) (numbers : List ℕ) (hs : List (List H)) (variants : List (List Placed)) (same : map (map f) hs ≡ layouts_of variants) where
   abbrev Lent : Result Layout (LayoutCalculatorError H) → Type 0
   Lent r =
-      IsTypeAnswer f (λ i. i) (λ i. i) (λ i. i) (λ i. i) dl repr hs true true Enabled (IsTagIntegerAnswer dl repr) (λ items. items ≡ numbered_from 0 numbers) (path_of true repr (map (map f) hs)) r
+      IsTypeAnswer f (λ i. i) (λ i. i) (λ i. i) (λ i. i) dl repr hs true true Enabled (IsTagIntegerAnswer dl repr) (λ items. items ≡ numbered_from 0 numbers) (strategy_of true repr (map (map f) hs)) r
 
   pub enumed_ok : (l : Layout) → Lent (Ok l) → IsEnumed dl repr numbers variants (Ok l)
   enumed_ok l h =
-      subst (λ ls. IsTypeAnswer layout_of (λ i. i) (λ i. i) (λ i. i) (λ i. i) dl repr variants true true Enabled (IsTagIntegerAnswer dl repr) (λ items. items ≡ numbered_from 0 numbers) (path_of true repr ls) (Ok l)) same
-      (same_type f layout_of dl repr hs variants same true true Enabled (IsTagIntegerAnswer dl repr) (λ items. items ≡ numbered_from 0 numbers) (path_of true repr (map (map f) hs)) l h)
+      subst (λ ls. IsTypeAnswer layout_of (λ i. i) (λ i. i) (λ i. i) (λ i. i) dl repr variants true true Enabled (IsTagIntegerAnswer dl repr) (λ items. items ≡ numbered_from 0 numbers) (strategy_of true repr ls) (Ok l)) same
+      (same_type f layout_of dl repr hs variants same true true Enabled (IsTagIntegerAnswer dl repr) (λ items. items ≡ numbered_from 0 numbers) (strategy_of true repr (map (map f) hs)) l h)
 
   pub enumed_err : (e : LayoutCalculatorError H) → Lent (Err e) → IsRefused (IsEnumed dl repr numbers variants) (lay_error e)
   enumed_err e h =
-      let found = same_type_error f layout_of dl repr hs variants same true true Enabled (IsTagIntegerAnswer dl repr) (λ items. items ≡ numbered_from 0 numbers) (path_of true repr (map (map f) hs)) e h in
+      let found = same_type_error f layout_of dl repr hs variants same true true Enabled (IsTagIntegerAnswer dl repr) (λ items. items ≡ numbered_from 0 numbers) (strategy_of true repr (map (map f) hs)) e h in
       let name : lay_error e ≡ lay_error found.0 = same_name e found.0 found.2 in
       let answer : IsCalculated dl repr numbers variants (Err found.0) =
-      subst (λ ls. IsTypeAnswer layout_of (λ i. i) (λ i. i) (λ i. i) (λ i. i) dl repr variants true true Enabled (IsTagIntegerAnswer dl repr) (λ items. items ≡ numbered_from 0 numbers) (path_of true repr ls) (Err found.0)) same found.1 in
+      subst (λ ls. IsTypeAnswer layout_of (λ i. i) (λ i. i) (λ i. i) (λ i. i) dl repr variants true true Enabled (IsTagIntegerAnswer dl repr) (λ items. items ≡ numbered_from 0 numbers) (strategy_of true repr ls) (Err found.0)) same found.1 in
       ⊎_elim (λ want. inl (name ∙ want)) (λ other. inr (found.0, answer, other, name)) (memory_or found.0)
 
 -- layouts that are lent are lawful where the types' are
@@ -128,10 +128,10 @@ lent_lawful f dl hs variants same lawful =
 -- an answer to one question, from discriminants that are given in one way, is an answer to another, where what is asked and given there
 -- is asked and given here
 pub asked_otherwise : {H : Type 0} (f : H → Layout) (dl : TargetDataLayout) (repr : ReprOptions) (hs : List (List H)) (asks : RangeFrom ℤ → RangeToInclusive ℕ → Integer × Bool → Type 0) (gives : List (ℕ × ℕ) → Type 0)
-    (path : Path) (r : Result Layout (LayoutCalculatorError H)) → IsTypeAnswer f (λ i. i) (λ i. i) (λ i. i) (λ i. i) dl repr hs true true Enabled asks gives path r
+    (strategy : EnumStrategy) (r : Result Layout (LayoutCalculatorError H)) → IsTypeAnswer f (λ i. i) (λ i. i) (λ i. i) (λ i. i) dl repr hs true true Enabled asks gives strategy r
     → (ask : RangeFrom ℤ → RangeToInclusive ℕ → Integer × Bool → Type 0) (give : List (ℕ × ℕ) → Type 0) → ((items : List (ℕ × ℕ)) → gives items → give items)
     → ((least : ℤ) (greatest : ℕ) (answer : Integer × Bool) → asks (record { start = least }) (record { last = greatest }) answer → ask (record { start = least }) (record { last = greatest }) answer)
-    → IsTypeAnswer f (λ i. i) (λ i. i) (λ i. i) (λ i. i) dl repr hs true true Enabled ask give path r
+    → IsTypeAnswer f (λ i. i) (λ i. i) (λ i. i) (λ i. i) dl repr hs true true Enabled ask give strategy r
 asked_otherwise f dl repr hs asks gives NoValue r h ask give given asked = h
 asked_otherwise f dl repr hs asks gives (OneList i) r h ask give given asked = h
 asked_otherwise f dl repr hs asks gives Several r (inl packed) ask give given asked = inl packed

@@ -29,17 +29,17 @@ discriminants_more all i v lt at =
     ∙ ap (λ ns. ns ++ v.0 ∷ []) (sym (discriminants_are (take i all)))
 
 -- one number more behind numbers, with its index
-pub numbered-push : (from : ℕ) (ns : List ℕ) (n i : ℕ) → i ≡ from + length ns → numbered_from from (ns ++ n ∷ []) ≡ numbered_from from ns ++ (i, n) ∷ []
-numbered-push from [] n i e =
+pub number_variants-push : (from : ℕ) (ns : List ℕ) (n i : ℕ) → i ≡ from + length ns → numbered_from from (ns ++ n ∷ []) ≡ numbered_from from ns ++ (i, n) ∷ []
+number_variants-push from [] n i e =
     let at : from ≡ i = omega arith in
     ap (λ k. (k, n) ∷ []) at
-numbered-push from (m ∷ ns) n i e = ap (λ xs. (from, m) ∷ xs) (numbered-push (from + 1) ns n i (omega arith))
+number_variants-push from (m ∷ ns) n i e = ap (λ xs. (from, m) ∷ xs) (number_variants-push (from + 1) ns n i (omega arith))
 
 -- one number more of a list, with its index
 pub numbered_more : (ns : List ℕ) (i n : ℕ) → i < length ns → n ≡ get_or ns i 0 →
     numbered_from 0 (take (i + 1) ns) ≡ numbered_from 0 (take i ns) ++ (i, n) ∷ []
 numbered_more ns i n lt at =
-    ap (numbered_from 0) (take_more ns i 0 lt ∙ ap (λ k. take i ns ++ k ∷ []) (sym at)) ∙ numbered-push 0 (take i ns) n i (omega (arith, length-take-le i ns (omega arith)))
+    ap (numbered_from 0) (take_more ns i 0 lt ∙ ap (λ k. take i ns ++ k ∷ []) (sym at)) ∙ number_variants-push 0 (take i ns) n i (omega (arith, length-take-le i ns (omega arith)))
 
 -- the numbers at two places differ
 abbrev pub Differ : List ℕ → Type 0

@@ -20,11 +20,11 @@ use Rattle.abi_scalar.specs.Simple.{never_layout}
 use Rattle.abi_scalar.specs.Variant.{variants_of}
 use Rattle.abi_scalar.specs.declared.variants.Variants.TheVariants.{Single as OneVariant}
 use Rattle.abi_univariant.specs.Apart.{AreApart}
-use Rattle.abi_calc.specs.declared.enums.path.Path.{Path}
-use Rattle.abi_calc.specs.declared.enums.path.Path.TheVariants.{NoValue, OneList, Several}
+use Rattle.abi_calc.specs.declared.enums.strategy.EnumStrategy.{EnumStrategy}
+use Rattle.abi_calc.specs.declared.enums.strategy.EnumStrategy.TheVariants.{NoValue, OneList, Several}
 use Rattle.abi_calc.specs.Enums.Answer.{IsTypeAnswer}
 use Rattle.abi_calc.specs.Enums.Beside.{IsToldByNiche, IsToldByTag}
-use Rattle.abi_calc.specs.Enums.Path.{path_of, variant_at}
+use Rattle.abi_calc.specs.Enums.EnumStrategy.{strategy_of, variant_at}
 use Rattle.abi_calc.specs.Enums.Places.{AreApartBehind}
 use Rattle.abi_calc.proofs.EnumLemmas.GoodLists.{good_list}
 use Rattle.std.specs.Prelude.{Vec}
@@ -41,13 +41,13 @@ use Rattle.rustc_abi.specs.Adding.{HavePlaces}
 use Rattle.rustc_abi.specs.Laying.{enum_fault, most_fields}
 use Rattle.abi_tree.specs.Placed.{Placed, layout_of, size_of}
 use Rattle.abi_scalar.specs.Layout.{Layout}
-use Rattle.rustc_abi.proofs.Enums.ArmsLemmas.{apart_beside}
-use Rattle.rustc_abi.proofs.Enums.CalculatedLemmas.{lawful_at, some_variant, told}
+use Rattle.rustc_abi.proofs.Enums.TaggedVariantsLemmas.{apart_beside}
+use Rattle.rustc_abi.proofs.Enums.CalculatedLemmas.{lawful_at, some_variant, tag_distinguishes}
 use Rattle.rustc_abi.proofs.Faults.FaultlessLemmas.{few_fields}
 use Rattle.rustc_abi.proofs.Places.InsideLemmas.{inside_enum}
 use Rattle.rustc_abi.proofs.Trees.LaidLemmas.{aligns_of, each_of, tags_of}
 use Rattle.rustc_abi.proofs.Places.LawsLemmas.{places_listed, plain_laws}
-use Rattle.rustc_abi.proofs.Enums.NicheEnumLemmas.{niche_of_arm}
+use Rattle.rustc_abi.proofs.Enums.NicheEnumLemmas.{niche_of_tagged_variant}
 
 -- a variant has no more fields than each may have
 few_at : (variants : List (List Placed)) (i : ℕ) → All (λ fields. length fields ≤ most_fields) variants → length (variant_at variants i) ≤ most_fields
@@ -68,9 +68,9 @@ one_place layout offset field size shape inside =
 
 module _ (dl : TargetDataLayout) (law : IsLawfulDataLayout dl) (repr : ReprOptions) (numbers : List ℕ) (variants : List (List Placed)) (none : enum_fault dl repr numbers variants ≡ None)
     (long : length numbers ≡ length variants) (lawful : All (All (λ p. IsLawfulLayout dl (layout_of p))) variants) where
-  abbrev Answers : Path → Layout → Type 0
-  Answers path l =
-      IsTypeAnswer layout_of (λ i. i) (λ i. i) (λ i. i) (λ i. i) dl repr variants true true Enabled (IsTagIntegerAnswer dl repr) (λ items. items ≡ numbered_from 0 numbers) path (Ok l)
+  abbrev Answers : EnumStrategy → Layout → Type 0
+  Answers strategy l =
+      IsTypeAnswer layout_of (λ i. i) (λ i. i) (λ i. i) (λ i. i) dl repr variants true true Enabled (IsTagIntegerAnswer dl repr) (λ items. items ≡ numbered_from 0 numbers) strategy (Ok l)
 
   -- the one variant that is left
   places_one : (i : ℕ) (l : Layout) → Answers (OneList i) l → HavePlaces dl l variants l.variants
@@ -88,31 +88,31 @@ module _ (dl : TargetDataLayout) (law : IsLawfulDataLayout dl) (repr : ReprOptio
   places_by_tag : (l : Layout) → IsEnumed dl repr numbers variants (Ok l) → 0 < length variants → IsToldByTag dl (λ v. v) (layouts_of variants) (numbered_from 0 numbers) l → HavePlaces dl l variants l.variants
   places_by_tag l enumed some t =
       let ends = tag_ends l.size (scalar_size dl t.tag) (layouts_of variants) t.layouts (omega (arith, some, length-map variants (map layout_of))) t.apart in
-      subst (HavePlaces dl l variants) (sym t.told)
-      (one_place l 0 t.field (scalar_size dl t.tag) t.place ends, inside_enum dl law repr numbers variants none long lawful l enumed t.tag _ t.field t.layouts t.told)
+      subst (HavePlaces dl l variants) (sym t.tag_distinguishes)
+      (one_place l 0 t.field (scalar_size dl t.tag) t.place ends, inside_enum dl law repr numbers variants none long lawful l enumed t.tag _ t.field t.layouts t.tag_distinguishes)
 
   -- several variants, beside a niche
   places_by_niche : (l : Layout) → IsEnumed dl repr numbers variants (Ok l) → IsToldByNiche dl (λ v. v) (layouts_of variants) l → HavePlaces dl l variants l.variants
   places_by_niche l enumed t =
       let each = apart_beside l.size t.niche.offset (scalar_size dl t.tag) t.untagged 0 variants t.layouts t.apart in
-      let inside = niche_of_arm dl l.size t.layouts variants t.untagged t.variant t.niche each lawful t.own t.niche_of in
+      let inside = niche_of_tagged_variant dl l.size t.layouts variants t.untagged t.variant t.niche each lawful t.own t.niche_of in
       let wide = ap (primitive_size dl) t.numbers.value in
-      subst (HavePlaces dl l variants) (sym t.told)
-      (one_place l t.niche.offset t.field (scalar_size dl t.tag) t.place (omega (arith, wide, inside)), inside_enum dl law repr numbers variants none long lawful l enumed t.tag _ t.field t.layouts t.told)
+      subst (HavePlaces dl l variants) (sym t.tag_distinguishes)
+      (one_place l t.niche.offset t.field (scalar_size dl t.tag) t.place (omega (arith, wide, inside)), inside_enum dl law repr numbers variants none long lawful l enumed t.tag _ t.field t.layouts t.tag_distinguishes)
 
-  places_by : (path : Path) → path_of true repr (layouts_of variants) ≡ path → (l : Layout) → IsEnumed dl repr numbers variants (Ok l) → Answers path l → HavePlaces dl l variants l.variants
-  places_by NoValue path l enumed h = let same : never_layout dl ≡ l = cc in subst (λ (m : Layout). HavePlaces dl m variants m.variants) same refl
-  places_by (OneList i) path l enumed h = places_one i l h
-  places_by Several path l enumed h =
+  places_by : (strategy : EnumStrategy) → strategy_of true repr (layouts_of variants) ≡ strategy → (l : Layout) → IsEnumed dl repr numbers variants (Ok l) → Answers strategy l → HavePlaces dl l variants l.variants
+  places_by NoValue strategy l enumed h = let same : never_layout dl ≡ l = cc in subst (λ (m : Layout). HavePlaces dl m variants m.variants) same refl
+  places_by (OneList i) strategy l enumed h = places_one i l h
+  places_by Several strategy l enumed h =
       let aligns = aligns_of dl law repr numbers variants none long in
       let each = each_of dl law repr numbers variants none long in
       let tags = tags_of dl law repr numbers variants none long in
-      ⊎_elim (places_by_tag l enumed (some_variant dl law repr numbers variants aligns lawful each tags path)) (places_by_niche l enumed)
-      (told dl law repr numbers variants aligns lawful each tags path l h)
+      ⊎_elim (places_by_tag l enumed (some_variant dl law repr numbers variants aligns lawful each tags strategy)) (places_by_niche l enumed)
+      (tag_distinguishes dl law repr numbers variants aligns lawful each tags strategy l h)
 
   -- an enum's fields and those of its variants have their places
   pub enum_places : (l : Layout) → IsEnumed dl repr numbers variants (Ok l) → HavePlaces dl l variants l.variants
-  enum_places l h = places_by (path_of true repr (layouts_of variants)) refl l h h
+  enum_places l h = places_by (strategy_of true repr (layouts_of variants)) refl l h h
 
 -- nodes are as few as what they mean
 pub few_nodes : (ns : List Node) (children : List (Vec ℕ Global)) → All (λ fields. length fields ≤ most_fields) (variants_in ns children) → All (λ fields. length fields.items ≤ most_fields) children

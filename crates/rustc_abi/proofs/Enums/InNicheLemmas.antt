@@ -1,4 +1,4 @@
--- An enum told apart by a niche of its untagged variant keeps its values.
+-- An enum distinguished by a niche of its untagged variant keeps its values.
 use Rattle.std.proofs.Common.{◌≡◌, ◌≢◌, ℕ, zero, suc, ◌+◌, ◌-◌, ◌*◌, ◌/◌, ◌%◌, ◌≤◌, ◌<◌, inl, inr, List, length, get_or, arith, refl, sym, ap, ◌∙◌, subst}
 use Rattle.std.specs.Prelude.{Bool, true, false, ◌==◌, ◌&&◌, ◌||◌, nat_le, ⊤}
 use Rattle.std.specs.Cmp.Derive.{both_true}
@@ -18,12 +18,12 @@ use Rattle.abi_tree.specs.Tree.{Tree, enum, Variants, no_variants, more_variants
 use Rattle.abi_tree.specs.Bytes.{AreBytes, bytes_at, number_of}
 use Rattle.abi_tree.specs.Value.{Value, number, two, list, variant, state, bytes, Values}
 use Rattle.abi_tree.specs.Mark.{mark_of}
-use Rattle.abi_tree.specs.Placed.{Placed, Arms, no_arms, arm, size_of, tagged, parts_of_arm, is_flagged}
+use Rattle.abi_tree.specs.Placed.{Placed, TaggedVariants, no_tagged_variants, tagged_variant, size_of, tagged, parts_of_tagged_variant, is_flagged}
 use Rattle.abi_scalar.specs.Layout.{Layout}
-use Rattle.abi_tree.specs.Places.{is_data_place, is_place_of_part, is_place_of_arm}
+use Rattle.abi_tree.specs.Places.{is_data_place, is_place_of_part, is_place_of_tagged_variant}
 use Rattle.abi_tree.specs.Tag.{NamesByNiche, niche_number}
 use Rattle.abi_tree.specs.Values.{IsValueOf, AreValuesOfVariant}
-use Rattle.abi_tree.specs.Holding.{Holds, HoldArm, tag_at}
+use Rattle.abi_tree.specs.Holding.{Holds, HoldTaggedVariant, tag_at}
 use Rattle.abi_tree.specs.Faithful.{AgreeOn}
 use Rattle.abi_tree.specs.Untagged.{NamesItself}
 use Rattle.abi_tree.proofs.Bytes.BytesLemmas.{put, length-put, bytes_at-put, AreBytes-put, same_bytes, spelled_in, length-spelled_in, number_of-spelled_in, AreBytes-spelled_in}
@@ -32,25 +32,25 @@ use Rattle.rustc_abi.proofs.Values.PartsLemmas.{LieBeside, FitTogether, HoldPart
 use Rattle.rustc_abi.proofs.Values.FieldsLemmas.{IsPartNiche, part_niche}
 use Rattle.rustc_abi.proofs.Enums.TaggedLemmas.{none_flagged}
 
--- each arm, counted up from an index, has its variant's number and fields, which fit together; those of each but the untagged one lie
+-- each tagged variant, counted up from an index, has its variant's number and fields, which fit together; those of each but the untagged one lie
 -- beside a niche of w bytes at the offset
-abbrev pub ArmsBeside : TargetDataLayout → (size offset w untagged from : ℕ) → Variants → Arms → Type 0
-ArmsBeside dl size offset w untagged from no_variants no_arms = ⊤
-ArmsBeside dl size offset w untagged from (more_variants d ts others) (arm n layout mark parts arms) =
+abbrev pub TaggedVariantsBeside : TargetDataLayout → (size offset w untagged from : ℕ) → Variants → TaggedVariants → Type 0
+TaggedVariantsBeside dl size offset w untagged from no_variants no_tagged_variants = ⊤
+TaggedVariantsBeside dl size offset w untagged from (more_variants d ts others) (tagged_variant n layout mark parts tagged_variants) =
     (n ≡ d) × FitTogether dl size ts parts × ((from == untagged) ≡ false → LieBeside offset w parts)
-    × ArmsBeside dl size offset w untagged (from + 1) others arms
-ArmsBeside dl size offset w untagged from _ _ = ⊥
+    × TaggedVariantsBeside dl size offset w untagged (from + 1) others tagged_variants
+TaggedVariantsBeside dl size offset w untagged from _ _ = ⊥
 
--- there is an arm with this index
-abbrev pub IsThere : Arms → (index : ℕ) → Type 0
-IsThere no_arms i = ⊥
-IsThere (arm n layout mark parts arms) zero = ⊤
-IsThere (arm n layout mark parts arms) (suc i) = IsThere arms i
+-- there is a tagged variant with this index
+abbrev pub IsThere : TaggedVariants → (index : ℕ) → Type 0
+IsThere no_tagged_variants i = ⊥
+IsThere (tagged_variant n layout mark parts tagged_variants) zero = ⊤
+IsThere (tagged_variant n layout mark parts tagged_variants) (suc i) = IsThere tagged_variants i
 
--- each arm that isn't flagged is the untagged one or lies in the span
-abbrev pub AreSpanned : (untagged first last : ℕ) → Arms → Type 0
-AreSpanned untagged first last arms =
-    (i : ℕ) → IsThere arms i → i ≢ untagged → is_flagged (parts_of_arm arms i) ≡ false → (first ≤ i) × (i ≤ last)
+-- each tagged variant that isn't flagged is the untagged one or lies in the span
+abbrev pub AreSpanned : (untagged first last : ℕ) → TaggedVariants → Type 0
+AreSpanned untagged first last tagged_variants =
+    (i : ℕ) → IsThere tagged_variants i → i ≢ untagged → is_flagged (parts_of_tagged_variant tagged_variants i) ≡ false → (first ≤ i) × (i ≤ last)
 
 -- fewer steps than there are numbers, and others, lead from one number to different ones
 steps_once : (all start a b : ℕ) → a < all → b < all → (start + a) % all ≡ (start + b) % all → a ≡ b
@@ -88,72 +88,72 @@ niche_names_one w untagged first last start k few i j h g =
     ]
 
 module _ (dl : TargetDataLayout) (size offset w untagged : ℕ) where
-  -- an arm holds only its variant's values
-  arm_only : (from : ℕ) (all : Variants) (arms : Arms) → ArmsBeside dl size offset w untagged from all arms → (i : ℕ) (b : List ℕ) (vs : Values) → AreBytes b →
-      HoldArm dl.endian arms i b vs → AreValuesOfVariant dl all i (parts_of_arm arms i) vs
-  arm_only from no_variants no_arms fit i b vs are h = h
-  arm_only from no_variants (arm n layout mark parts arms) fit i b vs are h = absurd fit
-  arm_only from (more_variants d ts others) no_arms fit i b vs are h = absurd fit
-  arm_only from (more_variants d ts others) (arm n layout mark parts arms) fit zero b vs are h = only dl size ts parts fit.1 b vs are h
-  arm_only from (more_variants d ts others) (arm n layout mark parts arms) fit (suc i) b vs are h = arm_only (from + 1) others arms fit.3 i b vs are h
+  -- a tagged variant holds only its variant's values
+  tagged_variant_only : (from : ℕ) (all : Variants) (tagged_variants : TaggedVariants) → TaggedVariantsBeside dl size offset w untagged from all tagged_variants → (i : ℕ) (b : List ℕ) (vs : Values) → AreBytes b →
+      HoldTaggedVariant dl.endian tagged_variants i b vs → AreValuesOfVariant dl all i (parts_of_tagged_variant tagged_variants i) vs
+  tagged_variant_only from no_variants no_tagged_variants fit i b vs are h = h
+  tagged_variant_only from no_variants (tagged_variant n layout mark parts tagged_variants) fit i b vs are h = absurd fit
+  tagged_variant_only from (more_variants d ts others) no_tagged_variants fit i b vs are h = absurd fit
+  tagged_variant_only from (more_variants d ts others) (tagged_variant n layout mark parts tagged_variants) fit zero b vs are h = only dl size ts parts fit.1 b vs are h
+  tagged_variant_only from (more_variants d ts others) (tagged_variant n layout mark parts tagged_variants) fit (suc i) b vs are h = tagged_variant_only (from + 1) others tagged_variants fit.3 i b vs are h
 
-  -- no bytes hold two lists of values of one arm
-  arm_unique : (from : ℕ) (all : Variants) (arms : Arms) → ArmsBeside dl size offset w untagged from all arms → (i : ℕ) (b : List ℕ) (vs ws : Values) →
-      HoldArm dl.endian arms i b vs → HoldArm dl.endian arms i b ws → vs ≡ ws
-  arm_unique from no_variants no_arms fit i b vs ws h g = absurd h
-  arm_unique from no_variants (arm n layout mark parts arms) fit i b vs ws h g = absurd fit
-  arm_unique from (more_variants d ts others) no_arms fit i b vs ws h g = absurd fit
-  arm_unique from (more_variants d ts others) (arm n layout mark parts arms) fit zero b vs ws h g = unique dl size ts parts fit.1 b vs ws h g
-  arm_unique from (more_variants d ts others) (arm n layout mark parts arms) fit (suc i) b vs ws h g = arm_unique (from + 1) others arms fit.3 i b vs ws h g
+  -- no bytes hold two lists of values of one tagged variant
+  tagged_variant_unique : (from : ℕ) (all : Variants) (tagged_variants : TaggedVariants) → TaggedVariantsBeside dl size offset w untagged from all tagged_variants → (i : ℕ) (b : List ℕ) (vs ws : Values) →
+      HoldTaggedVariant dl.endian tagged_variants i b vs → HoldTaggedVariant dl.endian tagged_variants i b ws → vs ≡ ws
+  tagged_variant_unique from no_variants no_tagged_variants fit i b vs ws h g = absurd h
+  tagged_variant_unique from no_variants (tagged_variant n layout mark parts tagged_variants) fit i b vs ws h g = absurd fit
+  tagged_variant_unique from (more_variants d ts others) no_tagged_variants fit i b vs ws h g = absurd fit
+  tagged_variant_unique from (more_variants d ts others) (tagged_variant n layout mark parts tagged_variants) fit zero b vs ws h g = unique dl size ts parts fit.1 b vs ws h g
+  tagged_variant_unique from (more_variants d ts others) (tagged_variant n layout mark parts tagged_variants) fit (suc i) b vs ws h g = tagged_variant_unique (from + 1) others tagged_variants fit.3 i b vs ws h g
 
-  -- bytes that agree on the arms' data places hold the same values of an arm
-  arm_padding : (from : ℕ) (all : Variants) (arms : Arms) → ArmsBeside dl size offset w untagged from all arms → (xs ys : List ℕ) → length xs ≡ length ys →
-      ((k : ℕ) → is_place_of_arm arms k ≡ true → get_or xs k 0 ≡ get_or ys k 0) → (i : ℕ) (vs : Values) →
-      HoldArm dl.endian arms i xs vs → HoldArm dl.endian arms i ys vs
-  arm_padding from no_variants no_arms fit xs ys same agree i vs h = h
-  arm_padding from no_variants (arm n layout mark parts arms) fit xs ys same agree i vs h = absurd fit
-  arm_padding from (more_variants d ts others) no_arms fit xs ys same agree i vs h = absurd fit
-  arm_padding from (more_variants d ts others) (arm n layout mark parts arms) fit xs ys same agree zero vs h =
-      padding dl size ts parts fit.1 xs ys vs same (λ k place. agree k (ap (λ x. x || is_place_of_arm arms k) place)) h
-  arm_padding from (more_variants d ts others) (arm n layout mark parts arms) fit xs ys same agree (suc i) vs h =
-      arm_padding (from + 1) others arms fit.3 xs ys same
+  -- bytes that agree on the tagged variants' data places hold the same values of a tagged variant
+  tagged_variant_padding : (from : ℕ) (all : Variants) (tagged_variants : TaggedVariants) → TaggedVariantsBeside dl size offset w untagged from all tagged_variants → (xs ys : List ℕ) → length xs ≡ length ys →
+      ((k : ℕ) → is_place_of_tagged_variant tagged_variants k ≡ true → get_or xs k 0 ≡ get_or ys k 0) → (i : ℕ) (vs : Values) →
+      HoldTaggedVariant dl.endian tagged_variants i xs vs → HoldTaggedVariant dl.endian tagged_variants i ys vs
+  tagged_variant_padding from no_variants no_tagged_variants fit xs ys same agree i vs h = h
+  tagged_variant_padding from no_variants (tagged_variant n layout mark parts tagged_variants) fit xs ys same agree i vs h = absurd fit
+  tagged_variant_padding from (more_variants d ts others) no_tagged_variants fit xs ys same agree i vs h = absurd fit
+  tagged_variant_padding from (more_variants d ts others) (tagged_variant n layout mark parts tagged_variants) fit xs ys same agree zero vs h =
+      padding dl size ts parts fit.1 xs ys vs same (λ k place. agree k (ap (λ x. x || is_place_of_tagged_variant tagged_variants k) place)) h
+  tagged_variant_padding from (more_variants d ts others) (tagged_variant n layout mark parts tagged_variants) fit xs ys same agree (suc i) vs h =
+      tagged_variant_padding (from + 1) others tagged_variants fit.3 xs ys same
       (λ k place. agree k (ap (λ x. is_place_of_part parts k || x) place ∙ or-true (is_place_of_part parts k))) i vs h
 
-  -- where bytes hold values of an arm, a niche of its parts is true
-  arm_niche : (from : ℕ) (all : Variants) (arms : Arms) → ArmsBeside dl size offset w untagged from all arms → (n : Niche) (i : ℕ) → IsPartNiche (parts_of_arm arms i) n →
-      (b : List ℕ) (vs : Values) → HoldArm dl.endian arms i b vs → IsIn (niche_size dl n) n.valid_range (tag_at dl.endian b n.offset (niche_size dl n))
-  arm_niche from no_variants no_arms fit n i has b vs h = absurd h
-  arm_niche from no_variants (arm m layout mark parts arms) fit n i has b vs h = absurd fit
-  arm_niche from (more_variants d ts others) no_arms fit n i has b vs h = absurd fit
-  arm_niche from (more_variants d ts others) (arm m layout mark parts arms) fit n zero has b vs h = part_niche dl size ts parts fit.1 n has b vs h
-  arm_niche from (more_variants d ts others) (arm m layout mark parts arms) fit n (suc i) has b vs h = arm_niche (from + 1) others arms fit.3 n i has b vs h
+  -- where bytes hold values of a tagged variant, a niche of its parts is true
+  tagged_variant_niche : (from : ℕ) (all : Variants) (tagged_variants : TaggedVariants) → TaggedVariantsBeside dl size offset w untagged from all tagged_variants → (n : Niche) (i : ℕ) → IsPartNiche (parts_of_tagged_variant tagged_variants i) n →
+      (b : List ℕ) (vs : Values) → HoldTaggedVariant dl.endian tagged_variants i b vs → IsIn (niche_size dl n) n.valid_range (tag_at dl.endian b n.offset (niche_size dl n))
+  tagged_variant_niche from no_variants no_tagged_variants fit n i has b vs h = absurd h
+  tagged_variant_niche from no_variants (tagged_variant m layout mark parts tagged_variants) fit n i has b vs h = absurd fit
+  tagged_variant_niche from (more_variants d ts others) no_tagged_variants fit n i has b vs h = absurd fit
+  tagged_variant_niche from (more_variants d ts others) (tagged_variant m layout mark parts tagged_variants) fit n zero has b vs h = part_niche dl size ts parts fit.1 n has b vs h
+  tagged_variant_niche from (more_variants d ts others) (tagged_variant m layout mark parts tagged_variants) fit n (suc i) has b vs h = tagged_variant_niche (from + 1) others tagged_variants fit.3 n i has b vs h
 
-  -- a variant with values has an arm, which isn't flagged
-  arm_open : (from : ℕ) (all : Variants) (arms : Arms) → ArmsBeside dl size offset w untagged from all arms → (i : ℕ) (vs : Values) →
-      AreValuesOfVariant dl all i (parts_of_arm arms i) vs → IsThere arms i × (is_flagged (parts_of_arm arms i) ≡ false)
-  arm_open from no_variants no_arms fit i vs h = absurd h
-  arm_open from no_variants (arm n layout mark parts arms) fit i vs h = absurd fit
-  arm_open from (more_variants d ts others) no_arms fit i vs h = absurd fit
-  arm_open from (more_variants d ts others) (arm n layout mark parts arms) fit zero vs h = (tt, none_flagged dl size ts parts fit.1 vs h)
-  arm_open from (more_variants d ts others) (arm n layout mark parts arms) fit (suc i) vs h = arm_open (from + 1) others arms fit.3 i vs h
+  -- a variant with values has a tagged variant, which isn't flagged
+  tagged_variant_open : (from : ℕ) (all : Variants) (tagged_variants : TaggedVariants) → TaggedVariantsBeside dl size offset w untagged from all tagged_variants → (i : ℕ) (vs : Values) →
+      AreValuesOfVariant dl all i (parts_of_tagged_variant tagged_variants i) vs → IsThere tagged_variants i × (is_flagged (parts_of_tagged_variant tagged_variants i) ≡ false)
+  tagged_variant_open from no_variants no_tagged_variants fit i vs h = absurd h
+  tagged_variant_open from no_variants (tagged_variant n layout mark parts tagged_variants) fit i vs h = absurd fit
+  tagged_variant_open from (more_variants d ts others) no_tagged_variants fit i vs h = absurd fit
+  tagged_variant_open from (more_variants d ts others) (tagged_variant n layout mark parts tagged_variants) fit zero vs h = (tt, none_flagged dl size ts parts fit.1 vs h)
+  tagged_variant_open from (more_variants d ts others) (tagged_variant n layout mark parts tagged_variants) fit (suc i) vs h = tagged_variant_open (from + 1) others tagged_variants fit.3 i vs h
 
   -- the values of a variant have bytes that hold them
-  arm_exists : (from : ℕ) (all : Variants) (arms : Arms) → ArmsBeside dl size offset w untagged from all arms → (i : ℕ) (vs : Values) →
-      AreValuesOfVariant dl all i (parts_of_arm arms i) vs → (b : List ℕ) × (length b ≡ size) × AreBytes b × HoldArm dl.endian arms i b vs
-  arm_exists from no_variants no_arms fit i vs h = absurd h
-  arm_exists from no_variants (arm n layout mark parts arms) fit i vs h = absurd fit
-  arm_exists from (more_variants d ts others) no_arms fit i vs h = absurd fit
-  arm_exists from (more_variants d ts others) (arm n layout mark parts arms) fit zero vs h = exist dl size ts parts fit.1 vs h
-  arm_exists from (more_variants d ts others) (arm n layout mark parts arms) fit (suc i) vs h = arm_exists (from + 1) others arms fit.3 i vs h
+  tagged_variant_exists : (from : ℕ) (all : Variants) (tagged_variants : TaggedVariants) → TaggedVariantsBeside dl size offset w untagged from all tagged_variants → (i : ℕ) (vs : Values) →
+      AreValuesOfVariant dl all i (parts_of_tagged_variant tagged_variants i) vs → (b : List ℕ) × (length b ≡ size) × AreBytes b × HoldTaggedVariant dl.endian tagged_variants i b vs
+  tagged_variant_exists from no_variants no_tagged_variants fit i vs h = absurd h
+  tagged_variant_exists from no_variants (tagged_variant n layout mark parts tagged_variants) fit i vs h = absurd fit
+  tagged_variant_exists from (more_variants d ts others) no_tagged_variants fit i vs h = absurd fit
+  tagged_variant_exists from (more_variants d ts others) (tagged_variant n layout mark parts tagged_variants) fit zero vs h = exist dl size ts parts fit.1 vs h
+  tagged_variant_exists from (more_variants d ts others) (tagged_variant n layout mark parts tagged_variants) fit (suc i) vs h = tagged_variant_exists (from + 1) others tagged_variants fit.3 i vs h
 
   -- those of a variant other than the untagged one have such bytes with any number at the niche's place
-  arm_exists_with : offset + w ≤ size → (m : ℕ) → m < numbers_of w → (from : ℕ) (all : Variants) (arms : Arms) → ArmsBeside dl size offset w untagged from all arms →
-      (i : ℕ) → (from + i == untagged) ≡ false → (vs : Values) → AreValuesOfVariant dl all i (parts_of_arm arms i) vs →
-      (b : List ℕ) × (length b ≡ size) × AreBytes b × (tag_at dl.endian b offset w ≡ m) × HoldArm dl.endian arms i b vs
-  arm_exists_with inside m below from no_variants no_arms fit i other vs h = absurd h
-  arm_exists_with inside m below from no_variants (arm n layout mark parts arms) fit i other vs h = absurd fit
-  arm_exists_with inside m below from (more_variants d ts others) no_arms fit i other vs h = absurd fit
-  arm_exists_with inside m below from (more_variants d ts others) (arm n layout mark parts arms) fit zero other vs h =
+  tagged_variant_exists_with : offset + w ≤ size → (m : ℕ) → m < numbers_of w → (from : ℕ) (all : Variants) (tagged_variants : TaggedVariants) → TaggedVariantsBeside dl size offset w untagged from all tagged_variants →
+      (i : ℕ) → (from + i == untagged) ≡ false → (vs : Values) → AreValuesOfVariant dl all i (parts_of_tagged_variant tagged_variants i) vs →
+      (b : List ℕ) × (length b ≡ size) × AreBytes b × (tag_at dl.endian b offset w ≡ m) × HoldTaggedVariant dl.endian tagged_variants i b vs
+  tagged_variant_exists_with inside m below from no_variants no_tagged_variants fit i other vs h = absurd h
+  tagged_variant_exists_with inside m below from no_variants (tagged_variant n layout mark parts tagged_variants) fit i other vs h = absurd fit
+  tagged_variant_exists_with inside m below from (more_variants d ts others) no_tagged_variants fit i other vs h = absurd fit
+  tagged_variant_exists_with inside m below from (more_variants d ts others) (tagged_variant n layout mark parts tagged_variants) fit zero other vs h =
       let at : from + 0 ≡ from = omega arith in
       let beside : LieBeside offset w parts = fit.2 (subst (λ k. (k == untagged) ≡ false) at other) in
       let own : List ℕ = spelled_in dl.endian w m in
@@ -167,17 +167,17 @@ module _ (dl : TargetDataLayout) (size offset w untagged : ℕ) where
         ap (number_of dl.endian) here ∙ number_of-spelled_in dl.endian w m below,
         HoldParts-beside dl ts parts offset rest.0 own (subst (λ k. LieBeside offset k parts) (sym long) beside) fits vs rest.3,
       )
-  arm_exists_with inside m below from (more_variants d ts others) (arm n layout mark parts arms) fit (suc i) other vs h =
+  tagged_variant_exists_with inside m below from (more_variants d ts others) (tagged_variant n layout mark parts tagged_variants) fit (suc i) other vs h =
       let at : from + suc i ≡ from + 1 + i = omega arith in
-      arm_exists_with inside m below (from + 1) others arms fit.3 i (subst (λ k. (k == untagged) ≡ false) at other) vs h
+      tagged_variant_exists_with inside m below (from + 1) others tagged_variants fit.3 i (subst (λ k. (k == untagged) ≡ false) at other) vs h
 
-module _ (dl : TargetDataLayout) (repr : ReprOptions) (layout : Layout) (n : Niche) (tag : Placed) (untagged first last start : ℕ) (all : Variants) (arms : Arms)
-    (wide : size_of tag ≡ niche_size dl n) (fit : ArmsBeside dl layout.size n.offset (niche_size dl n) untagged 0 all arms) where
+module _ (dl : TargetDataLayout) (repr : ReprOptions) (layout : Layout) (n : Niche) (tag : Placed) (untagged first last start : ℕ) (all : Variants) (tagged_variants : TaggedVariants)
+    (wide : size_of tag ≡ niche_size dl n) (fit : TaggedVariantsBeside dl layout.size n.offset (niche_size dl n) untagged 0 all tagged_variants) where
   abbrev tree : Tree
   tree = enum repr all
 
   abbrev placed : Placed
-  placed = tagged layout (mark_of true repr) n.offset tag (InNiche untagged (record { start = first; last = last }) start) arms
+  placed = tagged layout (mark_of true repr) n.offset tag (InNiche untagged (record { start = first; last = last }) start) tagged_variants
 
   -- the tag's width is the niche's
   named : (b : List ℕ) (i : ℕ) → NamesByNiche (size_of tag) untagged first last start (tag_at dl.endian b n.offset (size_of tag)) i →
@@ -193,8 +193,8 @@ module _ (dl : TargetDataLayout) (repr : ReprOptions) (layout : Layout) (n : Nic
   in_niche_unique few b (variant i vs) (variant j ws) h g =
       let same : i ≡ j =
       niche_names_one (niche_size dl n) untagged first last start (tag_at dl.endian b n.offset (niche_size dl n)) few i j (named b i h.2) (named b j g.2) in
-      let here : HoldArm dl.endian arms i b ws = subst (λ k. HoldArm dl.endian arms k b ws) (sym same) g.3 in
-      let fields : vs ≡ ws = arm_unique dl layout.size n.offset (niche_size dl n) untagged 0 all arms fit i b vs ws h.3 here in
+      let here : HoldTaggedVariant dl.endian tagged_variants i b ws = subst (λ k. HoldTaggedVariant dl.endian tagged_variants k b ws) (sym same) g.3 in
+      let fields : vs ≡ ws = tagged_variant_unique dl layout.size n.offset (niche_size dl n) untagged 0 all tagged_variants fit i b vs ws h.3 here in
       cc
   in_niche_unique few b (variant i vs) _ h g = absurd g
   in_niche_unique few b (number m) w h g = absurd h
@@ -205,7 +205,7 @@ module _ (dl : TargetDataLayout) (repr : ReprOptions) (layout : Layout) (n : Nic
 
   -- bytes hold only values
   pub in_niche_only : (b : List ℕ) (v : Value) → AreBytes b → Holds dl.endian placed b v → IsValueOf dl tree placed v
-  in_niche_only b (variant i vs) are h = arm_only dl layout.size n.offset (niche_size dl n) untagged 0 all arms fit i b vs are h.3
+  in_niche_only b (variant i vs) are h = tagged_variant_only dl layout.size n.offset (niche_size dl n) untagged 0 all tagged_variants fit i b vs are h.3
   in_niche_only b (number m) are h = absurd h
   in_niche_only b (two m k) are h = absurd h
   in_niche_only b (list vs) are h = absurd h
@@ -216,12 +216,12 @@ module _ (dl : TargetDataLayout) (repr : ReprOptions) (layout : Layout) (n : Nic
   place_of_tag : (j : ℕ) → is_data_place tag j ≡ true → is_data_place placed (n.offset + j) ≡ true
   place_of_tag j place =
       let at : n.offset + j - n.offset ≡ j = omega arith in
-      ap (λ x. x || is_place_of_arm arms (n.offset + j))
+      ap (λ x. x || is_place_of_tagged_variant tagged_variants (n.offset + j))
       (both_true (le-leb n.offset (n.offset + j) (omega arith)) (ap (is_data_place tag) at ∙ place))
 
-  -- so is each data place of an arm
-  place_of_arm : (k : ℕ) → is_place_of_arm arms k ≡ true → is_data_place placed k ≡ true
-  place_of_arm k place =
+  -- so is each data place of a tagged variant
+  place_of_tagged_variant : (k : ℕ) → is_place_of_tagged_variant tagged_variants k ≡ true → is_data_place placed k ≡ true
+  place_of_tagged_variant k place =
       ap (λ x. (nat_le n.offset k && is_data_place tag (k - n.offset)) || x) place ∙ or-true (nat_le n.offset k && is_data_place tag (k - n.offset))
 
   -- bytes that agree on the data places hold the same number in the niche, where each byte of the tag is a data place
@@ -243,7 +243,7 @@ module _ (dl : TargetDataLayout) (repr : ReprOptions) (layout : Layout) (n : Nic
         ey,
         omega (arith, same, h.1),
         subst (λ k. NamesByNiche (size_of tag) untagged first last start k i) (same_number filled xs ys same h.1 agree) h.2,
-        arm_padding dl layout.size n.offset (niche_size dl n) untagged 0 all arms fit xs ys same (λ k place. agree k (place_of_arm k place)) i vs h.3,
+        tagged_variant_padding dl layout.size n.offset (niche_size dl n) untagged 0 all tagged_variants fit xs ys same (λ k place. agree k (place_of_tagged_variant k place)) i vs h.3,
       )
   in_niche_padding filled xs ys (number m) ex ey agree h = absurd h
   in_niche_padding filled xs ys (two m k) ex ey agree h = absurd h
@@ -251,7 +251,7 @@ module _ (dl : TargetDataLayout) (repr : ReprOptions) (layout : Layout) (n : Nic
   in_niche_padding filled xs ys (state i ps vs) ex ey agree h = absurd h
   in_niche_padding filled xs ys (bytes content) ex ey agree h = absurd h
 
-  module _ (new : WrappingRange) (own : IsPartNiche (parts_of_arm arms untagged) n)
+  module _ (new : WrappingRange) (own : IsPartNiche (parts_of_tagged_variant tagged_variants untagged) n)
       (handed : HandsOut (niche_size dl n) n.valid_range new start (last - first + 1)) where
     -- where bytes hold a value, the number in the niche is one of the new range
     pub in_niche_number : (b : List ℕ) (v : Value) → Holds dl.endian placed b v → IsIn (niche_size dl n) new (tag_at dl.endian b n.offset (niche_size dl n))
@@ -260,8 +260,8 @@ module _ (dl : TargetDataLayout) (repr : ReprOptions) (layout : Layout) (n : Nic
         elim (named b i h.2) [
           | inl a ↦ (handed.members k).1 (inr (i - first, omega (arith, a.0.0, a.0.1), a.1))
           | inr a ↦
-              let here : HoldArm dl.endian arms untagged b vs = subst (λ j. HoldArm dl.endian arms j b vs) a.0 h.3 in
-              (handed.members k).1 (inl (arm_niche dl layout.size n.offset (niche_size dl n) untagged 0 all arms fit n untagged own b vs here))
+              let here : HoldTaggedVariant dl.endian tagged_variants untagged b vs = subst (λ j. HoldTaggedVariant dl.endian tagged_variants j b vs) a.0 h.3 in
+              (handed.members k).1 (inl (tagged_variant_niche dl layout.size n.offset (niche_size dl n) untagged 0 all tagged_variants fit n untagged own b vs here))
         ]
     in_niche_number b (number m) h = absurd h
     in_niche_number b (two m k) h = absurd h
@@ -270,21 +270,21 @@ module _ (dl : TargetDataLayout) (repr : ReprOptions) (layout : Layout) (n : Nic
     in_niche_number b (bytes content) h = absurd h
 
     -- where bytes hold fields of the untagged variant, the number in the niche is one of the old range, and names no other variant
-    pub names_itself : NamesItself dl.endian n.offset tag (InNiche untagged (record { start = first; last = last }) start) arms
+    pub names_itself : NamesItself dl.endian n.offset tag (InNiche untagged (record { start = first; last = last }) start) tagged_variants
     names_itself b vs h =
         let old : IsIn (niche_size dl n) n.valid_range (tag_at dl.endian b n.offset (niche_size dl n)) =
-        arm_niche dl layout.size n.offset (niche_size dl n) untagged 0 all arms fit n untagged own b vs h in
+        tagged_variant_niche dl layout.size n.offset (niche_size dl n) untagged 0 all tagged_variants fit n untagged own b vs h in
         named_back b untagged
         (inr (refl, λ other span e. (handed.were_free (other - first) (omega (arith, span.0, span.1))).1 (subst (IsIn (niche_size dl n) n.valid_range) e old)))
 
     -- a value of a variant has bytes that hold it, whether it is the untagged one or not
-    variant_exists : n.offset + niche_size dl n ≤ layout.size → AreSpanned untagged first last arms → (i : ℕ) (vs : Values) → AreValuesOfVariant dl all i (parts_of_arm arms i) vs →
+    variant_exists : n.offset + niche_size dl n ≤ layout.size → AreSpanned untagged first last tagged_variants → (i : ℕ) (vs : Values) → AreValuesOfVariant dl all i (parts_of_tagged_variant tagged_variants i) vs →
         (same : Bool) → (i == untagged) ≡ same → (b : List ℕ) × AreBytes b × Holds dl.endian placed b (variant i vs)
     variant_exists inside spanned i vs h true same =
         let is : i ≡ untagged = eqb-true i untagged same in
-        let found = arm_exists dl layout.size n.offset (niche_size dl n) untagged 0 all arms fit i vs h in
+        let found = tagged_variant_exists dl layout.size n.offset (niche_size dl n) untagged 0 all tagged_variants fit i vs h in
         let b : List ℕ = found.0 in
-        let here : HoldArm dl.endian arms untagged b vs = subst (λ j. HoldArm dl.endian arms j b vs) is found.3 in
+        let here : HoldTaggedVariant dl.endian tagged_variants untagged b vs = subst (λ j. HoldTaggedVariant dl.endian tagged_variants j b vs) is found.3 in
         let names : NamesByNiche (size_of tag) untagged first last start (tag_at dl.endian b n.offset (size_of tag)) i =
         subst (NamesByNiche (size_of tag) untagged first last start (tag_at dl.endian b n.offset (size_of tag))) (sym is) (names_itself b vs here) in
         let fits : n.offset + size_of tag ≤ length b = omega (arith, wide, inside, found.1) in
@@ -293,17 +293,17 @@ module _ (dl : TargetDataLayout) (repr : ReprOptions) (layout : Layout) (n : Nic
         let isnt : i ≢ untagged = eqb-false i untagged same in
         let at : i ≡ 0 + i = omega arith in
         let other : (0 + i == untagged) ≡ false = subst (λ k. (k == untagged) ≡ false) at same in
-        let has = arm_open dl layout.size n.offset (niche_size dl n) untagged 0 all arms fit i vs h in
+        let has = tagged_variant_open dl layout.size n.offset (niche_size dl n) untagged 0 all tagged_variants fit i vs h in
         let span = spanned i has.0 isnt has.1 in
         let m : ℕ = niche_number (niche_size dl n) first start i in
         let below : m < numbers_of (niche_size dl n) = mod_below (start + (i - first)) (numbers_of (niche_size dl n)) (pow_pos (8 * niche_size dl n)) in
-        let found = arm_exists_with dl layout.size n.offset (niche_size dl n) untagged inside m below 0 all arms fit i other vs h in
+        let found = tagged_variant_exists_with dl layout.size n.offset (niche_size dl n) untagged inside m below 0 all tagged_variants fit i other vs h in
         let b : List ℕ = found.0 in
         let fits : n.offset + size_of tag ≤ length b = omega (arith, wide, inside, found.1) in
         (b, found.2, (found.1, fits, named_back b i (inl ((span.0, span.1, isnt), found.3)), found.4))
 
     -- every value has bytes that hold it
-    pub in_niche_exists : n.offset + niche_size dl n ≤ layout.size → AreSpanned untagged first last arms → (v : Value) → IsValueOf dl tree placed v →
+    pub in_niche_exists : n.offset + niche_size dl n ≤ layout.size → AreSpanned untagged first last tagged_variants → (v : Value) → IsValueOf dl tree placed v →
         (b : List ℕ) × AreBytes b × Holds dl.endian placed b v
     in_niche_exists inside spanned (variant i vs) h = variant_exists inside spanned i vs h (i == untagged) refl
     in_niche_exists inside spanned (number m) h = absurd h

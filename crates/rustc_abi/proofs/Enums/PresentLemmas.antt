@@ -6,8 +6,8 @@ use Rattle.std.proofs.lemmas.List.Elements.{All-nil, All-cons, All-weaker}
 use Rattle.std.proofs.lemmas.List.FromFn.{get_or-range_with_len, length-range_with_len}
 use Rattle.abi_scalar.specs.declared.repr.ReprOptions.{ReprOptions}
 use Rattle.abi_univariant.specs.Placement.{source_order}
-use Rattle.abi_calc.specs.declared.enums.path.Path.TheVariants.{NoValue, OneList}
-use Rattle.abi_calc.specs.Enums.Path.{has_no_value, is_absent, is_free, is_present, path_among, path_of, present_of, variant_at}
+use Rattle.abi_calc.specs.declared.enums.strategy.EnumStrategy.TheVariants.{NoValue, OneList}
+use Rattle.abi_calc.specs.Enums.EnumStrategy.{has_no_value, is_absent, is_free, is_present, strategy_among, strategy_of, present_of, variant_at}
 use Rattle.abi_scalar.specs.Layout.{Layout}
 
 -- where none is kept, each fails the test
@@ -52,14 +52,14 @@ not_present false absent e = absurd (cc)
 absent_of : (repr : ReprOptions) (fields : List Layout) → is_present repr fields ≡ false → has_no_value fields ≡ true
 absent_of repr fields e = (and_parts (has_no_value fields) _ (not_present (is_free repr) (is_absent fields) e)).0
 
-none_present : (free : Bool) (present : List ℕ) → path_among free present ≡ NoValue → present ≡ []
+none_present : (free : Bool) (present : List ℕ) → strategy_among free present ≡ NoValue → present ≡ []
 none_present free [] e = refl
 none_present true (i ∷ []) e = absurd (cc)
 none_present false (i ∷ []) e = absurd (cc)
 none_present true (i ∷ j ∷ more) e = absurd (cc)
 none_present false (i ∷ j ∷ more) e = absurd (cc)
 
-one_present : (free : Bool) (present : List ℕ) (i : ℕ) → path_among free present ≡ OneList i → present ≡ i ∷ []
+one_present : (free : Bool) (present : List ℕ) (i : ℕ) → strategy_among free present ≡ OneList i → present ≡ i ∷ []
 one_present free [] i e = absurd (cc)
 one_present true (j ∷ []) i e = let same : j ≡ i = cc in ap (λ k. k ∷ []) same
 one_present false (j ∷ []) i e = absurd (cc)
@@ -68,15 +68,15 @@ one_present false (j ∷ k ∷ more) i e = absurd (cc)
 
 module _ (repr : ReprOptions) (layouts : List (List Layout)) where
   -- each variant of an enum without a present one has a field without values
-  pub all_absent : path_of true repr layouts ≡ NoValue → (j : ℕ) → j < length layouts → has_no_value (variant_at layouts j) ≡ true
-  all_absent path j short =
+  pub all_absent : strategy_of true repr layouts ≡ NoValue → (j : ℕ) → j < length layouts → has_no_value (variant_at layouts j) ≡ true
+  all_absent strategy j short =
       absent_of repr (variant_at layouts j)
       (at_place (λ k. is_present repr (variant_at layouts k) ≡ false) (length layouts) j short
-      (none_kept (λ k. is_present repr (variant_at layouts k)) (source_order (length layouts)) (none_present (is_free repr) (present_of repr layouts) path)))
+      (none_kept (λ k. is_present repr (variant_at layouts k)) (source_order (length layouts)) (none_present (is_free repr) (present_of repr layouts) strategy)))
 
   -- so has each but the one that is left
-  pub others_absent : (i : ℕ) → path_of true repr layouts ≡ OneList i → (j : ℕ) → j < length layouts → j ≢ i → has_no_value (variant_at layouts j) ≡ true
-  others_absent i path j short other =
+  pub others_absent : (i : ℕ) → strategy_of true repr layouts ≡ OneList i → (j : ℕ) → j < length layouts → j ≢ i → has_no_value (variant_at layouts j) ≡ true
+  others_absent i strategy j short other =
       ⊎_elim (λ same. absurd (other same)) (λ fails. absent_of repr (variant_at layouts j) fails)
       (at_place (IsOneOr (λ k. is_present repr (variant_at layouts k)) i) (length layouts) j short
-      (one_kept (λ k. is_present repr (variant_at layouts k)) (source_order (length layouts)) i (one_present (is_free repr) (present_of repr layouts) i path)))
+      (one_kept (λ k. is_present repr (variant_at layouts k)) (source_order (length layouts)) i (one_present (is_free repr) (present_of repr layouts) i strategy)))

@@ -9,7 +9,7 @@ use Rattle.abi_scalar.specs.Range.{IsIn}
 use Rattle.abi_scalar.specs.Niche.{niche_size}
 use Rattle.abi_scalar.specs.Lawful.{IsLawfulLayout}
 use Rattle.abi_scalar.specs.Simple.{never_layout}
-use Rattle.abi_calc.specs.Enums.Path.{variant_at, has_no_value}
+use Rattle.abi_calc.specs.Enums.EnumStrategy.{variant_at, has_no_value}
 use Rattle.abi_tree.specs.Tree.{Trees, Tree, Variants, struct, enum, no_trees, more_trees, no_variants, more_variants}
 use Rattle.abi_tree.specs.Values.{LocalsOfVariants, LocalsOfEach, VectorsOfVariants, VectorsOfEach, VectorsHaveValues, AreValuesOfVariant, AreValuesOf, IsValueOf}
 use Rattle.abi_tree.specs.Mark.{mark_of}

@@ -1,4 +1,4 @@
--- The integer that the tag of an enum is asked for holds the discriminants, and tells them apart.
+-- The integer that the tag of an enum is asked for holds the discriminants, and distinguishes them.
 use Rattle.std.proofs.Common.{◌≡◌, ◌≢◌, ℕ, suc, ◌+◌, ◌-◌, ◌*◌, ◌<◌, ◌≤◌, Bool, true, false, List, [], ◌∷◌, arith, ap, cond, inl, inr, get_or, length, map, not, refl, subst, sym, ◌∙◌}
 use Rattle.std.specs.Prelude.{◌%◌, ◌^◌, ◌⊎◌, ◌||◌, ◌&&◌, ◌==◌, All, filter, ℤ, pos, negsuc, neg_ℤ, ◌≤ℤ◌, ◌<ℤ◌, ◌-ℤ◌, None, Option, Some, find, min, option_map, nat_le, nat_lt, unwrap_or}
 use Rattle.std.proofs.lemmas.Int.{ints}
@@ -24,9 +24,9 @@ use Rattle.abi_scalar.specs.declared.variants.RangeToInclusive.{RangeToInclusive
 use Rattle.abi_scalar.specs.Range.{numbers_of}
 use Rattle.abi_scalar.specs.Repr.{discr_type_of, is_c}
 use Rattle.abi_calc.specs.Enums.Answer.{HasOneEach}
-use Rattle.abi_calc.specs.Enums.Discriminants.{IsAskedWith, counting_of, counts, discr_bits, inhabited_of, meant_by}
-use Rattle.abi_calc.specs.Enums.Path.{has_no_value, variant_at}
-use Rattle.abi_calc.specs.Enums.Several.{AreLawfulTags, IsLawfulTag}
+use Rattle.abi_calc.specs.Enums.Discriminants.{IsAskedWith, counted_discriminants, counts, discr_bits, inhabited_of, meant_by}
+use Rattle.abi_calc.specs.Enums.EnumStrategy.{has_no_value, variant_at}
+use Rattle.abi_calc.specs.Enums.Several.{AreWellFormedTags, IsLawfulTag}
 use Rattle.abi_scalar.specs.Layout.{Layout}
 use Rattle.rustc_abi.specs.Enums.{IsTagIntegerAnswer, has_equal, holds_both, is_discriminant, is_negative, least_integer, least_tag, numbered_from, tag_integer}
 
@@ -353,7 +353,7 @@ module _ (dl : TargetDataLayout) (repr : ReprOptions) where
 
   module _ (layouts : List (List Layout)) (numbers : List ℕ) where
     -- what holds of each discriminant holds of each that counts
-    all_counting : (P : ℕ → Type 0) → All P numbers → All P (counting_of (λ i. i) repr layouts (numbered_from 0 numbers))
+    all_counting : (P : ℕ → Type 0) → All P numbers → All P (counted_discriminants (λ i. i) repr layouts (numbered_from 0 numbers))
     all_counting P all =
         let items = numbered_from 0 numbers in
         All-map P (λ item. item.1) (filter (counts (λ i. i) repr layouts) items) (All-filter (counts (λ i. i) repr layouts) (λ item. P item.1) items (all_numbered P 0 numbers all))
@@ -366,7 +366,7 @@ module _ (dl : TargetDataLayout) (repr : ReprOptions) where
         All-map P (λ item. item.1) (filter test items) (All-filter test (λ item. P item.1) items (all_numbered P 0 numbers all))
 
     -- where a variant may have values, its discriminant counts
-    counting_inhabited : (P : ℕ → Type 0) → All P (counting_of (λ i. i) repr layouts (numbered_from 0 numbers)) → All P (inhabited_of (λ i. i) layouts (numbered_from 0 numbers))
+    counting_inhabited : (P : ℕ → Type 0) → All P (counted_discriminants (λ i. i) repr layouts (numbered_from 0 numbers)) → All P (inhabited_of (λ i. i) layouts (numbered_from 0 numbers))
     counting_inhabited P all =
         let items = numbered_from 0 numbers in
         let test : ℕ × ℕ → Bool = λ item. not (has_no_value (variant_at layouts item.0)) in
@@ -382,7 +382,7 @@ module _ (dl : TargetDataLayout) (repr : ReprOptions) where
         all_pairs_mapped (λ a b. a ≢ b) (λ item. item.1) (filter test items)
         (AllPairs-filter (λ x y. x.1 ≢ y.1) test items (numbers_apart 0 numbers apart))
 
-    -- and so they stay where the integer tells them apart
+    -- and so they stay where the integer distinguishes them
     differ_by : (i : Integer) (P : ℕ → Type 0) → ((a b : ℕ) → P a → P b → a ≢ b → a % 2 ^ (integer_size i * 8) ≢ b % 2 ^ (integer_size i * 8)) → has_equal numbers ≡ false
         → All P (inhabited_of (λ i. i) layouts (numbered_from 0 numbers))
         → AllPairs (λ v w. v % numbers_of (integer_size i) ≢ w % numbers_of (integer_size i)) (inhabited_of (λ i. i) layouts (numbered_from 0 numbers))
@@ -392,19 +392,19 @@ module _ (dl : TargetDataLayout) (repr : ReprOptions) where
         (tells (get_or values j d) (get_or values k d) (all j d (omega (arith, before, short))) (all k d short) (inhabited_apart apart j k d before short))
 
     -- what each of 0 and what the counted ones stand for is holds of both ends
-    end_holds : (P : ℤ → Type 0) (least : ℤ) (greatest : ℕ) → IsAskedWith dl repr (counting_of (λ i. i) repr layouts (numbered_from 0 numbers)) least greatest
+    end_holds : (P : ℤ → Type 0) (least : ℤ) (greatest : ℕ) → IsAskedWith dl repr (counted_discriminants (λ i. i) repr layouts (numbered_from 0 numbers)) least greatest
         → P (pos 0) → All (λ n. P (meant_by dl repr n)) numbers → P least × P (pos greatest)
     end_holds P least greatest asked none all =
-        let values = counting_of (λ i. i) repr layouts (numbered_from 0 numbers) in
+        let values = counted_discriminants (λ i. i) repr layouts (numbered_from 0 numbers) in
         let each : All P (pos 0 ∷ map (meant_by dl repr) values) =
         All-cons P (pos 0) (map (meant_by dl repr) values) none (All-map P (meant_by dl repr) values (all_counting (λ n. P (meant_by dl repr n)) all)) in
         (All-contains P (pos 0 ∷ map (meant_by dl repr) values) least each asked.0.0, All-contains P (pos 0 ∷ map (meant_by dl repr) values) (pos greatest) each asked.1.0)
 
     -- the discriminants of variants that may have values lie between the ends
-    inhabited_between : (least : ℤ) (greatest : ℕ) → IsAskedWith dl repr (counting_of (λ i. i) repr layouts (numbered_from 0 numbers)) least greatest
+    inhabited_between : (least : ℤ) (greatest : ℕ) → IsAskedWith dl repr (counted_discriminants (λ i. i) repr layouts (numbered_from 0 numbers)) least greatest
         → All (λ n. (least ≤ℤ meant_by dl repr n) × (meant_by dl repr n ≤ℤ pos greatest)) (inhabited_of (λ i. i) layouts (numbered_from 0 numbers))
     inhabited_between least greatest asked =
-        let values = counting_of (λ i. i) repr layouts (numbered_from 0 numbers) in
+        let values = counted_discriminants (λ i. i) repr layouts (numbered_from 0 numbers) in
         let low : All (λ n. least ≤ℤ meant_by dl repr n) values =
         all_under (λ z. least ≤ℤ z) (meant_by dl repr) values (All-tail (λ z. least ≤ℤ z) (pos 0) (map (meant_by dl repr) values) asked.0.1) in
         let high : All (λ n. meant_by dl repr n ≤ℤ pos greatest) values =
@@ -425,7 +425,7 @@ module _ (dl : TargetDataLayout) (repr : ReprOptions) where
 
       -- so is the least that holds both ends, where the type is signed and wide enough
       least_lawful : (bytes : ℕ) (least : ℤ) (greatest : ℕ) → is_signed_type (discr_type_of repr) ≡ true → bytes ≤ integer_size type_of
-          → IsAskedWith dl repr (counting_of (λ i. i) repr layouts (numbered_from 0 numbers)) least greatest
+          → IsAskedWith dl repr (counted_discriminants (λ i. i) repr layouts (numbered_from 0 numbers)) least greatest
           → IsLawfulTag dl repr (inhabited_of (λ i. i) layouts (numbered_from 0 numbers)) (least_integer bytes least greatest)
       least_lawful bytes least greatest sign wide asked =
           let i : Integer = least_integer bytes least greatest in
@@ -468,7 +468,7 @@ answer_by dl repr least greatest int =
 -- Each answer to the question for the tag's integer is a lawful one, where the discriminants are all of their type and all different.
 pub lawful_tags : (dl : TargetDataLayout) → IsLawfulDataLayout dl → (repr : ReprOptions) (numbers : List ℕ) (layouts : List (List Layout))
     → has_equal numbers ≡ false → list_all (is_discriminant dl repr) numbers ≡ true
-    → AreLawfulTags (λ i. i) dl repr (IsTagIntegerAnswer dl repr) layouts (numbered_from 0 numbers)
+    → AreWellFormedTags (λ i. i) dl repr (IsTagIntegerAnswer dl repr) layouts (numbered_from 0 numbers)
 lawful_tags dl law repr numbers layouts apart fits asked signed (least, greatest, ends, is) = by repr.int refl
   where
     answer : (o : Option IntegerType) → repr.int ≡ o → asked ≡ (answer_by dl repr least greatest o).0

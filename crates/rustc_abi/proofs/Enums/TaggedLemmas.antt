@@ -1,4 +1,4 @@
--- An enum told apart by a tag keeps its values.
+-- An enum distinguished by a tag keeps its values.
 use Rattle.std.proofs.Common.{◌≡◌, ◌≢◌, ℕ, zero, suc, ◌+◌, ◌-◌, ◌*◌, ◌%◌, ◌≤◌, ◌<◌, List, [], ◌∷◌, length, get_or, arith, refl, sym, ap, ◌∙◌, subst}
 use Rattle.std.specs.Prelude.{Bool, true, false, ◌&&◌, ◌||◌, nat_le, nat_lt, All, MatchBool, if◌then◌else◌, ⊤}
 use Rattle.std.specs.List.{AllPairs}
@@ -17,63 +17,63 @@ use Rattle.abi_tree.specs.Tree.{Tree, enum, Trees, no_trees, more_trees, Variant
 use Rattle.abi_tree.specs.Bytes.{AreBytes, bytes_at, number_of}
 use Rattle.abi_tree.specs.Value.{Value, number, two, list, variant, state, bytes, Values, no_values, more_values}
 use Rattle.abi_tree.specs.Mark.{mark_of}
-use Rattle.abi_tree.specs.Placed.{Placed, Parts, no_parts, part, Arms, no_arms, arm, layout_of, size_of, tagged, parts_of_arm, is_flagged}
+use Rattle.abi_tree.specs.Placed.{Placed, Parts, no_parts, part, TaggedVariants, no_tagged_variants, tagged_variant, layout_of, size_of, tagged, parts_of_tagged_variant, is_flagged}
 use Rattle.abi_scalar.specs.Layout.{Layout}
-use Rattle.abi_tree.specs.Places.{is_data_place, is_place_of_part, is_place_of_arm}
+use Rattle.abi_tree.specs.Places.{is_data_place, is_place_of_part, is_place_of_tagged_variant}
 use Rattle.abi_tree.specs.Tag.{NamesDirectly}
 use Rattle.abi_tree.specs.Values.{IsValueOf, AreValuesOf, AreValuesOfVariant, VectorsHaveValues}
-use Rattle.abi_tree.specs.Holding.{Holds, HoldArm, tag_at}
+use Rattle.abi_tree.specs.Holding.{Holds, HoldTaggedVariant, tag_at}
 use Rattle.abi_tree.specs.Faithful.{AgreeOn, IsFaithful}
 use Rattle.rustc_abi.specs.Laying.{one_scalar}
 use Rattle.abi_tree.proofs.Bytes.BytesLemmas.{put, length-put, bytes_at-put, AreBytes-put, same_bytes, spelled_in, length-spelled_in, number_of-spelled_in, AreBytes-spelled_in}
 use Rattle.abi_tree.proofs.Bytes.HoldLemmas.{length-bytes_at, AgreeOn-bytes_at}
 use Rattle.rustc_abi.proofs.Values.PartsLemmas.{LieBeside, FitTogether, HoldParts-beside, exist, only, unique, padding}
 
--- each arm has its variant's number and fields, which fit together, beside a tag of w bytes at the offset
-abbrev pub ArmsFit : TargetDataLayout → (size offset w : ℕ) → Variants → Arms → Type 0
-ArmsFit dl size offset w no_variants no_arms = ⊤
-ArmsFit dl size offset w (more_variants d ts others) (arm n layout mark parts arms) =
-    (n ≡ d) × FitTogether dl size ts parts × LieBeside offset w parts × ArmsFit dl size offset w others arms
-ArmsFit dl size offset w _ _ = ⊥
+-- each tagged variant has its variant's number and fields, which fit together, beside a tag of w bytes at the offset
+abbrev pub TaggedVariantsFit : TargetDataLayout → (size offset w : ℕ) → Variants → TaggedVariants → Type 0
+TaggedVariantsFit dl size offset w no_variants no_tagged_variants = ⊤
+TaggedVariantsFit dl size offset w (more_variants d ts others) (tagged_variant n layout mark parts tagged_variants) =
+    (n ≡ d) × FitTogether dl size ts parts × LieBeside offset w parts × TaggedVariantsFit dl size offset w others tagged_variants
+TaggedVariantsFit dl size offset w _ _ = ⊥
 
--- the number of each arm that isn't flagged, cut to w bytes, is one of the tag's
-abbrev pub HaveNumbers : (w : ℕ) → Scalar → Arms → Type 0
-HaveNumbers w tag no_arms = ⊤
-HaveNumbers w tag (arm n layout mark parts arms) = (is_flagged parts ≡ false → IsNumberOf w tag (n % numbers_of w)) × HaveNumbers w tag arms
+-- the number of each tagged variant that isn't flagged, cut to w bytes, is one of the tag's
+abbrev pub HaveNumbers : (w : ℕ) → Scalar → TaggedVariants → Type 0
+HaveNumbers w tag no_tagged_variants = ⊤
+HaveNumbers w tag (tagged_variant n layout mark parts tagged_variants) = (is_flagged parts ≡ false → IsNumberOf w tag (n % numbers_of w)) × HaveNumbers w tag tagged_variants
 
--- k isn't the number of an arm, cut to w bytes, unless that is flagged
-abbrev pub IsNoNumber : (w k : ℕ) → Arms → Type 0
-IsNoNumber w k no_arms = ⊤
-IsNoNumber w k (arm n layout mark parts arms) = (is_flagged parts ≡ false → k ≢ n % numbers_of w) × IsNoNumber w k arms
+-- k isn't the number of a tagged variant, cut to w bytes, unless that is flagged
+abbrev pub IsNoNumber : (w k : ℕ) → TaggedVariants → Type 0
+IsNoNumber w k no_tagged_variants = ⊤
+IsNoNumber w k (tagged_variant n layout mark parts tagged_variants) = (is_flagged parts ≡ false → k ≢ n % numbers_of w) × IsNoNumber w k tagged_variants
 
--- the numbers of two arms that aren't flagged differ, cut to w bytes
-abbrev pub NumbersDiffer : (w : ℕ) → Arms → Type 0
-NumbersDiffer w no_arms = ⊤
-NumbersDiffer w (arm n layout mark parts arms) = (is_flagged parts ≡ false → IsNoNumber w (n % numbers_of w) arms) × NumbersDiffer w arms
+-- the numbers of two tagged variants that aren't flagged differ, cut to w bytes
+abbrev pub NumbersDiffer : (w : ℕ) → TaggedVariants → Type 0
+NumbersDiffer w no_tagged_variants = ⊤
+NumbersDiffer w (tagged_variant n layout mark parts tagged_variants) = (is_flagged parts ≡ false → IsNoNumber w (n % numbers_of w) tagged_variants) × NumbersDiffer w tagged_variants
 
--- the numbers of the arms that aren't flagged
-abbrev pub open_numbers : Arms → List ℕ
-open_numbers no_arms = []
-open_numbers (arm n layout mark parts arms) = if is_flagged parts then open_numbers arms else n ∷ open_numbers arms
+-- the numbers of the tagged variants that aren't flagged
+abbrev pub open_numbers : TaggedVariants → List ℕ
+open_numbers no_tagged_variants = []
+open_numbers (tagged_variant n layout mark parts tagged_variants) = if is_flagged parts then open_numbers tagged_variants else n ∷ open_numbers tagged_variants
 
 -- what holds of the numbers that are listed holds of the first, where it is listed, and of the others
 split : (flag : Bool) (n : ℕ) (xs : List ℕ) (P : ℕ → Type 0) → All P (if flag then xs else n ∷ xs) → ((flag ≡ false → P n) × All P xs)
 split true n xs P h = (λ e. absurd (cc), h)
 split false n xs P h = (λ e. All-head P n xs h, All-tail P n xs h)
 
--- the arms have numbers of the tag where the listed numbers are such
-pub have_numbers : (w : ℕ) (tag : Scalar) (arms : Arms) → All (λ n. IsNumberOf w tag (n % numbers_of w)) (open_numbers arms) → HaveNumbers w tag arms
-have_numbers w tag no_arms h = tt
-have_numbers w tag (arm n layout mark parts arms) h =
-    let both = split (is_flagged parts) n (open_numbers arms) (λ m. IsNumberOf w tag (m % numbers_of w)) h in
-    (both.0, have_numbers w tag arms both.1)
+-- the tagged variants have numbers of the tag where the listed numbers are such
+pub have_numbers : (w : ℕ) (tag : Scalar) (tagged_variants : TaggedVariants) → All (λ n. IsNumberOf w tag (n % numbers_of w)) (open_numbers tagged_variants) → HaveNumbers w tag tagged_variants
+have_numbers w tag no_tagged_variants h = tt
+have_numbers w tag (tagged_variant n layout mark parts tagged_variants) h =
+    let both = split (is_flagged parts) n (open_numbers tagged_variants) (λ m. IsNumberOf w tag (m % numbers_of w)) h in
+    (both.0, have_numbers w tag tagged_variants both.1)
 
--- a number that is none of those listed is no arm's
-no_number : (w k : ℕ) (arms : Arms) → All (λ n. k ≢ n % numbers_of w) (open_numbers arms) → IsNoNumber w k arms
-no_number w k no_arms h = tt
-no_number w k (arm n layout mark parts arms) h =
-    let both = split (is_flagged parts) n (open_numbers arms) (λ m. k ≢ m % numbers_of w) h in
-    (both.0, no_number w k arms both.1)
+-- a number that is none of those listed is no tagged variant's
+no_number : (w k : ℕ) (tagged_variants : TaggedVariants) → All (λ n. k ≢ n % numbers_of w) (open_numbers tagged_variants) → IsNoNumber w k tagged_variants
+no_number w k no_tagged_variants h = tt
+no_number w k (tagged_variant n layout mark parts tagged_variants) h =
+    let both = split (is_flagged parts) n (open_numbers tagged_variants) (λ m. k ≢ m % numbers_of w) h in
+    (both.0, no_number w k tagged_variants both.1)
 
 -- what holds of each two listed numbers holds of the first, where it is listed, with each other, and of each two others
 split_pairs : (flag : Bool) (n : ℕ) (xs : List ℕ) (R : ℕ → ℕ → Type 0) → AllPairs R (if flag then xs else n ∷ xs) →
@@ -84,34 +84,34 @@ split_pairs false n xs R h = (
   λ a b d before short. h (suc a) (suc b) d (omega (arith, before)) (omega (arith, short)),
 )
 
--- the arms' numbers differ where the listed ones do
-pub numbers_differ : (w : ℕ) (arms : Arms) → AllPairs (λ n m. n % numbers_of w ≢ m % numbers_of w) (open_numbers arms) → NumbersDiffer w arms
-numbers_differ w no_arms h = tt
-numbers_differ w (arm n layout mark parts arms) h =
-    let both = split_pairs (is_flagged parts) n (open_numbers arms) (λ a b. a % numbers_of w ≢ b % numbers_of w) h in
-    (λ clear. no_number w (n % numbers_of w) arms (both.0 clear), numbers_differ w arms both.1)
+-- the tagged variants' numbers differ where the listed ones do
+pub numbers_differ : (w : ℕ) (tagged_variants : TaggedVariants) → AllPairs (λ n m. n % numbers_of w ≢ m % numbers_of w) (open_numbers tagged_variants) → NumbersDiffer w tagged_variants
+numbers_differ w no_tagged_variants h = tt
+numbers_differ w (tagged_variant n layout mark parts tagged_variants) h =
+    let both = split_pairs (is_flagged parts) n (open_numbers tagged_variants) (λ a b. a % numbers_of w ≢ b % numbers_of w) h in
+    (λ clear. no_number w (n % numbers_of w) tagged_variants (both.0 clear), numbers_differ w tagged_variants both.1)
 
--- a number that no arm has names none
-names_none : (w k : ℕ) (arms : Arms) → IsNoNumber w k arms → (i : ℕ) → NamesDirectly w arms k i → ⊥
-names_none w k no_arms none i h = h
-names_none w k (arm n layout mark parts arms) none zero h = none.0 h.0 (sym h.1)
-names_none w k (arm n layout mark parts arms) none (suc i) h = names_none w k arms none.1 i h
+-- a number that no tagged variant has names none
+names_none : (w k : ℕ) (tagged_variants : TaggedVariants) → IsNoNumber w k tagged_variants → (i : ℕ) → NamesDirectly w tagged_variants k i → ⊥
+names_none w k no_tagged_variants none i h = h
+names_none w k (tagged_variant n layout mark parts tagged_variants) none zero h = none.0 h.0 (sym h.1)
+names_none w k (tagged_variant n layout mark parts tagged_variants) none (suc i) h = names_none w k tagged_variants none.1 i h
 
--- a number names one arm
-pub names_one : (w k : ℕ) (arms : Arms) → NumbersDiffer w arms → (i j : ℕ) → NamesDirectly w arms k i → NamesDirectly w arms k j → i ≡ j
-names_one w k no_arms differ i j h g = absurd h
-names_one w k (arm n layout mark parts arms) differ zero zero h g = refl
-names_one w k (arm n layout mark parts arms) differ zero (suc j) h g =
-    absurd (names_none w k arms (subst (λ m. IsNoNumber w m arms) h.1 (differ.0 h.0)) j g)
-names_one w k (arm n layout mark parts arms) differ (suc i) zero h g =
-    absurd (names_none w k arms (subst (λ m. IsNoNumber w m arms) g.1 (differ.0 g.0)) i h)
-names_one w k (arm n layout mark parts arms) differ (suc i) (suc j) h g = ap suc (names_one w k arms differ.1 i j h g)
+-- a number names one tagged variant
+pub names_one : (w k : ℕ) (tagged_variants : TaggedVariants) → NumbersDiffer w tagged_variants → (i j : ℕ) → NamesDirectly w tagged_variants k i → NamesDirectly w tagged_variants k j → i ≡ j
+names_one w k no_tagged_variants differ i j h g = absurd h
+names_one w k (tagged_variant n layout mark parts tagged_variants) differ zero zero h g = refl
+names_one w k (tagged_variant n layout mark parts tagged_variants) differ zero (suc j) h g =
+    absurd (names_none w k tagged_variants (subst (λ m. IsNoNumber w m tagged_variants) h.1 (differ.0 h.0)) j g)
+names_one w k (tagged_variant n layout mark parts tagged_variants) differ (suc i) zero h g =
+    absurd (names_none w k tagged_variants (subst (λ m. IsNoNumber w m tagged_variants) g.1 (differ.0 g.0)) i h)
+names_one w k (tagged_variant n layout mark parts tagged_variants) differ (suc i) (suc j) h g = ap suc (names_one w k tagged_variants differ.1 i j h g)
 
--- a number that names an arm is one of the tag's
-pub names_number : (w : ℕ) (tag : Scalar) (k : ℕ) (arms : Arms) → HaveNumbers w tag arms → (i : ℕ) → NamesDirectly w arms k i → IsNumberOf w tag k
-names_number w tag k no_arms numbers i h = absurd h
-names_number w tag k (arm n layout mark parts arms) numbers zero h = subst (IsNumberOf w tag) h.1 (numbers.0 h.0)
-names_number w tag k (arm n layout mark parts arms) numbers (suc i) h = names_number w tag k arms numbers.1 i h
+-- a number that names a tagged variant is one of the tag's
+pub names_number : (w : ℕ) (tag : Scalar) (k : ℕ) (tagged_variants : TaggedVariants) → HaveNumbers w tag tagged_variants → (i : ℕ) → NamesDirectly w tagged_variants k i → IsNumberOf w tag k
+names_number w tag k no_tagged_variants numbers i h = absurd h
+names_number w tag k (tagged_variant n layout mark parts tagged_variants) numbers zero h = subst (IsNumberOf w tag) h.1 (numbers.0 h.0)
+names_number w tag k (tagged_variant n layout mark parts tagged_variants) numbers (suc i) h = names_number w tag k tagged_variants numbers.1 i h
 
 -- a type with a value isn't flagged
 pub unflagged : (dl : TargetDataLayout) (t : Tree) (placed : Placed) (flag : Bool) →
@@ -132,45 +132,45 @@ none_flagged dl size (more_trees t ts) (part o placed parts) fit (more_values v 
     ∙ none_flagged dl size ts parts fit.3 vs h.1
 
 module _ (dl : TargetDataLayout) (size offset w : ℕ) where
-  -- an arm holds only its variant's values
-  arm_only : (all : Variants) (arms : Arms) → ArmsFit dl size offset w all arms → (i : ℕ) (b : List ℕ) (vs : Values) → AreBytes b →
-      HoldArm dl.endian arms i b vs → AreValuesOfVariant dl all i (parts_of_arm arms i) vs
-  arm_only no_variants no_arms fit i b vs are h = h
-  arm_only no_variants (arm n layout mark parts arms) fit i b vs are h = absurd fit
-  arm_only (more_variants d ts others) no_arms fit i b vs are h = absurd fit
-  arm_only (more_variants d ts others) (arm n layout mark parts arms) fit zero b vs are h = only dl size ts parts fit.1 b vs are h
-  arm_only (more_variants d ts others) (arm n layout mark parts arms) fit (suc i) b vs are h = arm_only others arms fit.3 i b vs are h
+  -- a tagged variant holds only its variant's values
+  tagged_variant_only : (all : Variants) (tagged_variants : TaggedVariants) → TaggedVariantsFit dl size offset w all tagged_variants → (i : ℕ) (b : List ℕ) (vs : Values) → AreBytes b →
+      HoldTaggedVariant dl.endian tagged_variants i b vs → AreValuesOfVariant dl all i (parts_of_tagged_variant tagged_variants i) vs
+  tagged_variant_only no_variants no_tagged_variants fit i b vs are h = h
+  tagged_variant_only no_variants (tagged_variant n layout mark parts tagged_variants) fit i b vs are h = absurd fit
+  tagged_variant_only (more_variants d ts others) no_tagged_variants fit i b vs are h = absurd fit
+  tagged_variant_only (more_variants d ts others) (tagged_variant n layout mark parts tagged_variants) fit zero b vs are h = only dl size ts parts fit.1 b vs are h
+  tagged_variant_only (more_variants d ts others) (tagged_variant n layout mark parts tagged_variants) fit (suc i) b vs are h = tagged_variant_only others tagged_variants fit.3 i b vs are h
 
-  -- no bytes hold two lists of values of one arm
-  arm_unique : (all : Variants) (arms : Arms) → ArmsFit dl size offset w all arms → (i : ℕ) (b : List ℕ) (vs ws : Values) →
-      HoldArm dl.endian arms i b vs → HoldArm dl.endian arms i b ws → vs ≡ ws
-  arm_unique no_variants no_arms fit i b vs ws h g = absurd h
-  arm_unique no_variants (arm n layout mark parts arms) fit i b vs ws h g = absurd fit
-  arm_unique (more_variants d ts others) no_arms fit i b vs ws h g = absurd fit
-  arm_unique (more_variants d ts others) (arm n layout mark parts arms) fit zero b vs ws h g = unique dl size ts parts fit.1 b vs ws h g
-  arm_unique (more_variants d ts others) (arm n layout mark parts arms) fit (suc i) b vs ws h g = arm_unique others arms fit.3 i b vs ws h g
+  -- no bytes hold two lists of values of one tagged variant
+  tagged_variant_unique : (all : Variants) (tagged_variants : TaggedVariants) → TaggedVariantsFit dl size offset w all tagged_variants → (i : ℕ) (b : List ℕ) (vs ws : Values) →
+      HoldTaggedVariant dl.endian tagged_variants i b vs → HoldTaggedVariant dl.endian tagged_variants i b ws → vs ≡ ws
+  tagged_variant_unique no_variants no_tagged_variants fit i b vs ws h g = absurd h
+  tagged_variant_unique no_variants (tagged_variant n layout mark parts tagged_variants) fit i b vs ws h g = absurd fit
+  tagged_variant_unique (more_variants d ts others) no_tagged_variants fit i b vs ws h g = absurd fit
+  tagged_variant_unique (more_variants d ts others) (tagged_variant n layout mark parts tagged_variants) fit zero b vs ws h g = unique dl size ts parts fit.1 b vs ws h g
+  tagged_variant_unique (more_variants d ts others) (tagged_variant n layout mark parts tagged_variants) fit (suc i) b vs ws h g = tagged_variant_unique others tagged_variants fit.3 i b vs ws h g
 
-  -- bytes that agree on the arms' data places hold the same values of an arm
-  arm_padding : (all : Variants) (arms : Arms) → ArmsFit dl size offset w all arms → (xs ys : List ℕ) → length xs ≡ length ys →
-      ((k : ℕ) → is_place_of_arm arms k ≡ true → get_or xs k 0 ≡ get_or ys k 0) → (i : ℕ) (vs : Values) →
-      HoldArm dl.endian arms i xs vs → HoldArm dl.endian arms i ys vs
-  arm_padding no_variants no_arms fit xs ys same agree i vs h = h
-  arm_padding no_variants (arm n layout mark parts arms) fit xs ys same agree i vs h = absurd fit
-  arm_padding (more_variants d ts others) no_arms fit xs ys same agree i vs h = absurd fit
-  arm_padding (more_variants d ts others) (arm n layout mark parts arms) fit xs ys same agree zero vs h =
-      padding dl size ts parts fit.1 xs ys vs same (λ k place. agree k (ap (λ x. x || is_place_of_arm arms k) place)) h
-  arm_padding (more_variants d ts others) (arm n layout mark parts arms) fit xs ys same agree (suc i) vs h =
-      arm_padding others arms fit.3 xs ys same
+  -- bytes that agree on the tagged variants' data places hold the same values of a tagged variant
+  tagged_variant_padding : (all : Variants) (tagged_variants : TaggedVariants) → TaggedVariantsFit dl size offset w all tagged_variants → (xs ys : List ℕ) → length xs ≡ length ys →
+      ((k : ℕ) → is_place_of_tagged_variant tagged_variants k ≡ true → get_or xs k 0 ≡ get_or ys k 0) → (i : ℕ) (vs : Values) →
+      HoldTaggedVariant dl.endian tagged_variants i xs vs → HoldTaggedVariant dl.endian tagged_variants i ys vs
+  tagged_variant_padding no_variants no_tagged_variants fit xs ys same agree i vs h = h
+  tagged_variant_padding no_variants (tagged_variant n layout mark parts tagged_variants) fit xs ys same agree i vs h = absurd fit
+  tagged_variant_padding (more_variants d ts others) no_tagged_variants fit xs ys same agree i vs h = absurd fit
+  tagged_variant_padding (more_variants d ts others) (tagged_variant n layout mark parts tagged_variants) fit xs ys same agree zero vs h =
+      padding dl size ts parts fit.1 xs ys vs same (λ k place. agree k (ap (λ x. x || is_place_of_tagged_variant tagged_variants k) place)) h
+  tagged_variant_padding (more_variants d ts others) (tagged_variant n layout mark parts tagged_variants) fit xs ys same agree (suc i) vs h =
+      tagged_variant_padding others tagged_variants fit.3 xs ys same
       (λ k place. agree k (ap (λ x. is_place_of_part parts k || x) place ∙ or-true (is_place_of_part parts k))) i vs h
 
--- the values of a variant have bytes that hold them beside a tag with the arm's number
-arm_exists : (dl : TargetDataLayout) (size offset w : ℕ) → offset + w ≤ size → (all : Variants) (arms : Arms) → ArmsFit dl size offset w all arms →
-    (i : ℕ) (vs : Values) → AreValuesOfVariant dl all i (parts_of_arm arms i) vs →
-    (b : List ℕ) × (length b ≡ size) × AreBytes b × NamesDirectly w arms (tag_at dl.endian b offset w) i × HoldArm dl.endian arms i b vs
-arm_exists dl size offset w inside no_variants no_arms fit i vs h = absurd h
-arm_exists dl size offset w inside no_variants (arm n layout mark parts arms) fit i vs h = absurd fit
-arm_exists dl size offset w inside (more_variants d ts others) no_arms fit i vs h = absurd fit
-arm_exists dl size offset w inside (more_variants d ts others) (arm n layout mark parts arms) fit zero vs h =
+-- the values of a variant have bytes that hold them beside a tag with the tagged variant's number
+tagged_variant_exists : (dl : TargetDataLayout) (size offset w : ℕ) → offset + w ≤ size → (all : Variants) (tagged_variants : TaggedVariants) → TaggedVariantsFit dl size offset w all tagged_variants →
+    (i : ℕ) (vs : Values) → AreValuesOfVariant dl all i (parts_of_tagged_variant tagged_variants i) vs →
+    (b : List ℕ) × (length b ≡ size) × AreBytes b × NamesDirectly w tagged_variants (tag_at dl.endian b offset w) i × HoldTaggedVariant dl.endian tagged_variants i b vs
+tagged_variant_exists dl size offset w inside no_variants no_tagged_variants fit i vs h = absurd h
+tagged_variant_exists dl size offset w inside no_variants (tagged_variant n layout mark parts tagged_variants) fit i vs h = absurd fit
+tagged_variant_exists dl size offset w inside (more_variants d ts others) no_tagged_variants fit i vs h = absurd fit
+tagged_variant_exists dl size offset w inside (more_variants d ts others) (tagged_variant n layout mark parts tagged_variants) fit zero vs h =
     let m : ℕ = n % numbers_of w in
     let own : List ℕ = spelled_in dl.endian w m in
     let long : length own ≡ w = length-spelled_in dl.endian w m in
@@ -185,23 +185,23 @@ arm_exists dl size offset w inside (more_variants d ts others) (arm n layout mar
       (none_flagged dl size ts parts fit.1 vs h, sym held),
       HoldParts-beside dl ts parts offset rest.0 own (subst (λ k. LieBeside offset k parts) (sym long) fit.2) fits vs rest.3,
     )
-arm_exists dl size offset w inside (more_variants d ts others) (arm n layout mark parts arms) fit (suc i) vs h =
-    arm_exists dl size offset w inside others arms fit.3 i vs h
+tagged_variant_exists dl size offset w inside (more_variants d ts others) (tagged_variant n layout mark parts tagged_variants) fit (suc i) vs h =
+    tagged_variant_exists dl size offset w inside others tagged_variants fit.3 i vs h
 
-module _ (dl : TargetDataLayout) (repr : ReprOptions) (layout : Layout) (offset : ℕ) (tag : Scalar) (all : Variants) (arms : Arms)
-    (fit : ArmsFit dl layout.size offset (scalar_size dl tag) all arms) where
+module _ (dl : TargetDataLayout) (repr : ReprOptions) (layout : Layout) (offset : ℕ) (tag : Scalar) (all : Variants) (tagged_variants : TaggedVariants)
+    (fit : TaggedVariantsFit dl layout.size offset (scalar_size dl tag) all tagged_variants) where
   abbrev tree : Tree
   tree = enum repr all
 
   abbrev placed : Placed
-  placed = tagged layout (mark_of true repr) offset (one_scalar dl tag) Direct arms
+  placed = tagged layout (mark_of true repr) offset (one_scalar dl tag) Direct tagged_variants
 
   -- no bytes hold two values, where the variants' numbers differ
-  pub tagged_unique : NumbersDiffer (scalar_size dl tag) arms → (b : List ℕ) (v w : Value) → Holds dl.endian placed b v → Holds dl.endian placed b w → v ≡ w
+  pub tagged_unique : NumbersDiffer (scalar_size dl tag) tagged_variants → (b : List ℕ) (v w : Value) → Holds dl.endian placed b v → Holds dl.endian placed b w → v ≡ w
   tagged_unique differ b (variant i vs) (variant j ws) h g =
-      let same : i ≡ j = names_one (scalar_size dl tag) (tag_at dl.endian b offset (scalar_size dl tag)) arms differ i j h.2 g.2 in
-      let here : HoldArm dl.endian arms i b ws = subst (λ k. HoldArm dl.endian arms k b ws) (sym same) g.3 in
-      let fields : vs ≡ ws = arm_unique dl layout.size offset (scalar_size dl tag) all arms fit i b vs ws h.3 here in
+      let same : i ≡ j = names_one (scalar_size dl tag) (tag_at dl.endian b offset (scalar_size dl tag)) tagged_variants differ i j h.2 g.2 in
+      let here : HoldTaggedVariant dl.endian tagged_variants i b ws = subst (λ k. HoldTaggedVariant dl.endian tagged_variants k b ws) (sym same) g.3 in
+      let fields : vs ≡ ws = tagged_variant_unique dl layout.size offset (scalar_size dl tag) all tagged_variants fit i b vs ws h.3 here in
       cc
   tagged_unique differ b (variant i vs) _ h g = absurd g
   tagged_unique differ b (number n) w h g = absurd h
@@ -212,7 +212,7 @@ module _ (dl : TargetDataLayout) (repr : ReprOptions) (layout : Layout) (offset 
 
   -- bytes hold only values
   pub tagged_only : (b : List ℕ) (v : Value) → AreBytes b → Holds dl.endian placed b v → IsValueOf dl tree placed v
-  tagged_only b (variant i vs) are h = arm_only dl layout.size offset (scalar_size dl tag) all arms fit i b vs are h.3
+  tagged_only b (variant i vs) are h = tagged_variant_only dl layout.size offset (scalar_size dl tag) all tagged_variants fit i b vs are h.3
   tagged_only b (number n) are h = absurd h
   tagged_only b (two n m) are h = absurd h
   tagged_only b (list vs) are h = absurd h
@@ -220,9 +220,9 @@ module _ (dl : TargetDataLayout) (repr : ReprOptions) (layout : Layout) (offset 
   tagged_only b (bytes content) are h = absurd h
 
   -- where bytes hold a value, the number at the tag's place is one of the tag's
-  pub tagged_number : HaveNumbers (scalar_size dl tag) tag arms → (b : List ℕ) (v : Value) → Holds dl.endian placed b v →
+  pub tagged_number : HaveNumbers (scalar_size dl tag) tag tagged_variants → (b : List ℕ) (v : Value) → Holds dl.endian placed b v →
       IsNumberOf (scalar_size dl tag) tag (tag_at dl.endian b offset (scalar_size dl tag))
-  tagged_number numbers b (variant i vs) h = names_number (scalar_size dl tag) tag (tag_at dl.endian b offset (scalar_size dl tag)) arms numbers i h.2
+  tagged_number numbers b (variant i vs) h = names_number (scalar_size dl tag) tag (tag_at dl.endian b offset (scalar_size dl tag)) tagged_variants numbers i h.2
   tagged_number numbers b (number n) h = absurd h
   tagged_number numbers b (two n m) h = absurd h
   tagged_number numbers b (list vs) h = absurd h
@@ -233,12 +233,12 @@ module _ (dl : TargetDataLayout) (repr : ReprOptions) (layout : Layout) (offset 
   place_of_tag : (j : ℕ) → j < scalar_size dl tag → is_data_place placed (offset + j) ≡ true
   place_of_tag j below =
       let at : offset + j - offset ≡ j = omega arith in
-      ap (λ x. x || is_place_of_arm arms (offset + j))
+      ap (λ x. x || is_place_of_tagged_variant tagged_variants (offset + j))
       (both_true (le-leb offset (offset + j) (omega arith)) (ap (λ k. nat_lt k (scalar_size dl tag)) at ∙ lt-ltb j (scalar_size dl tag) below))
 
-  -- so is each data place of an arm
-  place_of_arm : (k : ℕ) → is_place_of_arm arms k ≡ true → is_data_place placed k ≡ true
-  place_of_arm k place =
+  -- so is each data place of a tagged variant
+  place_of_tagged_variant : (k : ℕ) → is_place_of_tagged_variant tagged_variants k ≡ true → is_data_place placed k ≡ true
+  place_of_tagged_variant k place =
       ap (λ x. (nat_le offset k && nat_lt (k - offset) (scalar_size dl tag)) || x) place ∙ or-true (nat_le offset k && nat_lt (k - offset) (scalar_size dl tag))
 
   -- bytes that agree on the data places hold the same tag
@@ -260,8 +260,8 @@ module _ (dl : TargetDataLayout) (repr : ReprOptions) (layout : Layout) (offset 
       let same : length xs ≡ length ys = ex ∙ sym ey in (
         ey,
         omega (arith, same, h.1),
-        subst (λ k. NamesDirectly (scalar_size dl tag) arms k i) (same_tag xs ys same h.1 agree) h.2,
-        arm_padding dl layout.size offset (scalar_size dl tag) all arms fit xs ys same (λ k place. agree k (place_of_arm k place)) i vs h.3,
+        subst (λ k. NamesDirectly (scalar_size dl tag) tagged_variants k i) (same_tag xs ys same h.1 agree) h.2,
+        tagged_variant_padding dl layout.size offset (scalar_size dl tag) all tagged_variants fit xs ys same (λ k place. agree k (place_of_tagged_variant k place)) i vs h.3,
       )
   tagged_padding xs ys (number n) ex ey agree h = absurd h
   tagged_padding xs ys (two n m) ex ey agree h = absurd h
@@ -272,7 +272,7 @@ module _ (dl : TargetDataLayout) (repr : ReprOptions) (layout : Layout) (offset 
   -- every value has bytes that hold it
   pub tagged_exists : offset + scalar_size dl tag ≤ layout.size → (v : Value) → IsValueOf dl tree placed v → (b : List ℕ) × AreBytes b × Holds dl.endian placed b v
   tagged_exists inside (variant i vs) h =
-      let found = arm_exists dl layout.size offset (scalar_size dl tag) inside all arms fit i vs h in
+      let found = tagged_variant_exists dl layout.size offset (scalar_size dl tag) inside all tagged_variants fit i vs h in
       let fits : offset + scalar_size dl tag ≤ length found.0 = omega (arith, found.1, inside) in
       (found.0, found.2, (found.1, fits, found.3, found.4))
   tagged_exists inside (number n) h = absurd h

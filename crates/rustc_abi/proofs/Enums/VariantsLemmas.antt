@@ -15,7 +15,7 @@ use Rattle.rustc_abi.specs.Enums.{discriminants_of}
 use Rattle.rustc_abi.specs.Laying.{AreLaying, VariantsLaying}
 use Rattle.abi_tree.specs.Well.{all_at}
 use Rattle.rustc_abi.specs.Adding.{AreAdded, AreVariantsAdded, EachFits, IsAdded, VariantsFit, variants_in}
-use Rattle.rustc_abi.proofs.Enums.ArmNodesLemmas.{variants_in-kept}
+use Rattle.rustc_abi.proofs.Enums.TaggedVariantNodesLemmas.{variants_in-kept}
 use Rattle.rustc_abi.proofs.Trees.LaidLemmas.{numbers_for}
 use Rattle.abi_tree.proofs.Meaning.NodesLemmas.{Keeps-trans, length-types_in}
 

@@ -8,7 +8,7 @@ use Rattle.std.proofs.lemmas.List.Elements.{All-cons, All-contains, All-filter, 
 use Rattle.std.proofs.lemmas.List.Folds.{Any-from_list_any, list_any_at}
 use Rattle.std.proofs.lemmas.List.FromFn.{get_or-map-range_with_len, get_or-range_with_len, length-map-range_with_len, length-range_with_len}
 use Rattle.std.proofs.lemmas.Map.Views.{any-filter_same}
-use Rattle.abi_index.specs.Ascending.{has_number}
+use Rattle.abi_index.specs.AscendingList.{has_number}
 use Rattle.abi_index.specs.Relation.{column_count, is_entry, row_count}
 use Rattle.abi_univariant.specs.Placement.{source_order}
 use Rattle.abi_calc.proofs.CoroutineLemmas.Steps.{rows_within}
@@ -56,8 +56,8 @@ module _ (prefix locals : ℕ) (states : List (List ℕ)) (conflicts : List (ℕ
   known = or_parts (list_any (list_any (nat_le locals)) states) (list_any (λ c. nat_le locals c.0 || nat_le locals c.1) conflicts) facts.2
 
   -- prefix fields, tag and locals are no more than indices
-  pub few_items : prefix + 1 + locals ≤ most_fields
-  few_items = ltb-false most_fields (prefix + 1 + locals) counts.0
+  pub inline_items : prefix + 1 + locals ≤ most_fields
+  inline_items = ltb-false most_fields (prefix + 1 + locals) counts.0
 
   -- there are no more states than indices, and no more locals in each
   pub few_states : length states ≤ most_fields
@@ -110,9 +110,9 @@ in_source count k low =
 -- what a test lets through of the numbers below a count
 filtered : (test : ℕ → Bool) (count k : ℕ) → k < count → has_number (filter test (source_order count)) k ≡ test k
 filtered test count k low =
-    let told : has_number (filter test (source_order count)) k ≡ (test k && has_number (source_order count) k)
+    let tag_distinguishes : has_number (filter test (source_order count)) k ≡ (test k && has_number (source_order count) k)
     = any-filter_same (λ x. k == x) test (test k) (λ x e. ap test (sym (eqb-true k x e))) (source_order count) in
-    told ∙ ap (λ b. test k && b) (in_source count k low) ∙ whole (test k)
+    tag_distinguishes ∙ ap (λ b. test k && b) (in_source count k low) ∙ whole (test k)
   where
     whole : (b : Bool) → (b && true) ≡ b
     whole true = refl
@@ -122,7 +122,7 @@ module _ (count : ℕ) (pairs : List (ℕ × ℕ)) where
   row_at : (row : ℕ) → row < count → get_or (conflicts_of count pairs).rows row [] ≡ filter (λ column. list_any (is_pair row column) pairs) (source_order count)
   row_at row low = get_or-map-range_with_len (λ row. filter (λ column. list_any (is_pair row column) pairs) (source_order count)) 0 count row row [] low (omega arith)
 
-  -- an entry is told by the pairs
+  -- an entry is given by the pairs
   pub conflict_entry : (row column : ℕ) → row < count → column < count → is_entry (conflicts_of count pairs) row column ≡ list_any (is_pair row column) pairs
   conflict_entry row column low short =
       ap (λ columns. has_number columns column) (row_at row low) ∙ filtered (λ column. list_any (is_pair row column) pairs) count column short

@@ -37,18 +37,18 @@ spec_to spec h =
 
 module _ (dl : TargetDataLayout) where
   -- what is said of a space by what is known of it
-  abbrev IsLawfulAs : Option PointerSpec → Type 0
-  IsLawfulAs found = IsSome found × IsLawfulSpec (unwrap_or found dl.default_address_space_pointer_spec)
+  abbrev IsWellFormedAs : Option PointerSpec → Type 0
+  IsWellFormedAs found = IsSome found × IsLawfulSpec (unwrap_or found dl.default_address_space_pointer_spec)
 
-  found_from : (found : Option PointerSpec) → is_lawful_spec found ≡ true → IsLawfulAs found
+  found_from : (found : Option PointerSpec) → is_lawful_spec found ≡ true → IsWellFormedAs found
   found_from None h = absurd (cc)
   found_from (Some spec) h = (refl, spec_from spec h)
 
-  found_to : (found : Option PointerSpec) → IsLawfulAs found → is_lawful_spec found ≡ true
+  found_to : (found : Option PointerSpec) → IsWellFormedAs found → is_lawful_spec found ≡ true
   found_to None h = absurd (cc h.0)
   found_to (Some spec) h = spec_to spec h.1
 
-  -- the test tells what a lawful primitive is
+  -- the test says what a lawful primitive is
   pub lawful_from : (p : Primitive) → is_lawful_primitive dl p ≡ true → IsLawfulPrimitive dl p
   lawful_from (Int i signed) h = tt
   lawful_from (Float f) h = tt
@@ -59,10 +59,10 @@ module _ (dl : TargetDataLayout) where
   same_test false true h k = k refl
   same_test false false h k = refl
 
-  -- the test by a call tells the same
-  pub pointer_test : (space : AddressSpace) (told : Bool) → (IsTrue told ↔ HasLawfulPointer dl space) → told ≡ is_lawful_primitive dl (Pointer space)
-  pointer_test space told h =
-      same_test told (is_lawful_spec (known_spec dl space)) (λ t. found_to (known_spec dl space) (h.0 t))
+  -- the test by a call says the same
+  pub pointer_test : (space : AddressSpace) (tag_distinguishes : Bool) → (IsTrue tag_distinguishes ↔ HasLawfulPointer dl space) → tag_distinguishes ≡ is_lawful_primitive dl (Pointer space)
+  pointer_test space tag_distinguishes h =
+      same_test tag_distinguishes (is_lawful_spec (known_spec dl space)) (λ t. found_to (known_spec dl space) (h.0 t))
       (λ t. h.1 (found_from (known_spec dl space) t))
 
   within_full : (width : ℕ) → AreWithin width (record { start = 0; end = numbers_of width - 1 })

@@ -20,7 +20,7 @@ any_long {A} {B} (x ∷ xs) (y ∷ ys) same =
     ap (λ n. nat_lt most_fields n || list_any (λ (z : List A). nat_lt most_fields (length z)) xs) here
     ∙ ap (λ b. nat_lt most_fields (length y) || b) (any_long xs ys later)
 
--- whether indices can name lists and their items is told by how many there are
+-- whether indices can name lists and their items is given by how many there are
 bad_index_by : {A B : Type 0} (xs : List (List A)) (ys : List (List B)) → map length xs ≡ map length ys → has_bad_index xs ≡ has_bad_index ys
 bad_index_by {A} xs ys same =
     let many : length xs ≡ length ys = sym (length-map xs length) ∙ ap length same ∙ length-map ys length in
@@ -31,7 +31,7 @@ in_items : {T : Type 0} (lists : List (Vec T Global)) → list_any (λ xs. nat_l
 in_items [] = refl
 in_items (l ∷ ls) = ap (λ b. nat_lt most_fields (length l.items) || b) (in_items ls)
 
--- they are told by the lists as vectors
+-- they are given by the lists as vectors
 bad_index_of : {T : Type 0} (lists : List (Vec T Global)) →
     has_bad_index (map (λ list. list.items) lists) ≡ (nat_lt most_fields (length lists) || list_any (λ list. nat_lt most_fields (length list.items)) lists)
 bad_index_of {T} lists =

@@ -26,9 +26,9 @@ use Rattle.abi_scalar.specs.Variant.{variants_of as layouts_in}
 use Rattle.abi_univariant.specs.Array.{elements_layout}
 use Rattle.abi_univariant.specs.Placement.{source_order}
 use Rattle.abi_univariant.specs.Simd.{simd_answer}
-use Rattle.abi_calc.specs.declared.enums.path.Path.{Path}
-use Rattle.abi_calc.specs.declared.enums.path.Path.TheVariants.{NoValue, OneList, Several}
-use Rattle.abi_calc.specs.Enums.Path.{path_of, variant_at}
+use Rattle.abi_calc.specs.declared.enums.strategy.EnumStrategy.{EnumStrategy}
+use Rattle.abi_calc.specs.declared.enums.strategy.EnumStrategy.TheVariants.{NoValue, OneList, Several}
+use Rattle.abi_calc.specs.Enums.EnumStrategy.{strategy_of, variant_at}
 use Rattle.abi_calc.specs.Coroutine.Layout.{IsStateTag}
 use Rattle.abi_calc.proofs.EnumLemmas.Deep.{HasOwnNumber, enum_span}
 use Rattle.abi_calc.proofs.EnumLemmas.Whole.{several_some}
@@ -37,29 +37,29 @@ use Rattle.abi_tree.specs.declared.mark.Mark.TheVariants.{Never, Plain, Unit}
 use Rattle.abi_tree.specs.Mark.{mark_of}
 use Rattle.abi_tree.specs.Bytes.{AreBytes, count_picked}
 use Rattle.abi_tree.specs.Tree.{Tree, scalar, pair, never, unit, array, vector, struct, union, enum, coroutine, Trees, no_trees, more_trees, Variants, no_variants, more_variants}
-use Rattle.abi_tree.specs.Placed.{Placed, layout_of, size_of, elements, fields, no_parts, never as placed_never, vector as placed_vector, Parts, part, Arms, no_arms, arm, parts_of_arm}
+use Rattle.abi_tree.specs.Placed.{Placed, layout_of, size_of, elements, fields, no_parts, never as placed_never, vector as placed_vector, Parts, part, TaggedVariants, no_tagged_variants, tagged_variant, parts_of_tagged_variant}
 use Rattle.abi_scalar.specs.Layout.{Layout}
 use Rattle.abi_tree.specs.Places.{is_data_place, is_place_of_part}
 use Rattle.abi_tree.specs.Value.{Value, value_count, Each}
 use Rattle.abi_tree.specs.Values.{AreValuesOf, AreValuesOfVariant, EachAt, HaveValues, IsValueAt, IsValueOf, LocalsHaveValues, LocalsOfEach, LocalsOfVariants}
 use Rattle.abi_tree.specs.Nodes.{parts_at, parts_at_0, placed_in, state_tag_offset, tag_offset}
-use Rattle.abi_tree.specs.Deciding.{arm_for, arm_values, covering_value, covering_values, each_value, first_told, first_with, place_in, some_number}
-use Rattle.abi_tree.proofs.Deciding.CoverableLemmas.{ArmsCover, Covers, PartsCover, covers_elements, covers_fields, covers_pair, covers_scalar, covers_single, covers_states, covers_tagged, covers_union, covers_vector}
-use Rattle.rustc_abi.specs.Count.{arm_count}
+use Rattle.abi_tree.specs.Deciding.{tagged_variant_for, tagged_variant_values, covering_value, covering_values, each_value, first_tagged, first_with, place_in, some_number}
+use Rattle.abi_tree.proofs.Deciding.CoverableLemmas.{TaggedVariantsCover, Covers, PartsCover, covers_elements, covers_fields, covers_pair, covers_scalar, covers_single, covers_states, covers_tagged, covers_union, covers_vector}
+use Rattle.rustc_abi.specs.Count.{tagged_variant_count}
 use Rattle.rustc_abi.specs.Coroutines.{IsStated}
-use Rattle.rustc_abi.specs.Enums.{IsEnumed, IsTagIntegerAnswer, arms_at, discriminants_of, layouts_of, numbered_from}
+use Rattle.rustc_abi.specs.Enums.{IsEnumed, IsTagIntegerAnswer, tagged_variants_at, discriminants_of, layouts_of, numbered_from}
 use Rattle.rustc_abi.specs.Error.{named}
 use Rattle.rustc_abi.specs.Everywhere.{HaveLocals}
 use Rattle.rustc_abi.specs.Inhabited.{AreInhabited, EachInhabited, IsInhabited, VariantsInhabited}
-use Rattle.rustc_abi.specs.Laying.{AreLaying, IsLaying, IsLaidList, IsListedInOrder, IsUnited, VariantsLaying, coroutine_fault, enum_fault, fields_fault, kind_of, lanes_of, one_scalar, ordered_fault, pair_answer, placed_coroutine, placed_enum, placed_fields, placed_together, placed_variants, randomized, scalar_answer, two_scalars, unless}
+use Rattle.rustc_abi.specs.Laying.{AreLaying, IsLaying, IsLaidList, IsListedInOrder, IsUnited, VariantsLaying, coroutine_fault, enum_fault, fields_fault, kind_of, lanes_of, one_scalar, ordered_fault, pair_answer, placed_coroutine, placed_enum, placed_fields, placed_together, placed_variants, with_randomize_flag, scalar_answer, two_scalars, unless}
 use Rattle.rustc_abi.specs.Least.{fields_of}
 use Rattle.rustc_abi.specs.ScalarFault.{scalar_fault}
 use Rattle.rustc_abi.specs.declared.error.LayError.{LayError}
 use Rattle.rustc_abi.specs.declared.error.LayError.TheVariants.{SizeOverflow}
-use Rattle.rustc_abi.proofs.Enums.ArmsLemmas.{EachApart}
+use Rattle.rustc_abi.proofs.Enums.TaggedVariantsLemmas.{EachApart}
 use Rattle.rustc_abi.proofs.Faults.CoroutineFaultLemmas.{some_state, states_within}
 use Rattle.rustc_abi.proofs.Faults.FaultLemmas.{faultless}
-use Rattle.rustc_abi.proofs.Sizes.EnumSizeLemmas.{Answers, IsShaped, apart_long, by_arms, enumed_shaped}
+use Rattle.rustc_abi.proofs.Sizes.EnumSizeLemmas.{Answers, IsShaped, apart_long, by_tagged_variants, enumed_shaped}
 use Rattle.rustc_abi.proofs.Sizes.LeastLemmas.{listed_count}
 use Rattle.rustc_abi.proofs.Sizes.SizeLemmas.{elements_there}
 use Rattle.rustc_abi.proofs.Trees.EverywhereLemmas.{coroutine_has}
@@ -154,50 +154,50 @@ module _ (dl : TargetDataLayout) where
   variant_cover (more_variants d ts others) (ps ∷ variants) (suc i) os lt h = variant_cover others variants i os (omega (arith, lt)) h.1
 
   module _ (whole : Layout) (mark : Mark) (size : ℕ) where
-    arms_values : (all : Variants) (variants : List (List Placed)) (layouts : List (VariantLayout ℕ)) (from : ℕ) (numbers : List ℕ) (i : ℕ) (place : Option ℕ) → EachApart size variants layouts →
+    tagged_variants_values : (all : Variants) (variants : List (List Placed)) (layouts : List (VariantLayout ℕ)) (from : ℕ) (numbers : List ℕ) (i : ℕ) (place : Option ℕ) → EachApart size variants layouts →
         length numbers ≡ length variants → i < length variants → VariantsCoverable dl all variants →
-        AreValuesOfVariant dl all i (parts_of_arm (arms_at whole mark from layouts numbers variants) i) (arm_values (arms_at whole mark from layouts numbers variants) i place)
-    arms_values all [] layouts from numbers i place apart long lt h = absurd (omega (arith, lt))
-    arms_values all (ps ∷ variants) [] from numbers i place apart long lt h = absurd apart
-    arms_values all (ps ∷ variants) (l ∷ layouts) from [] i place apart long lt h = absurd (omega (arith, long))
-    arms_values no_variants (ps ∷ variants) (l ∷ layouts) from (n ∷ numbers) i place apart long lt h = absurd h
-    arms_values (more_variants d ts others) (ps ∷ variants) (l ∷ layouts) from (n ∷ numbers) zero place apart long lt h =
+        AreValuesOfVariant dl all i (parts_of_tagged_variant (tagged_variants_at whole mark from layouts numbers variants) i) (tagged_variant_values (tagged_variants_at whole mark from layouts numbers variants) i place)
+    tagged_variants_values all [] layouts from numbers i place apart long lt h = absurd (omega (arith, lt))
+    tagged_variants_values all (ps ∷ variants) [] from numbers i place apart long lt h = absurd apart
+    tagged_variants_values all (ps ∷ variants) (l ∷ layouts) from [] i place apart long lt h = absurd (omega (arith, long))
+    tagged_variants_values no_variants (ps ∷ variants) (l ∷ layouts) from (n ∷ numbers) i place apart long lt h = absurd h
+    tagged_variants_values (more_variants d ts others) (ps ∷ variants) (l ∷ layouts) from (n ∷ numbers) zero place apart long lt h =
         let count : length l.field_offsets ≡ length ps = apart_long size l.field_offsets (map size_of ps) apart.0 ∙ length-map ps size_of in
         fields_values ts l.field_offsets ps place (omega (arith, count)) h.0
-    arms_values (more_variants d ts others) (ps ∷ variants) (l ∷ layouts) from (n ∷ numbers) (suc i) place apart long lt h =
-        arms_values others variants layouts (from + 1) numbers i place apart.1 (omega (arith, long)) (omega (arith, lt)) h.1
+    tagged_variants_values (more_variants d ts others) (ps ∷ variants) (l ∷ layouts) from (n ∷ numbers) (suc i) place apart long lt h =
+        tagged_variants_values others variants layouts (from + 1) numbers i place apart.1 (omega (arith, long)) (omega (arith, lt)) h.1
 
-    arms_cover : (all : Variants) (variants : List (List Placed)) (layouts : List (VariantLayout ℕ)) (from : ℕ) (numbers : List ℕ) → VariantsCoverable dl all variants →
-        ArmsCover (arms_at whole mark from layouts numbers variants)
-    arms_cover all variants [] from numbers h = tt
-    arms_cover all variants (l ∷ layouts) from [] h = tt
-    arms_cover all [] (l ∷ layouts) from (n ∷ numbers) h = tt
-    arms_cover no_variants (ps ∷ variants) (l ∷ layouts) from (n ∷ numbers) h = absurd h
-    arms_cover (more_variants d ts others) (ps ∷ variants) (l ∷ layouts) from (n ∷ numbers) h = (fields_cover ts l.field_offsets ps h.0, arms_cover others variants layouts (from + 1) numbers h.1)
+    tagged_variants_cover : (all : Variants) (variants : List (List Placed)) (layouts : List (VariantLayout ℕ)) (from : ℕ) (numbers : List ℕ) → VariantsCoverable dl all variants →
+        TaggedVariantsCover (tagged_variants_at whole mark from layouts numbers variants)
+    tagged_variants_cover all variants [] from numbers h = tt
+    tagged_variants_cover all variants (l ∷ layouts) from [] h = tt
+    tagged_variants_cover all [] (l ∷ layouts) from (n ∷ numbers) h = tt
+    tagged_variants_cover no_variants (ps ∷ variants) (l ∷ layouts) from (n ∷ numbers) h = absurd h
+    tagged_variants_cover (more_variants d ts others) (ps ∷ variants) (l ∷ layouts) from (n ∷ numbers) h = (fields_cover ts l.field_offsets ps h.0, tagged_variants_cover others variants layouts (from + 1) numbers h.1)
 
-    arms_count : (variants : List (List Placed)) (layouts : List (VariantLayout ℕ)) (from : ℕ) (numbers : List ℕ) → EachApart size variants layouts → length numbers ≡ length variants →
-        arm_count (arms_at whole mark from layouts numbers variants) ≡ length variants
-    arms_count [] [] from numbers apart long = refl
-    arms_count [] (l ∷ layouts) from numbers apart long = absurd apart
-    arms_count (ps ∷ variants) [] from numbers apart long = absurd apart
-    arms_count (ps ∷ variants) (l ∷ layouts) from [] apart long = absurd (omega (arith, long))
-    arms_count (ps ∷ variants) (l ∷ layouts) from (n ∷ numbers) apart long = let rest = arms_count variants layouts (from + 1) numbers apart.1 (omega (arith, long)) in omega (arith, rest)
+    tagged_variants_count : (variants : List (List Placed)) (layouts : List (VariantLayout ℕ)) (from : ℕ) (numbers : List ℕ) → EachApart size variants layouts → length numbers ≡ length variants →
+        tagged_variant_count (tagged_variants_at whole mark from layouts numbers variants) ≡ length variants
+    tagged_variants_count [] [] from numbers apart long = refl
+    tagged_variants_count [] (l ∷ layouts) from numbers apart long = absurd apart
+    tagged_variants_count (ps ∷ variants) [] from numbers apart long = absurd apart
+    tagged_variants_count (ps ∷ variants) (l ∷ layouts) from [] apart long = absurd (omega (arith, long))
+    tagged_variants_count (ps ∷ variants) (l ∷ layouts) from (n ∷ numbers) apart long = let rest = tagged_variants_count variants layouts (from + 1) numbers apart.1 (omega (arith, long)) in omega (arith, rest)
 
--- the arm that is chosen is one of those that are there
-with_below : (arms : Arms) (k from otherwise bound : ℕ) → otherwise < bound → from + arm_count arms ≤ bound → first_with arms k from otherwise < bound
-with_below no_arms k from otherwise bound other fits = other
-with_below (arm code layout mark parts arms) k from otherwise bound other fits = either (is_place_of_part parts k) (omega (arith, fits)) (with_below arms k (from + 1) otherwise bound other (omega (arith, fits)))
+-- the tagged variant that is chosen is one of those that are there
+with_below : (tagged_variants : TaggedVariants) (k from otherwise bound : ℕ) → otherwise < bound → from + tagged_variant_count tagged_variants ≤ bound → first_with tagged_variants k from otherwise < bound
+with_below no_tagged_variants k from otherwise bound other fits = other
+with_below (tagged_variant code layout mark parts tagged_variants) k from otherwise bound other fits = either (is_place_of_part parts k) (omega (arith, fits)) (with_below tagged_variants k (from + 1) otherwise bound other (omega (arith, fits)))
   where
-    either : (b : Bool) → from < bound → first_with arms k (from + 1) otherwise < bound → (if b then from else first_with arms k (from + 1) otherwise) < bound
+    either : (b : Bool) → from < bound → first_with tagged_variants k (from + 1) otherwise < bound → (if b then from else first_with tagged_variants k (from + 1) otherwise) < bound
     either true here later = here
     either false here later = later
 
-arm_below : (encoding : TagEncoding ℕ) (arms : Arms) (place : Option ℕ) (count : ℕ) → first_told encoding < count → arm_count arms ≡ count → arm_for encoding arms place < count
-arm_below encoding arms None count told same = told
-arm_below encoding arms (Some k) count told same = with_below arms k 0 (first_told encoding) count told (omega (arith, same))
+tagged_variant_below : (encoding : TagEncoding ℕ) (tagged_variants : TaggedVariants) (place : Option ℕ) (count : ℕ) → first_tagged encoding < count → tagged_variant_count tagged_variants ≡ count → tagged_variant_for encoding tagged_variants place < count
+tagged_variant_below encoding tagged_variants None count tag_distinguishes same = tag_distinguishes
+tagged_variant_below encoding tagged_variants (Some k) count tag_distinguishes same = with_below tagged_variants k 0 (first_tagged encoding) count tag_distinguishes (omega (arith, same))
 
 -- the first variant that is told is one of two or more, or has a number of its own directly
-told_below : (encoding : TagEncoding ℕ) (count : ℕ) (tag : Scalar) (field : ℕ) (layouts : List (VariantLayout ℕ)) → 0 < count → HasOwnNumber count (Multiple tag encoding field layouts) → first_told encoding < count
+told_below : (encoding : TagEncoding ℕ) (count : ℕ) (tag : Scalar) (field : ℕ) (layouts : List (VariantLayout ℕ)) → 0 < count → HasOwnNumber count (Multiple tag encoding field layouts) → first_tagged encoding < count
 told_below Direct count tag field layouts some own = some
 told_below (Niche untagged span start) count tag field layouts some own = by (untagged == 0) refl
   where
@@ -216,19 +216,19 @@ module _ (dl : TargetDataLayout) (law : IsLawfulDataLayout dl) where
     whole : All (All (IsWhole dl)) variants
     whole = variants_whole dl law all variants there
 
-    -- what tells that there is a value
+    -- what says that there is a value
     abbrev Facts : Layout → LayoutVariants ℕ ℕ → Type 0
     Facts l Empty = l.uninhabited ≡ true
     Facts l (Single i) = ⊤
     Facts l (Multiple tag encoding field layouts) = (0 < length variants) × HasOwnNumber (length variants) (Multiple tag encoding field layouts)
 
-    facts_by : (path : Path) → path_of true repr (layouts_of variants) ≡ path → (l : Layout)
-        → Answers dl law repr (discriminants_of all) variants none long whole path (Ok l) → Facts l l.variants
+    facts_by : (strategy : EnumStrategy) → strategy_of true repr (layouts_of variants) ≡ strategy → (l : Layout)
+        → Answers dl law repr (discriminants_of all) variants none long whole strategy (Ok l) → Facts l l.variants
     facts_by NoValue way l h = let same : never_layout dl ≡ l = cc in subst (λ (m : Layout). Facts m m.variants) same refl
     facts_by (OneList i) way l h = subst (λ (m : Layout). Facts m m.variants) (sym h.2) tt
     facts_by Several way l h =
         let some = several_some layout_of repr variants true way in
-        by_arms dl law repr (discriminants_of all) variants none long whole (λ vs. HasOwnNumber (length variants) vs → Facts l vs) l way h (λ tag encoding field layouts apart own. (some, own))
+        by_tagged_variants dl law repr (discriminants_of all) variants none long whole (λ vs. HasOwnNumber (length variants) vs → Facts l vs) l way h (λ tag encoding field layouts apart own. (some, own))
         (enum_span layout_of dl law repr (IsTagIntegerAnswer dl repr) variants (numbered_from 0 (discriminants_of all))
         (aligns_of dl law repr (discriminants_of all) variants none long) (each_lawful dl variants whole) some
         (each_of dl law repr (discriminants_of all) variants none long) (tags_of dl law repr (discriminants_of all) variants none long) l h)
@@ -243,20 +243,20 @@ module _ (dl : TargetDataLayout) (law : IsLawfulDataLayout dl) where
     }
     enum_as l (Multiple tag encoding field layouts) shaped facts flag own =
         let mark : Mark = mark_of true repr in
-        let arms : Arms = arms_at l mark 0 layouts (discriminants_of all) variants in
-        let told = told_below encoding (length variants) tag field layouts facts.0 facts.1 in
+        let tagged_variants : TaggedVariants = tagged_variants_at l mark 0 layouts (discriminants_of all) variants in
+        let tag_distinguishes = told_below encoding (length variants) tag field layouts facts.0 facts.1 in
         record {
           value = λ place.
-              arms_values dl l mark l.size all variants layouts 0 (discriminants_of all) (arm_for encoding arms place) place shaped.0 long
-              (arm_below encoding arms place (length variants) told (arms_count dl l mark l.size variants layouts 0 (discriminants_of all) shaped.0 long)) own;
-          covers = covers_tagged l mark (tag_offset l) (one_scalar dl tag) encoding arms (arms_cover dl l mark l.size all variants layouts 0 (discriminants_of all) own);
+              tagged_variants_values dl l mark l.size all variants layouts 0 (discriminants_of all) (tagged_variant_for encoding tagged_variants place) place shaped.0 long
+              (tagged_variant_below encoding tagged_variants place (length variants) tag_distinguishes (tagged_variants_count dl l mark l.size variants layouts 0 (discriminants_of all) shaped.0 long)) own;
+          covers = covers_tagged l mark (tag_offset l) (one_scalar dl tag) encoding tagged_variants (tagged_variants_cover dl l mark l.size all variants layouts 0 (discriminants_of all) own);
           locals = variant_locals dl all variants own;
         }
 
     enum_coverable : (l : Layout) → IsEnumed dl repr (discriminants_of all) variants (Ok l) → l.uninhabited ≡ false → VariantsCoverable dl all variants →
         IsCoverable dl (enum repr all) (placed_enum dl repr (discriminants_of all) variants l)
     enum_coverable l h flag own =
-        enum_as l l.variants (enumed_shaped dl law repr (discriminants_of all) variants none long whole l h) (facts_by (path_of true repr (layouts_of variants)) refl l h) flag own
+        enum_as l l.variants (enumed_shaped dl law repr (discriminants_of all) variants none long whole l h) (facts_by (strategy_of true repr (layouts_of variants)) refl l h) flag own
 
   -- ---- coroutines
 
@@ -287,25 +287,25 @@ module _ (dl : TargetDataLayout) (law : IsLawfulDataLayout dl) where
         let rest : fields_of parts ≡ map (placed_in ps) ks = cc in
         (subst Covers first (local_at ts ps k own (All-head (λ k. k < length ps) k ks known)).1, state_cover ks parts (All-tail (λ k. k < length ps) k ks known) rest)
 
-    states_values : (states : List (List ℕ)) (arms : Arms) (i : ℕ) (place : Option ℕ) → All (All (λ k. k < length ps)) states → HaveLocals ps states arms → i < length states →
-        EachAt (IsValueAt dl ts) (get_or states i []) (parts_of_arm arms i) (arm_values arms i place)
-    states_values [] arms i place known held lt = absurd (omega (arith, lt))
-    states_values (s ∷ states) no_arms i place known held lt = absurd held
-    states_values (s ∷ states) (arm code layout mark parts arms) zero place known held lt = state_values s parts place (All-head (All (λ k. k < length ps)) s states known) held.0
-    states_values (s ∷ states) (arm code layout mark parts arms) (suc i) place known held lt =
-        states_values states arms i place (All-tail (All (λ k. k < length ps)) s states known) held.1 (omega (arith, lt))
+    states_values : (states : List (List ℕ)) (tagged_variants : TaggedVariants) (i : ℕ) (place : Option ℕ) → All (All (λ k. k < length ps)) states → HaveLocals ps states tagged_variants → i < length states →
+        EachAt (IsValueAt dl ts) (get_or states i []) (parts_of_tagged_variant tagged_variants i) (tagged_variant_values tagged_variants i place)
+    states_values [] tagged_variants i place known held lt = absurd (omega (arith, lt))
+    states_values (s ∷ states) no_tagged_variants i place known held lt = absurd held
+    states_values (s ∷ states) (tagged_variant code layout mark parts tagged_variants) zero place known held lt = state_values s parts place (All-head (All (λ k. k < length ps)) s states known) held.0
+    states_values (s ∷ states) (tagged_variant code layout mark parts tagged_variants) (suc i) place known held lt =
+        states_values states tagged_variants i place (All-tail (All (λ k. k < length ps)) s states known) held.1 (omega (arith, lt))
 
-    states_cover : (states : List (List ℕ)) (arms : Arms) → All (All (λ k. k < length ps)) states → HaveLocals ps states arms → ArmsCover arms
-    states_cover states no_arms known held = tt
-    states_cover [] (arm code layout mark parts arms) known held = absurd held
-    states_cover (s ∷ states) (arm code layout mark parts arms) known held =
-        (state_cover s parts (All-head (All (λ k. k < length ps)) s states known) held.0, states_cover states arms (All-tail (All (λ k. k < length ps)) s states known) held.1)
+    states_cover : (states : List (List ℕ)) (tagged_variants : TaggedVariants) → All (All (λ k. k < length ps)) states → HaveLocals ps states tagged_variants → TaggedVariantsCover tagged_variants
+    states_cover states no_tagged_variants known held = tt
+    states_cover [] (tagged_variant code layout mark parts tagged_variants) known held = absurd held
+    states_cover (s ∷ states) (tagged_variant code layout mark parts tagged_variants) known held =
+        (state_cover s parts (All-head (All (λ k. k < length ps)) s states known) held.0, states_cover states tagged_variants (All-tail (All (λ k. k < length ps)) s states known) held.1)
 
-    states_count : (states : List (List ℕ)) (arms : Arms) → HaveLocals ps states arms → arm_count arms ≡ length states
-    states_count [] no_arms held = refl
-    states_count [] (arm code layout mark parts arms) held = absurd held
-    states_count (s ∷ states) no_arms held = absurd held
-    states_count (s ∷ states) (arm code layout mark parts arms) held = let rest = states_count states arms held.1 in omega (arith, rest)
+    states_count : (states : List (List ℕ)) (tagged_variants : TaggedVariants) → HaveLocals ps states tagged_variants → tagged_variant_count tagged_variants ≡ length states
+    states_count [] no_tagged_variants held = refl
+    states_count [] (tagged_variant code layout mark parts tagged_variants) held = absurd held
+    states_count (s ∷ states) no_tagged_variants held = absurd held
+    states_count (s ∷ states) (tagged_variant code layout mark parts tagged_variants) held = let rest = states_count states tagged_variants held.1 in omega (arith, rest)
 
   -- ---- each kind
 
@@ -379,17 +379,17 @@ module _ (dl : TargetDataLayout) (law : IsLawfulDataLayout dl) where
       let count = stated_offsets dl law pres ps states conflicts before there none tag tells layout stated in
       let held = coroutine_has dl law pres ps states conflicts before there tag tells layout stated in
       let known = states_within (length pres) (length ps) states conflicts none in
-      let arms : Arms = arms_at layout Plain 0 (layouts_in layout.variants) (source_order (length states)) (map (map (placed_in ps)) states) in
+      let tagged_variants : TaggedVariants = tagged_variants_at layout Plain 0 (layouts_in layout.variants) (source_order (length states)) (map (map (placed_in ps)) states) in
       let os : List ℕ = listed_offsets layout.fields in
-      let below : (place : Option ℕ) → arm_for Direct arms place < length states =
-      λ place. arm_below Direct arms place (length states) (some_state (length pres) (length ps) states conflicts none) (states_count locals ps own_locals states arms held) in
+      let below : (place : Option ℕ) → tagged_variant_for Direct tagged_variants place < length states =
+      λ place. tagged_variant_below Direct tagged_variants place (length states) (some_state (length pres) (length ps) states conflicts none) (states_count locals ps own_locals states tagged_variants held) in
       record {
         value = λ place. (
           fields_values dl prefix os pres place (omega (arith, count)) own_prefix,
           below place,
-          states_values locals ps own_locals states arms (arm_for Direct arms place) place known held (below place),
+          states_values locals ps own_locals states tagged_variants (tagged_variant_for Direct tagged_variants place) place known held (below place),
         );
-        covers = covers_states layout (parts_at os pres) (state_tag_offset layout (length pres)) (one_scalar dl tag) arms (fields_cover dl prefix os pres own_prefix) (states_cover locals ps own_locals states arms known held);
+        covers = covers_states layout (parts_at os pres) (state_tag_offset layout (length pres)) (one_scalar dl tag) tagged_variants (fields_cover dl prefix os pres own_prefix) (states_cover locals ps own_locals states tagged_variants known held);
         locals = (each_local dl prefix pres own_prefix, each_local dl locals ps own_locals, have_values dl locals ps own_locals);
       }
 
@@ -420,8 +420,8 @@ module _ (dl : TargetDataLayout) (law : IsLawfulDataLayout dl) where
         subst (IsCoverable dl (struct repr always_sized None all)) found.2 (fields_coverable repr always_sized None all ps found.0 count (are_coverable all ps there some.0))
     coverable (struct repr always_sized (Some order) all) p (inr (ps, there, answer)) some =
         let kind = kind_of always_sized ps in
-        let found = laid_by (ordered_fault repr ps) (IsListedInOrder dl (randomized repr) kind order (map layout_of ps)) (placed_fields repr ps) p answer in
-        let count = ordered_count dl (randomized repr) kind order ps found.0 found.1 in
+        let found = laid_by (ordered_fault repr ps) (IsListedInOrder dl (with_randomize_flag repr) kind order (map layout_of ps)) (placed_fields repr ps) p answer in
+        let count = ordered_count dl (with_randomize_flag repr) kind order ps found.0 found.1 in
         subst (IsCoverable dl (struct repr always_sized (Some order) all)) found.2 (fields_coverable repr always_sized (Some order) all ps found.0 count (are_coverable all ps there some.0))
     coverable (union repr all) p (inl f) some = absurd (cc f.2)
     coverable (union repr all) p (inr (ps, there, answer)) some =

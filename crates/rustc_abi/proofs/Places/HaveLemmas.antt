@@ -14,10 +14,10 @@ use Rattle.abi_scalar.specs.Pair.{pair_size}
 use Rattle.abi_scalar.specs.Simple.{unit_layout}
 use Rattle.abi_univariant.specs.Array.{elements_layout}
 use Rattle.abi_univariant.specs.Simd.{simd_answer}
-use Rattle.abi_calc.specs.declared.enums.path.Path.{Path}
-use Rattle.abi_calc.specs.declared.enums.path.Path.TheVariants.{NoValue, OneList, Several}
+use Rattle.abi_calc.specs.declared.enums.strategy.EnumStrategy.{EnumStrategy}
+use Rattle.abi_calc.specs.declared.enums.strategy.EnumStrategy.TheVariants.{NoValue, OneList, Several}
 use Rattle.abi_calc.specs.Enums.Answer.{IsTypeAnswer}
-use Rattle.abi_calc.specs.Enums.Path.{has_no_value, path_of, variant_at}
+use Rattle.abi_calc.specs.Enums.EnumStrategy.{has_no_value, strategy_of, variant_at}
 use Rattle.abi_calc.proofs.EnumLemmas.Deep.{enum_flag}
 use Rattle.abi_tree.specs.declared.mark.Mark.TheVariants.{Unit}
 use Rattle.abi_tree.specs.Tree.{Tree, scalar, pair, never, unit, array, vector, struct, union, enum, coroutine, Trees, no_trees, more_trees, Variants, no_variants, more_variants}
@@ -28,7 +28,7 @@ use Rattle.abi_tree.specs.Values.{HasValue, IsValueOf}
 use Rattle.rustc_abi.specs.Enums.{IsEnumed, IsTagIntegerAnswer, discriminants_of, layouts_of, numbered_from}
 use Rattle.rustc_abi.specs.Error.{named}
 use Rattle.rustc_abi.specs.Inhabited.{AreInhabited, EachHasValue, EachInhabited, HaveValuesEach, VariantsHaveValues, VariantsInhabited}
-use Rattle.rustc_abi.specs.Laying.{AreLaying, IsLaying, IsLaidList, IsListedInOrder, IsUnited, VariantsLaying, coroutine_fault, enum_fault, fields_fault, kind_of, lanes_of, one_scalar, ordered_fault, pair_answer, placed_enum, placed_fields, placed_together, randomized, scalar_answer, two_scalars, unless}
+use Rattle.rustc_abi.specs.Laying.{AreLaying, IsLaying, IsLaidList, IsListedInOrder, IsUnited, VariantsLaying, coroutine_fault, enum_fault, fields_fault, kind_of, lanes_of, one_scalar, ordered_fault, pair_answer, placed_enum, placed_fields, placed_together, with_randomize_flag, scalar_answer, two_scalars, unless}
 use Rattle.rustc_abi.specs.ScalarFault.{scalar_fault}
 use Rattle.rustc_abi.specs.declared.error.LayError.TheVariants.{SizeOverflow}
 use Rattle.rustc_abi.proofs.Coroutines.AddedCoroutineLemmas.{coroutine_flag}
@@ -100,11 +100,11 @@ module _ (dl : TargetDataLayout) (law : IsLawfulDataLayout dl) where
 
   module _ (repr : ReprOptions) (numbers : List ℕ) (variants : List (List Placed)) (none : enum_fault dl repr numbers variants ≡ None)
       (long : length numbers ≡ length variants) (whole : All (All (IsWhole dl)) variants) (some : 0 < length variants) (own : All (All IsClear) variants) where
-    abbrev Answers : Path → Layout → Type 0
-    Answers path l =
-        IsTypeAnswer layout_of (λ i. i) (λ i. i) (λ i. i) (λ i. i) dl repr variants true true Enabled (IsTagIntegerAnswer dl repr) (λ items. items ≡ numbered_from 0 numbers) path (Ok l)
+    abbrev Answers : EnumStrategy → Layout → Type 0
+    Answers strategy l =
+        IsTypeAnswer layout_of (λ i. i) (λ i. i) (λ i. i) (λ i. i) dl repr variants true true Enabled (IsTagIntegerAnswer dl repr) (λ items. items ≡ numbered_from 0 numbers) strategy (Ok l)
 
-    clear_by : (path : Path) → path_of true repr (layouts_of variants) ≡ path → (l : Layout) → Answers path l → l.uninhabited ≡ false
+    clear_by : (strategy : EnumStrategy) → strategy_of true repr (layouts_of variants) ≡ strategy → (l : Layout) → Answers strategy l → l.uninhabited ≡ false
     clear_by NoValue way l h =
         let first = all_absent repr (layouts_of variants) way 0 (omega (arith, some, length-map variants (map layout_of))) in
         absurd (true≢false (sym first ∙ first_clear variants some own))
@@ -120,7 +120,7 @@ module _ (dl : TargetDataLayout) (law : IsLawfulDataLayout dl) where
         ∙ some_clear variants some own
 
     enum_clear : (l : Layout) → IsEnumed dl repr numbers variants (Ok l) → IsClear (placed_enum dl repr numbers variants l)
-    enum_clear l h = ap (λ (m : Layout). m.uninhabited) (layout_of-variants dl repr numbers variants l l.variants) ∙ clear_by (path_of true repr (layouts_of variants)) refl l h
+    enum_clear l h = ap (λ (m : Layout). m.uninhabited) (layout_of-variants dl repr numbers variants l l.variants) ∙ clear_by (strategy_of true repr (layouts_of variants)) refl l h
 
   -- ---- each type
 
@@ -155,7 +155,7 @@ module _ (dl : TargetDataLayout) (law : IsLawfulDataLayout dl) where
     each_inhabited (struct repr always_sized (Some order) all) p (inr (ps, there, answer)) have =
         let own = are_inhabited all ps there have.0 in
         let kind = kind_of always_sized ps in
-        let found = laid_by (ordered_fault repr ps) (IsListedInOrder dl (randomized repr) kind order (map layout_of ps)) (placed_fields repr ps) p answer in
+        let found = laid_by (ordered_fault repr ps) (IsListedInOrder dl (with_randomize_flag repr) kind order (map layout_of ps)) (placed_fields repr ps) p answer in
         let clear : IsClear p = subst IsClear found.2 (found.1.1.uninhabited ∙ none_of ps own.1) in
         ((own.0, (p, inr (ps, there, answer), clear)), clear)
     each_inhabited (union repr all) p (inl f) have = absurd (cc f.2)

@@ -28,28 +28,28 @@ use Rattle.abi_scalar.specs.Simple.{never_layout}
 use Rattle.abi_scalar.specs.Variant.{variant_of, variants_of}
 use Rattle.abi_univariant.specs.Apart.{AreApart}
 use Rattle.abi_univariant.specs.Fields.{greatest_size}
-use Rattle.abi_univariant.specs.List.{HasLawfulAligns, IsListAnswer}
+use Rattle.abi_univariant.specs.List.{HasLawfulAligns, IsUnivariantAnswer}
 use Rattle.abi_univariant.specs.Part.{parts_of}
-use Rattle.abi_univariant.specs.Placement.{IsLawfulPrefix, IsSized, align_of, cut, end_from, in_order, list_repr, start_of}
+use Rattle.abi_univariant.specs.Placement.{IsWellFormedPrefix, IsSized, align_of, cut, end_from, in_order, fields_repr, start_of}
 use Rattle.abi_univariant.proofs.Offsets.Ends.{end_from-above}
 use Rattle.abi_univariant.proofs.Offsets.Rounding.{rounded_to}
 use Rattle.abi_calc.specs.declared.enums.niche.Room.{Room}
-use Rattle.abi_calc.specs.declared.enums.path.Path.{Path}
-use Rattle.abi_calc.specs.declared.enums.path.Path.TheVariants.{NoValue, OneList, Several}
+use Rattle.abi_calc.specs.declared.enums.strategy.EnumStrategy.{EnumStrategy}
+use Rattle.abi_calc.specs.declared.enums.strategy.EnumStrategy.TheVariants.{NoValue, OneList, Several}
 use Rattle.abi_calc.specs.Coroutine.Layout.{IsStateTag, whole_size}
 use Rattle.abi_index.specs.BitSet.{is_member, members_of}
-use Rattle.abi_calc.specs.Coroutine.Lists.{AreOwnLists, behind, default_repr, first_list, own_list, picked}
+use Rattle.abi_calc.specs.Coroutine.Lists.{AreOwnLists, state_list_kind, default_repr, first_list, own_list, picked}
 use Rattle.abi_calc.specs.Coroutine.Promotion.{promoted_of}
 use Rattle.abi_calc.specs.Coroutine.Sizes.{own_lists}
 use Rattle.abi_calc.specs.Coroutine.States.{state_layout, state_layouts, state_offsets}
 use Rattle.abi_calc.specs.Enums.Answer.{IsTypeAnswer}
-use Rattle.abi_calc.specs.Enums.Choice.{IsNicheAnswer, better, takes_niche}
-use Rattle.abi_calc.specs.Enums.Discriminants.{counting_of}
+use Rattle.abi_calc.specs.Enums.Choice.{IsNicheAnswer, preferred_layout, takes_niche}
+use Rattle.abi_calc.specs.Enums.Discriminants.{counted_discriminants}
 use Rattle.abi_calc.specs.Enums.Growth.{grown_tag, grown_variant, moved, start_align}
 use Rattle.abi_calc.specs.Enums.Lists.{AreGoodLists, AreListLayouts, IsGoodList, behind_tag}
 use Rattle.abi_calc.specs.Enums.Niche.{beside_niche, moved_on, niche_layout, place_after, room_beside, untagged_of, variants_from, with_first, without_niche}
-use Rattle.abi_calc.specs.Enums.Path.{path_of}
-use Rattle.abi_calc.specs.Enums.Payload.{is_memory, is_of_scalars, seen_as, tagged_view}
+use Rattle.abi_calc.specs.Enums.EnumStrategy.{strategy_of}
+use Rattle.abi_calc.specs.Enums.Payload.{is_memory, is_of_scalars, variant_with_view, tagged_view}
 use Rattle.abi_calc.specs.Enums.Several.{IsAskedAnswer, IsSeveralAnswer, better_of}
 use Rattle.abi_calc.specs.Enums.Tagged.{IsTaggedAnswer, lists_align, lists_size, payloads_of}
 use Rattle.abi_calc.proofs.CoroutineLemmas.Promised.{first_lawful, own_all}
@@ -134,7 +134,7 @@ abbrev ByField : Layout → List Placed → Type 0
 ByField list fields = list.uninhabited ≡ true → list_any (λ l. l.uninhabited) (map layout_of fields) ≡ true
 
 -- however the variant is seen
-seen_inside : (view : BackendRepr) (whole : ℕ) (fields : List Placed) (layout : VariantLayout ℕ) → IsInside whole fields layout → IsInside whole fields (seen_as view whole layout)
+seen_inside : (view : BackendRepr) (whole : ℕ) (fields : List Placed) (layout : VariantLayout ℕ) → IsInside whole fields layout → IsInside whole fields (variant_with_view view whole layout)
 seen_inside view whole fields layout h = by (is_of_scalars view && is_memory layout.backend_repr && nat_lt 0 (length layout.field_offsets))
   where
     by : (b : Bool) → IsInside whole fields (if b then (record layout { backend_repr = view; size = max layout.size whole }) else layout)
@@ -193,7 +193,7 @@ module _ (dl : TargetDataLayout) (repr : ReprOptions) (kind : StructKind) where
 
   -- variants beside a tag, which leaves their fields clear where it has grown
   grown_variants : (view : BackendRepr) (old new whole : ℕ) (variants : List (List Placed)) (lists : List Layout) → Good variants lists → (old < new → AreClearAmong layout_of old new variants lists)
-      → new ≤ whole → greatest_size lists ≤ whole → VariantsInside whole (map (λ list. seen_as view whole (grown_variant old new (variant_of list))) lists) variants
+      → new ≤ whole → greatest_size lists ≤ whole → VariantsInside whole (map (λ list. variant_with_view view whole (grown_variant old new (variant_of list))) lists) variants
   grown_variants view old new whole [] [] good clear fits more = tt
   grown_variants view old new whole [] (list ∷ lists) good clear fits more = absurd good
   grown_variants view old new whole (fields ∷ variants) [] good clear fits more = absurd good
@@ -223,7 +223,7 @@ module _ (dl : TargetDataLayout) (law : IsLawfulDataLayout dl) (repr : ReprOptio
   IsEnumInside l = (field_count l.fields ≡ 1) × VariantsInside l.size (variants_of l.variants) variants
 
   -- the lists that the rules give the variants are good
-  good_kind : (kind : StructKind) (lists : List Layout) → IsLawfulPrefix kind (size_bound dl) → IsSized kind → AreListLayouts layout_of (λ i. i) 0 dl repr kind variants lists
+  good_kind : (kind : StructKind) (lists : List Layout) → IsWellFormedPrefix kind (size_bound dl) → IsSized kind → AreListLayouts layout_of (λ i. i) 0 dl repr kind variants lists
       → AreGoodLists layout_of (λ i. i) 0 dl repr kind variants lists
   good_kind kind lists prefix sized h = good_lists layout_of (λ i. i) 0 dl repr kind variants lists law lawful (aligns_of dl law repr numbers variants none long) prefix sized h
 
@@ -264,7 +264,7 @@ module _ (dl : TargetDataLayout) (law : IsLawfulDataLayout dl) (repr : ReprOptio
   found_niche l (inr (inr h)) = with_niche l h.1 h.2 (sym h.3)
 
   -- the better one of both
-  better_inside : (tagged : Layout) (found : Option Layout) → IsNiche found → IsEnumInside tagged → IsEnumInside (better dl tagged found)
+  better_inside : (tagged : Layout) (found : Option Layout) → IsNiche found → IsEnumInside tagged → IsEnumInside (preferred_layout dl tagged found)
   better_inside tagged None niche inside = inside
   better_inside tagged (Some l) niche inside = by_both IsEnumInside (takes_niche dl tagged l) l tagged (λ takes. found_niche l niche) (λ leaves. inside)
 
@@ -272,7 +272,7 @@ module _ (dl : TargetDataLayout) (law : IsLawfulDataLayout dl) (repr : ReprOptio
   chosen_inside : (values : List ℕ) (l : Layout) (found : Option Layout) (r : Result Layout (LayoutCalculatorError Placed)) → repr.pack ≡ None → 0 < length variants → IsNiche found
       → IsAskedAnswer layout_of (λ i. i) (λ i. i) 0 dl repr (IsTagIntegerAnswer dl repr) values variants r → Ok l ≡ better_of dl r found → IsEnumInside l
   chosen_inside values l found (Ok tagged) unpacked some niche (asked, signed, is, h) e =
-      let same : better dl tagged found ≡ l = cc in
+      let same : preferred_layout dl tagged found ≡ l = cc in
       subst IsEnumInside same (better_inside tagged found niche (with_tag asked signed values tagged unpacked some h))
   chosen_inside values l found (Err error) unpacked some niche h e = absurd (cc)
 
@@ -283,31 +283,31 @@ module _ (dl : TargetDataLayout) (law : IsLawfulDataLayout dl) (repr : ReprOptio
   several_inside gives l some (inr (inl want)) = absurd (cc want.1)
   several_inside gives l some (inr (inr (unpacked, items, given, inl want))) = absurd (cc)
   several_inside gives l some (inr (inr (unpacked, items, given, inr (found, niche, tagged, asked, e)))) =
-      chosen_inside (counting_of (λ i. i) repr (layouts_of variants) items) l found tagged unpacked some niche asked e
+      chosen_inside (counted_discriminants (λ i. i) repr (layouts_of variants) items) l found tagged unpacked some niche asked e
 
-  -- no tag tells variants apart in a type without values, or in one that is the list of one variant
-  by_path : (path : Path) → path_of true repr (layouts_of variants) ≡ path → (l : Layout)
-      → IsTypeAnswer layout_of (λ i. i) (λ i. i) (λ i. i) (λ i. i) dl repr variants true true Enabled (IsTagIntegerAnswer dl repr) (λ items. items ≡ numbered_from 0 numbers) path (Ok l)
+  -- no tag distinguishes variants in a type without values, or in one that is the list of one variant
+  by_path : (strategy : EnumStrategy) → strategy_of true repr (layouts_of variants) ≡ strategy → (l : Layout)
+      → IsTypeAnswer layout_of (λ i. i) (λ i. i) (λ i. i) (λ i. i) dl repr variants true true Enabled (IsTagIntegerAnswer dl repr) (λ items. items ≡ numbered_from 0 numbers) strategy (Ok l)
       → (tag : Scalar) (encoding : TagEncoding ℕ) (field : ℕ) (layouts : List (VariantLayout ℕ)) → l.variants ≡ Multiple tag encoding field layouts → IsEnumInside l
-  by_path NoValue path l h tag encoding field layouts told =
+  by_path NoValue strategy l h tag encoding field layouts tag_distinguishes =
       let same : never_layout dl ≡ l = cc in
-      let never : Empty ≡ Multiple tag encoding field layouts = ap (λ (m : Layout). m.variants) same ∙ told in
+      let never : Empty ≡ Multiple tag encoding field layouts = ap (λ (m : Layout). m.variants) same ∙ tag_distinguishes in
       absurd (cc never)
-  by_path (OneList i) path l h tag encoding field layouts told =
-      let never : Single i ≡ Multiple tag encoding field layouts = ap (λ (m : Layout). m.variants) (sym h.2) ∙ told in
+  by_path (OneList i) strategy l h tag encoding field layouts tag_distinguishes =
+      let never : Single i ≡ Multiple tag encoding field layouts = ap (λ (m : Layout). m.variants) (sym h.2) ∙ tag_distinguishes in
       absurd (cc never)
-  by_path Several path l h tag encoding field layouts told = several_inside (λ items. items ≡ numbered_from 0 numbers) l (several_some layout_of repr variants true path) h
+  by_path Several strategy l h tag encoding field layouts tag_distinguishes = several_inside (λ items. items ≡ numbered_from 0 numbers) l (several_some layout_of repr variants true strategy) h
 
   module _ (layout : Layout) (enumed : IsEnumed dl repr numbers variants (Ok layout)) (tag : Scalar) (encoding : TagEncoding ℕ) (field : ℕ) (layouts : List (VariantLayout ℕ))
-      (told : layout.variants ≡ Multiple tag encoding field layouts) where
-    -- where a tag or a niche tells the variants apart, each ends inside the enum, and has its fields inside itself
+      (tag_distinguishes : layout.variants ≡ Multiple tag encoding field layouts) where
+    -- where a tag or a niche distinguishes the variants, each ends inside the enum, and has its fields inside itself
     pub inside_enum : VariantsInside layout.size layouts variants
     inside_enum =
-        subst (λ vs. VariantsInside layout.size vs variants) (ap variants_of told) (by_path (path_of true repr (layouts_of variants)) refl layout enumed tag encoding field layouts told).1
+        subst (λ vs. VariantsInside layout.size vs variants) (ap variants_of tag_distinguishes) (by_path (strategy_of true repr (layouts_of variants)) refl layout enumed tag encoding field layouts tag_distinguishes).1
 
     -- and the tag is the enum's one field
     pub enum_field_count : field_count layout.fields ≡ 1
-    enum_field_count = (by_path (path_of true repr (layouts_of variants)) refl layout enumed tag encoding field layouts told).0
+    enum_field_count = (by_path (strategy_of true repr (layouts_of variants)) refl layout enumed tag encoding field layouts tag_distinguishes).0
 
 -- ---- a coroutine
 
@@ -318,7 +318,7 @@ behind_fits dl repr size align fields list good =
     let parts = in_order (parts_of dl (map layout_of fields)) good.placed.0 in
     let begins = (rounded_to size (cut repr.pack align)).above in
     let ends = end_from-above repr.pack start parts in
-    let rounded = (rounded_to (end_from repr.pack start parts) (align_of (list_repr dl repr (Prefixed size align)) (parts_of dl (map layout_of fields)))).above in
+    let rounded = (rounded_to (end_from repr.pack start parts) (align_of (fields_repr dl repr (Prefixed size align)) (parts_of dl (map layout_of fields)))).above in
     omega (arith, begins, ends, rounded, good.placed.2.extent)
 
 module _ (dl : TargetDataLayout) (law : IsLawfulDataLayout dl) (pres ps : List Placed) (states : List (List ℕ)) (conflicts : List (ℕ × ℕ)) (before : All (λ p. IsLawfulLayout dl (layout_of p)) pres) (there : All (λ p. IsLawfulLayout dl (layout_of p)) ps)
@@ -341,23 +341,23 @@ module _ (dl : TargetDataLayout) (law : IsLawfulDataLayout dl) (pres ps : List P
 
   -- so are those of these states behind it
   abbrev AreGoodOwn : Layout → List (List ℕ) → List Layout → Type 0
-  AreGoodOwn first held lists = AreGoodLists layout_of (λ i. i) 0 dl default_repr (behind first) (own_lists ps promoted held) lists
+  AreGoodOwn first held lists = AreGoodLists layout_of (λ i. i) 0 dl default_repr (state_list_kind first) (own_lists ps promoted held) lists
 
   -- both are where the rules give them
-  good_first : (first : Layout) → IsListAnswer layout_of (λ i. i) 0 dl default_repr AlwaysSized (first_list pres (one_scalar dl tag) ps promoted) (Ok first) → IsGoodFirst first
+  good_first : (first : Layout) → IsUnivariantAnswer layout_of (λ i. i) 0 dl default_repr AlwaysSized (first_list pres (one_scalar dl tag) ps promoted) (Ok first) → IsGoodFirst first
   good_first first h =
       good_list layout_of (λ i. i) 0 dl default_repr AlwaysSized (first_list pres (one_scalar dl tag) ps promoted) first law
       (first_lawful layout_of (λ i. i) (λ i. i) 0 dl pres tag (one_scalar dl tag) ps states promoted (coroutine_asked dl law pres ps states conflicts before there tag tells)) aligns tt tt h
 
-  good_own : (first : Layout) (lists : List Layout) → IsLawfulLayout dl first → AreOwnLists layout_of (λ i. i) 0 dl (behind first) ps promoted states lists → AreGoodOwn first states lists
+  good_own : (first : Layout) (lists : List Layout) → IsLawfulLayout dl first → AreOwnLists layout_of (λ i. i) 0 dl (state_list_kind first) ps promoted states lists → AreGoodOwn first states lists
   good_own first lists lawful h =
-      good_lists layout_of (λ i. i) 0 dl default_repr (behind first) (own_lists ps promoted states) lists law
+      good_lists layout_of (λ i. i) 0 dl default_repr (state_list_kind first) (own_lists ps promoted states) lists law
       (own_all (λ p. IsLawfulLayout dl (layout_of p)) ps promoted states there) aligns (lawful.bound, lawful.limit) tt
-      (lists_own layout_of dl (behind first) ps promoted states lists h)
+      (lists_own layout_of dl (state_list_kind first) ps promoted states lists h)
 
   -- one state: its promoted locals end inside the first list, and its own list is no smaller
   state_inside : (first : Layout) → IsGoodFirst first → (whole : ℕ) (state : List ℕ) (list : Layout) → list.size ≤ whole → All (λ l. l < length ps) state → AllPairs (λ a b. a ≢ b) state
-      → IsGoodList layout_of (λ i. i) 0 dl default_repr (behind first) (own_list ps promoted state) list
+      → IsGoodList layout_of (λ i. i) 0 dl default_repr (state_list_kind first) (own_list ps promoted state) list
       → IsInside whole (map (placed_in ps) state) (state_layout (λ i. i) (λ i. i) (length pres + 1) promoted first state list)
   state_inside first good whole state list less within once own =
       let shared : List ℕ = drop (length pres + 1) (listed_offsets first.fields) in

@@ -78,7 +78,7 @@ places_listed layout offsets order sizes shape apart few =
 
 -- ---- nodes
 
--- no tag tells variants apart
+-- no tag distinguishes variants
 pub plain_laws : (layout : Layout) (places : Bool) → places ≡ true → variants_of layout.variants ≡ [] → (places && ((length (variants_of layout.variants) == 0) && true)) ≡ true
 plain_laws layout places there none = both_true there (ap (λ vs. (length vs == 0) && true) none)
 
@@ -171,7 +171,7 @@ own_laws done parent own index l children ps is sizes inside few =
     (ap (λ (o : Layout). have_places o.size o.fields (sizes_at done children)) is ∙ both_true ends (le-leb (length l.field_offsets) 0xFFFF_FF01 (omega (arith, count, few))))
     (ap (λ (o : Layout). variants_of o.variants) is)
 
--- several variants, each with a node of the size that the layout tells
+-- several variants, each with a node of the size that the layout says
 pub several_laws : (done : List Placed) (layout : Layout) (places : Bool) (nodes : List ℕ) (variants : List (List Placed)) → places ≡ true →
     sizes_at done nodes ≡ map (λ l. l.size) (variants_of layout.variants) → have_lists done nodes ≡ true → VariantsInside layout.size (variants_of layout.variants) variants →
     (places && ((length (variants_of layout.variants) == length nodes) && (list_all (λ m. nat_le m layout.size) (sizes_at done nodes) && have_lists done nodes))) ≡ true

@@ -18,19 +18,19 @@ use Rattle.abi_univariant.specs.Array.{elements_layout}
 use Rattle.abi_tree.specs.declared.mark.Mark.{Mark}
 use Rattle.abi_tree.specs.declared.mark.Mark.TheVariants.{Plain}
 use Rattle.abi_tree.specs.Bytes.{bytes_at}
-use Rattle.abi_tree.specs.Covering.{are_covered, each_covered, is_arm_covered, is_byte_at, is_covered, is_told}
-use Rattle.abi_tree.specs.Holding.{HoldArm, HoldEach, HoldParts, Holds}
+use Rattle.abi_tree.specs.Covering.{are_covered, each_covered, is_tagged_variant_covered, is_byte_at, is_covered, is_tagged}
+use Rattle.abi_tree.specs.Holding.{HoldTaggedVariant, HoldEach, HoldParts, Holds}
 use Rattle.abi_tree.specs.Nodes.{parts_at, parts_at_0}
-use Rattle.abi_tree.specs.Placed.{Arms, Placed, arm, elements, fields, layout_of, never, no_arms, pair, parts_of_arm}
+use Rattle.abi_tree.specs.Placed.{TaggedVariants, Placed, tagged_variant, elements, fields, layout_of, never, no_tagged_variants, pair, parts_of_tagged_variant}
 use Rattle.abi_tree.specs.Placed.{single, size_of, states, tagged, union, vector}
-use Rattle.abi_tree.specs.Places.{is_data_place, is_place_of_arm, is_place_of_part}
+use Rattle.abi_tree.specs.Places.{is_data_place, is_place_of_tagged_variant, is_place_of_part}
 use Rattle.abi_tree.specs.Runs.{is_place_of_variant}
 use Rattle.abi_tree.specs.Tree.{Tree}
 use Rattle.abi_tree.specs.Unused.{IsOfVariant, KeepsToPlaces, is_left_unused}
 use Rattle.abi_types.specs.Ty.Runs.{IsVariantOfSeveral}
 use Rattle.abi_scalar.specs.declared.variants.Variants.TheVariants.{Multiple}
 use Rattle.abi_tree.specs.Value.{Value, Values, bytes, list, more_values, no_values, number, state, two, value_count, variant}
-use Rattle.rustc_abi.specs.Enums.{arms_at}
+use Rattle.rustc_abi.specs.Enums.{tagged_variants_at}
 use Rattle.rustc_abi.specs.Laying.{IsLaying, one_scalar}
 use Rattle.rustc_abi.proofs.Trees.KindsLemmas.{AreFields, IsKept, laid_kept}
 
@@ -98,45 +98,45 @@ module _ (order : Endian) where
       (or_cases (is_byte_at o n k && is_covered p v (k - o)) (each_covered (is_covered p) n (o + n) vs k) c)
 
   -- of the variant or state with this index
-  in_arm : (whole : Layout) (mark : Mark) (from : ℕ) (numbers : List ℕ) (layouts : List (VariantLayout ℕ))
+  in_tagged_variant : (whole : Layout) (mark : Mark) (from : ℕ) (numbers : List ℕ) (layouts : List (VariantLayout ℕ))
       (variants : List (List Placed)) → All (All InPlaces) variants → (b : List ℕ) (i : ℕ) (vs : Values)
-      → HoldArm order (arms_at whole mark from layouts numbers variants) i b vs → (k : ℕ)
-      → is_arm_covered (arms_at whole mark from layouts numbers variants) i vs k ≡ true
-      → is_place_of_part (parts_of_arm (arms_at whole mark from layouts numbers variants) i) k ≡ true
-  in_arm whole mark from numbers [] variants own b i vs held k c = absurd held
-  in_arm whole mark from [] (l ∷ layouts) variants own b i vs held k c = absurd held
-  in_arm whole mark from (n ∷ numbers) (l ∷ layouts) [] own b i vs held k c = absurd held
-  in_arm whole mark from (n ∷ numbers) (l ∷ layouts) (ps ∷ variants) own b zero vs held k c =
+      → HoldTaggedVariant order (tagged_variants_at whole mark from layouts numbers variants) i b vs → (k : ℕ)
+      → is_tagged_variant_covered (tagged_variants_at whole mark from layouts numbers variants) i vs k ≡ true
+      → is_place_of_part (parts_of_tagged_variant (tagged_variants_at whole mark from layouts numbers variants) i) k ≡ true
+  in_tagged_variant whole mark from numbers [] variants own b i vs held k c = absurd held
+  in_tagged_variant whole mark from [] (l ∷ layouts) variants own b i vs held k c = absurd held
+  in_tagged_variant whole mark from (n ∷ numbers) (l ∷ layouts) [] own b i vs held k c = absurd held
+  in_tagged_variant whole mark from (n ∷ numbers) (l ∷ layouts) (ps ∷ variants) own b zero vs held k c =
       in_parts l.field_offsets ps (All-head (All InPlaces) ps variants own) b vs held k c
-  in_arm whole mark from (n ∷ numbers) (l ∷ layouts) (ps ∷ variants) own b (suc i) vs held k c =
-      in_arm whole mark (from + 1) numbers layouts variants (All-tail (All InPlaces) ps variants own) b i vs held k c
+  in_tagged_variant whole mark from (n ∷ numbers) (l ∷ layouts) (ps ∷ variants) own b (suc i) vs held k c =
+      in_tagged_variant whole mark (from + 1) numbers layouts variants (All-tail (All InPlaces) ps variants own) b i vs held k c
 
-  -- a place of one arm is one of the arms
-  of_arms : (arms : Arms) (i k : ℕ) → is_place_of_part (parts_of_arm arms i) k ≡ true → is_place_of_arm arms k ≡ true
-  of_arms no_arms i k place = absurd (true≢false (sym place))
-  of_arms (arm code layout mark parts arms) zero k place =
-      or_left (is_place_of_part parts k) (is_place_of_arm arms k) place
-  of_arms (arm code layout mark parts arms) (suc i) k place =
-      or_right (is_place_of_part parts k) (is_place_of_arm arms k) (of_arms arms i k place)
+  -- a place of one tagged variant is one of the tagged variants
+  of_tagged_variants : (tagged_variants : TaggedVariants) (i k : ℕ) → is_place_of_part (parts_of_tagged_variant tagged_variants i) k ≡ true → is_place_of_tagged_variant tagged_variants k ≡ true
+  of_tagged_variants no_tagged_variants i k place = absurd (true≢false (sym place))
+  of_tagged_variants (tagged_variant code layout mark parts tagged_variants) zero k place =
+      or_left (is_place_of_part parts k) (is_place_of_tagged_variant tagged_variants k) place
+  of_tagged_variants (tagged_variant code layout mark parts tagged_variants) (suc i) k place =
+      or_right (is_place_of_part parts k) (is_place_of_tagged_variant tagged_variants k) (of_tagged_variants tagged_variants i k place)
 
   -- a byte of the tag
   in_tag : (dl : TargetDataLayout) (tag : Scalar) (o k : ℕ) → is_byte_at o (size_of (one_scalar dl tag)) k ≡ true
       → (nat_le o k && is_data_place (one_scalar dl tag) (k - o)) ≡ true
   in_tag dl tag o k c = c
 
-  -- the held arm is one of these
-  held_arm : (whole : Layout) (mark : Mark) (from : ℕ) (numbers : List ℕ) (layouts : List (VariantLayout ℕ))
+  -- the held tagged variant is one of these
+  held_tagged_variant : (whole : Layout) (mark : Mark) (from : ℕ) (numbers : List ℕ) (layouts : List (VariantLayout ℕ))
       (variants : List (List Placed)) (b : List ℕ) (i : ℕ) (vs : Values)
-      → HoldArm order (arms_at whole mark from layouts numbers variants) i b vs → i < length layouts
-  held_arm whole mark from numbers [] variants b i vs held = absurd held
-  held_arm whole mark from [] (l ∷ layouts) variants b i vs held = absurd held
-  held_arm whole mark from (n ∷ numbers) (l ∷ layouts) [] b i vs held = absurd held
-  held_arm whole mark from (n ∷ numbers) (l ∷ layouts) (ps ∷ variants) b zero vs held = omega arith
-  held_arm whole mark from (n ∷ numbers) (l ∷ layouts) (ps ∷ variants) b (suc i) vs held =
-      let later : i < length layouts = held_arm whole mark (from + 1) numbers layouts variants b i vs held in
+      → HoldTaggedVariant order (tagged_variants_at whole mark from layouts numbers variants) i b vs → i < length layouts
+  held_tagged_variant whole mark from numbers [] variants b i vs held = absurd held
+  held_tagged_variant whole mark from [] (l ∷ layouts) variants b i vs held = absurd held
+  held_tagged_variant whole mark from (n ∷ numbers) (l ∷ layouts) [] b i vs held = absurd held
+  held_tagged_variant whole mark from (n ∷ numbers) (l ∷ layouts) (ps ∷ variants) b zero vs held = omega arith
+  held_tagged_variant whole mark from (n ∷ numbers) (l ∷ layouts) (ps ∷ variants) b (suc i) vs held =
+      let later : i < length layouts = held_tagged_variant whole mark (from + 1) numbers layouts variants b i vs held in
       omega (arith, later)
 
-  -- where no tag tells variants apart, none leaves a byte unused
+  -- where no tag distinguishes variants, none leaves a byte unused
   none_left : (place : Bool) → (place && not place) ≡ true → ⊥
   none_left true e = absurd (true≢false (sym e))
   none_left false e = absurd (true≢false (sym e))
@@ -247,58 +247,58 @@ module _ (order : Endian) where
     -- variants and states behind prefix fields and a tag
     module _ (whole : Layout) (mark : Mark) (numbers : List ℕ) (layouts : List (VariantLayout ℕ))
         (variants : List (List Placed)) (kept : All (All Keeps) variants) (tag : Scalar) (o : ℕ)
-        (encoding : TagEncoding ℕ) (field : ℕ) (told : whole.variants ≡ Multiple tag encoding field layouts) where
-      abbrev arms : Arms
-      arms = arms_at whole mark 0 layouts numbers variants
+        (encoding : TagEncoding ℕ) (field : ℕ) (tag_distinguishes : whole.variants ≡ Multiple tag encoding field layouts) where
+      abbrev tagged_variants : TaggedVariants
+      tagged_variants = tagged_variants_at whole mark 0 layouts numbers variants
 
       abbrev of_tag : ℕ → Bool
       of_tag k = nat_le o k && is_data_place (one_scalar dl tag) (k - o)
 
-      -- bytes of the tag, where they are covered, and of the arm
-      in_arm_or_tag : (named : Bool) (b : List ℕ) (i : ℕ) (vs : Values) → HoldArm order arms i b vs → (k : ℕ)
-          → ((named && is_byte_at o (size_of (one_scalar dl tag)) k) || is_arm_covered arms i vs k) ≡ true
-          → (of_tag k || is_place_of_part (parts_of_arm arms i) k) ≡ true
-      in_arm_or_tag named b i vs held k c =
-          let rest = is_place_of_part (parts_of_arm arms i) k in
+      -- bytes of the tag, where they are covered, and of the tagged variant
+      in_tagged_variant_or_tag : (named : Bool) (b : List ℕ) (i : ℕ) (vs : Values) → HoldTaggedVariant order tagged_variants i b vs → (k : ℕ)
+          → ((named && is_byte_at o (size_of (one_scalar dl tag)) k) || is_tagged_variant_covered tagged_variants i vs k) ≡ true
+          → (of_tag k || is_place_of_part (parts_of_tagged_variant tagged_variants i) k) ≡ true
+      in_tagged_variant_or_tag named b i vs held k c =
+          let rest = is_place_of_part (parts_of_tagged_variant tagged_variants i) k in
           ⊎_elim
           (λ here. or_left (of_tag k) rest
           (in_tag dl tag o k (and_parts named (is_byte_at o (size_of (one_scalar dl tag)) k) here).1))
           (λ later. or_right (of_tag k) rest
-          (in_arm whole mark 0 numbers layouts variants (each_keeps variants kept) b i vs held k later))
-          (or_cases (named && is_byte_at o (size_of (one_scalar dl tag)) k) (is_arm_covered arms i vs k) c)
+          (in_tagged_variant whole mark 0 numbers layouts variants (each_keeps variants kept) b i vs held k later))
+          (or_cases (named && is_byte_at o (size_of (one_scalar dl tag)) k) (is_tagged_variant_covered tagged_variants i vs k) c)
 
-      -- the arm is one of several
-      of_several : (b : List ℕ) (i : ℕ) (vs : Values) → HoldArm order arms i b vs → IsVariantOfSeveral whole.variants i
+      -- the tagged variant is one of several
+      of_several : (b : List ℕ) (i : ℕ) (vs : Values) → HoldTaggedVariant order tagged_variants i b vs → IsVariantOfSeveral whole.variants i
       of_several b i vs held =
-          subst (λ all. IsVariantOfSeveral all i) (sym told) (held_arm whole mark 0 numbers layouts variants b i vs held)
+          subst (λ all. IsVariantOfSeveral all i) (sym tag_distinguishes) (held_tagged_variant whole mark 0 numbers layouts variants b i vs held)
 
       -- which are places of the whole
-      in_whole : (i k : ℕ) → (of_tag k || is_place_of_part (parts_of_arm arms i) k) ≡ true
-          → (of_tag k || is_place_of_arm arms k) ≡ true
+      in_whole : (i k : ℕ) → (of_tag k || is_place_of_part (parts_of_tagged_variant tagged_variants i) k) ≡ true
+          → (of_tag k || is_place_of_tagged_variant tagged_variants k) ≡ true
       in_whole i k place =
-          ⊎_elim (λ here. or_left (of_tag k) (is_place_of_arm arms k) here)
-          (λ later. or_right (of_tag k) (is_place_of_arm arms k) (of_arms arms i k later))
-          (or_cases (of_tag k) (is_place_of_part (parts_of_arm arms i) k) place)
+          ⊎_elim (λ here. or_left (of_tag k) (is_place_of_tagged_variant tagged_variants k) here)
+          (λ later. or_right (of_tag k) (is_place_of_tagged_variant tagged_variants k) (of_tagged_variants tagged_variants i k later))
+          (or_cases (of_tag k) (is_place_of_part (parts_of_tagged_variant tagged_variants i) k) place)
 
-      keeps_tagged : (way : TagEncoding ℕ) → Keeps (tagged whole mark o (one_scalar dl tag) way arms)
+      keeps_tagged : (way : TagEncoding ℕ) → Keeps (tagged whole mark o (one_scalar dl tag) way tagged_variants)
       keeps_tagged way = record { places = by; own = own_by; several = several_by }
         where
-          own_by : (b : List ℕ) (v : Value) → Holds order (tagged whole mark o (one_scalar dl tag) way arms) b v
+          own_by : (b : List ℕ) (v : Value) → Holds order (tagged whole mark o (one_scalar dl tag) way tagged_variants) b v
               → (i : ℕ) → IsOfVariant v i → (k : ℕ)
-              → is_covered (tagged whole mark o (one_scalar dl tag) way arms) v k ≡ true
-              → (of_tag k || is_place_of_part (parts_of_arm arms i) k) ≡ true
+              → is_covered (tagged whole mark o (one_scalar dl tag) way tagged_variants) v k ≡ true
+              → (of_tag k || is_place_of_part (parts_of_tagged_variant tagged_variants i) k) ≡ true
           own_by b (variant j vs) held i is k c =
-              subst (λ n. (of_tag k || is_place_of_part (parts_of_arm arms n) k) ≡ true) is
-              (in_arm_or_tag (is_told way j) b j vs held.3 k c)
+              subst (λ n. (of_tag k || is_place_of_part (parts_of_tagged_variant tagged_variants n) k) ≡ true) is
+              (in_tagged_variant_or_tag (is_tagged way j) b j vs held.3 k c)
           own_by b (number n) held i is k c = absurd held
           own_by b (two n m) held i is k c = absurd held
           own_by b (list vs) held i is k c = absurd held
           own_by b (state j ps vs) held i is k c = absurd held
           own_by b (bytes content) held i is k c = absurd held
 
-          several_by : (b : List ℕ) (v : Value) → Holds order (tagged whole mark o (one_scalar dl tag) way arms) b v
+          several_by : (b : List ℕ) (v : Value) → Holds order (tagged whole mark o (one_scalar dl tag) way tagged_variants) b v
               → (i : ℕ) → IsOfVariant v i → (k : ℕ)
-              → is_left_unused (tagged whole mark o (one_scalar dl tag) way arms) i k ≡ true
+              → is_left_unused (tagged whole mark o (one_scalar dl tag) way tagged_variants) i k ≡ true
               → IsVariantOfSeveral whole.variants i
           several_by b (variant j vs) held i is k left =
               subst (IsVariantOfSeveral whole.variants) is (of_several b j vs held.3)
@@ -308,8 +308,8 @@ module _ (order : Endian) where
           several_by b (state j ps vs) held i is k left = absurd held
           several_by b (bytes content) held i is k left = absurd held
 
-          by : InPlaces (tagged whole mark o (one_scalar dl tag) way arms)
-          by b (variant i vs) held k c = in_whole i k (in_arm_or_tag (is_told way i) b i vs held.3 k c)
+          by : InPlaces (tagged whole mark o (one_scalar dl tag) way tagged_variants)
+          by b (variant i vs) held k c = in_whole i k (in_tagged_variant_or_tag (is_tagged way i) b i vs held.3 k c)
           by b (number n) held k c = absurd held
           by b (two n m) held k c = absurd held
           by b (list vs) held k c = absurd held
@@ -317,27 +317,27 @@ module _ (order : Endian) where
           by b (bytes content) held k c = absurd held
 
       keeps_states : (offsets : List ℕ) (pres : List Placed) → All Keeps pres
-          → Keeps (states whole (parts_at offsets pres) o (one_scalar dl tag) arms)
+          → Keeps (states whole (parts_at offsets pres) o (one_scalar dl tag) tagged_variants)
       keeps_states offsets pres before = record { places = by; own = own_by; several = several_by }
         where
-          own_of : (b : List ℕ) (i : ℕ) (ps vs : Values) → HoldParts order (parts_at offsets pres) b ps → HoldArm order arms i b vs
-              → (k : ℕ) → is_covered (states whole (parts_at offsets pres) o (one_scalar dl tag) arms) (state i ps vs) k ≡ true
-              → (is_place_of_part (parts_at offsets pres) k || (of_tag k || is_place_of_part (parts_of_arm arms i) k)) ≡ true
+          own_of : (b : List ℕ) (i : ℕ) (ps vs : Values) → HoldParts order (parts_at offsets pres) b ps → HoldTaggedVariant order tagged_variants i b vs
+              → (k : ℕ) → is_covered (states whole (parts_at offsets pres) o (one_scalar dl tag) tagged_variants) (state i ps vs) k ≡ true
+              → (is_place_of_part (parts_at offsets pres) k || (of_tag k || is_place_of_part (parts_of_tagged_variant tagged_variants i) k)) ≡ true
           own_of b i ps vs first held k c =
               let start = is_place_of_part (parts_at offsets pres) k in
-              let rest = of_tag k || is_place_of_part (parts_of_arm arms i) k in
+              let rest = of_tag k || is_place_of_part (parts_of_tagged_variant tagged_variants i) k in
               ⊎_elim
               (λ here. or_left start rest (in_parts offsets pres (keep pres before) b ps first k here))
-              (λ later. or_right start rest (in_arm_or_tag true b i vs held k later))
+              (λ later. or_right start rest (in_tagged_variant_or_tag true b i vs held k later))
               (or_cases (are_covered (parts_at offsets pres) ps k)
-              (is_byte_at o (size_of (one_scalar dl tag)) k || is_arm_covered arms i vs k) c)
+              (is_byte_at o (size_of (one_scalar dl tag)) k || is_tagged_variant_covered tagged_variants i vs k) c)
 
-          own_by : (b : List ℕ) (v : Value) → Holds order (states whole (parts_at offsets pres) o (one_scalar dl tag) arms) b v
+          own_by : (b : List ℕ) (v : Value) → Holds order (states whole (parts_at offsets pres) o (one_scalar dl tag) tagged_variants) b v
               → (i : ℕ) → IsOfVariant v i → (k : ℕ)
-              → is_covered (states whole (parts_at offsets pres) o (one_scalar dl tag) arms) v k ≡ true
-              → (is_place_of_part (parts_at offsets pres) k || (of_tag k || is_place_of_part (parts_of_arm arms i) k)) ≡ true
+              → is_covered (states whole (parts_at offsets pres) o (one_scalar dl tag) tagged_variants) v k ≡ true
+              → (is_place_of_part (parts_at offsets pres) k || (of_tag k || is_place_of_part (parts_of_tagged_variant tagged_variants i) k)) ≡ true
           own_by b (state j ps vs) held i is k c =
-              subst (λ n. (is_place_of_part (parts_at offsets pres) k || (of_tag k || is_place_of_part (parts_of_arm arms n) k)) ≡ true) is
+              subst (λ n. (is_place_of_part (parts_at offsets pres) k || (of_tag k || is_place_of_part (parts_of_tagged_variant tagged_variants n) k)) ≡ true) is
               (own_of b j ps vs held.1 held.4 k c)
           own_by b (number n) held i is k c = absurd held
           own_by b (two n m) held i is k c = absurd held
@@ -345,9 +345,9 @@ module _ (order : Endian) where
           own_by b (variant j vs) held i is k c = absurd held
           own_by b (bytes content) held i is k c = absurd held
 
-          several_by : (b : List ℕ) (v : Value) → Holds order (states whole (parts_at offsets pres) o (one_scalar dl tag) arms) b v
+          several_by : (b : List ℕ) (v : Value) → Holds order (states whole (parts_at offsets pres) o (one_scalar dl tag) tagged_variants) b v
               → (i : ℕ) → IsOfVariant v i → (k : ℕ)
-              → is_left_unused (states whole (parts_at offsets pres) o (one_scalar dl tag) arms) i k ≡ true
+              → is_left_unused (states whole (parts_at offsets pres) o (one_scalar dl tag) tagged_variants) i k ≡ true
               → IsVariantOfSeveral whole.variants i
           several_by b (state j ps vs) held i is k left =
               subst (IsVariantOfSeveral whole.variants) is (of_several b j vs held.4)
@@ -357,12 +357,12 @@ module _ (order : Endian) where
           several_by b (variant j vs) held i is k left = absurd held
           several_by b (bytes content) held i is k left = absurd held
 
-          by : InPlaces (states whole (parts_at offsets pres) o (one_scalar dl tag) arms)
+          by : InPlaces (states whole (parts_at offsets pres) o (one_scalar dl tag) tagged_variants)
           by b (state i ps vs) held k c =
               let start = is_place_of_part (parts_at offsets pres) k in
-              let rest = of_tag k || is_place_of_arm arms k in
+              let rest = of_tag k || is_place_of_tagged_variant tagged_variants k in
               ⊎_elim (λ here. or_left start rest here) (λ later. or_right start rest (in_whole i k later))
-              (or_cases start (of_tag k || is_place_of_part (parts_of_arm arms i) k) (own_of b i ps vs held.1 held.4 k c))
+              (or_cases start (of_tag k || is_place_of_part (parts_of_tagged_variant tagged_variants i) k) (own_of b i ps vs held.1 held.4 k c))
           by b (number n) held k c = absurd held
           by b (two n m) held k c = absurd held
           by b (list vs) held k c = absurd held
@@ -380,10 +380,10 @@ module _ (order : Endian) where
       of_single = keeps_single;
       of_union = λ layout mark ps shape alone one own. keeps_union layout mark ps own;
       of_tagged = λ layout mark offset tag encoding numbers layouts variants beside seen own.
-          keeps_tagged layout mark numbers layouts variants own tag offset beside.encoding beside.field beside.told encoding;
+          keeps_tagged layout mark numbers layouts variants own tag offset beside.encoding beside.field beside.tag_distinguishes encoding;
       of_states = λ layout offsets pres tag numbers layouts variants beside none front own.
           keeps_states layout Plain numbers layouts variants own tag (get_or offsets (length pres) 0) beside.encoding beside.field
-          beside.told offsets pres front;
+          beside.tag_distinguishes offsets pres front;
     }
 
     -- the values of each type that is laid out keep to its places

@@ -34,19 +34,19 @@ use Rattle.abi_tree.specs.declared.laid.Laid.{Laid}
 use Rattle.abi_tree.specs.declared.mark.Mark.{Mark}
 use Rattle.abi_tree.specs.declared.mark.Mark.TheVariants.{Plain}
 use Rattle.abi_tree.specs.Tree.{Tree}
-use Rattle.abi_tree.specs.Placed.{Placed, Arms, layout_of, scalar, pair, never, elements, vector, fields, union, single, tagged, states, parts_of_arm, size_of}
+use Rattle.abi_tree.specs.Placed.{Placed, TaggedVariants, layout_of, scalar, pair, never, elements, vector, fields, union, single, tagged, states, parts_of_tagged_variant, size_of}
 use Rattle.abi_scalar.specs.Layout.{Layout}
-use Rattle.abi_tree.specs.Places.{is_data_place, is_place_of_arm, is_place_of_part}
+use Rattle.abi_tree.specs.Places.{is_data_place, is_place_of_tagged_variant, is_place_of_part}
 use Rattle.rustc_abi.specs.Inside.{EndInside, VariantsInside}
 use Rattle.abi_tree.specs.Laid.{placed_of, typed_of}
 use Rattle.rustc_abi.specs.Laying.{IsLaying, one_scalar}
 use Rattle.abi_tree.specs.Nodes.{parts_at, parts_at_0}
-use Rattle.rustc_abi.specs.Enums.{arms_at}
+use Rattle.rustc_abi.specs.Enums.{tagged_variants_at}
 use Rattle.abi_tree.specs.Runs.{is_padding_of, is_place_of_variant}
 use Rattle.abi_index.specs.RangeSet.{AreMaximalRuns, is_in_ranges}
 use Rattle.abi_tree.proofs.Places.MaximalLemmas.{padding_listed, padding_told}
 use Rattle.abi_types.specs.Ty.Runs.{IsVariantIndex}
-use Rattle.abi_tree.specs.Seen.{HasOffset, IsListOf, Sees, SeesArms, SeesParts, SeesTypes, last_field}
+use Rattle.abi_tree.specs.Seen.{HasOffset, IsListOf, Sees, SeesTaggedVariants, SeesParts, SeesTypes, last_field}
 use Rattle.rustc_abi.proofs.Places.CoveredLemmas.{HasOneWhole, IsCovered, IsNoScalar, covered_parts, memory_none}
 use Rattle.rustc_abi.proofs.Trees.KindsLemmas.{AreBeside, AreFields, IsKept, IsTagWhole, laid_kept}
 use Rattle.rustc_abi.proofs.Places.LawsLemmas.{lengths_in}
@@ -57,14 +57,14 @@ abbrev pub TellsPlaces : Placed → Type 0
 TellsPlaces p = (t : Typed) → Sees t p → (k : ℕ) → is_place t k ≡ is_data_place p k
 
 -- and of each of its variants those that the others use beside it
-abbrev pub TellsUnused : Placed → Type 0
-TellsUnused p = (t : Typed) → Sees t p → (i k : ℕ) → IsVariantIndex (layout_of p).variants i → is_unused t i k ≡ (is_data_place p k && not (is_place_of_variant p i k))
+abbrev pub ListsUnused : Placed → Type 0
+ListsUnused p = (t : Typed) → Sees t p → (i k : ℕ) → IsVariantIndex (layout_of p).variants i → is_unused t i k ≡ (is_data_place p k && not (is_place_of_variant p i k))
 
 -- What handles tell of a type's data places.
 pub record IsTold (p : Placed) : Type 0 where
   pub covered : IsCovered p
   pub places : TellsPlaces p
-  pub unused : TellsUnused p
+  pub unused : ListsUnused p
 
 -- ---- tests
 
@@ -166,37 +166,37 @@ variant_places : (t : Typed) (size : ℕ) (offsets : List ℕ) (ps : List Placed
     SeesParts t 0 (parts_at offsets ps) → (k : ℕ) → is_place t k ≡ is_place_of_part (parts_at offsets ps) k
 variant_places t size offsets ps inside tell list seen k = list_places t offsets ps (lengths_in size offsets (map size_of ps) inside ∙ length-map ps size_of) tell list seen k
 
-arms_cover : (whole : Layout) (mark : Mark) (t : Typed) (k i size : ℕ) (numbers : List ℕ) (layouts : List (VariantLayout ℕ)) (variants : List (List Placed)) → length numbers ≡ length variants → VariantsInside size layouts variants →
-    All (All TellsPlaces) variants → SeesArms t i (arms_at whole mark i layouts numbers variants) →
-    list_any (λ v. is_place (variant_in t v) k) (range_with_len i (length layouts)) ≡ is_place_of_arm (arms_at whole mark i layouts numbers variants) k
-arms_cover whole mark t k i size numbers [] variants long inside tell seen = refl
-arms_cover whole mark t k i size numbers (l ∷ layouts) [] long inside tell seen = absurd inside
-arms_cover whole mark t k i size [] (l ∷ layouts) (ps ∷ variants) long inside tell seen = absurd (omega arith)
-arms_cover whole mark t k i size (n ∷ numbers) (l ∷ layouts) (ps ∷ variants) long inside tell seen =
+tagged_variants_cover : (whole : Layout) (mark : Mark) (t : Typed) (k i size : ℕ) (numbers : List ℕ) (layouts : List (VariantLayout ℕ)) (variants : List (List Placed)) → length numbers ≡ length variants → VariantsInside size layouts variants →
+    All (All TellsPlaces) variants → SeesTaggedVariants t i (tagged_variants_at whole mark i layouts numbers variants) →
+    list_any (λ v. is_place (variant_in t v) k) (range_with_len i (length layouts)) ≡ is_place_of_tagged_variant (tagged_variants_at whole mark i layouts numbers variants) k
+tagged_variants_cover whole mark t k i size numbers [] variants long inside tell seen = refl
+tagged_variants_cover whole mark t k i size numbers (l ∷ layouts) [] long inside tell seen = absurd inside
+tagged_variants_cover whole mark t k i size [] (l ∷ layouts) (ps ∷ variants) long inside tell seen = absurd (omega arith)
+tagged_variants_cover whole mark t k i size (n ∷ numbers) (l ∷ layouts) (ps ∷ variants) long inside tell seen =
     let next : suc i ≡ i + 1 = omega arith in
     let here = variant_places (variant_in t i) l.size l.field_offsets ps inside.1 (All-head (All TellsPlaces) ps variants tell) seen.1 seen.2 k in
     let later =
-    arms_cover whole mark t k (i + 1) size numbers layouts variants (omega arith) inside.2 (All-tail (All TellsPlaces) ps variants tell) (subst (λ j. SeesArms t j (arms_at whole mark (i + 1) layouts numbers variants)) next seen.3) in
+    tagged_variants_cover whole mark t k (i + 1) size numbers layouts variants (omega arith) inside.2 (All-tail (All TellsPlaces) ps variants tell) (subst (λ j. SeesTaggedVariants t j (tagged_variants_at whole mark (i + 1) layouts numbers variants)) next seen.3) in
     ap (λ b. b || list_any (λ v. is_place (variant_in t v) k) (range_with_len (i + 1) (length layouts))) here ∙ ap (λ b. is_place_of_part (parts_at l.field_offsets ps) k || b) later
 
-arm_cover : (whole : Layout) (mark : Mark) (t : Typed) (k i size : ℕ) (numbers : List ℕ) (layouts : List (VariantLayout ℕ)) (variants : List (List Placed)) → length numbers ≡ length variants → VariantsInside size layouts variants →
-    All (All TellsPlaces) variants → SeesArms t i (arms_at whole mark i layouts numbers variants) → (j : ℕ) → j < length layouts →
-    is_place (variant_in t (i + j)) k ≡ is_place_of_part (parts_of_arm (arms_at whole mark i layouts numbers variants) j) k
-arm_cover whole mark t k i size numbers [] variants long inside tell seen j lt = absurd (omega arith)
-arm_cover whole mark t k i size numbers (l ∷ layouts) [] long inside tell seen j lt = absurd inside
-arm_cover whole mark t k i size [] (l ∷ layouts) (ps ∷ variants) long inside tell seen j lt = absurd (omega arith)
-arm_cover whole mark t k i size (n ∷ numbers) (l ∷ layouts) (ps ∷ variants) long inside tell seen zero lt =
+tagged_variant_cover : (whole : Layout) (mark : Mark) (t : Typed) (k i size : ℕ) (numbers : List ℕ) (layouts : List (VariantLayout ℕ)) (variants : List (List Placed)) → length numbers ≡ length variants → VariantsInside size layouts variants →
+    All (All TellsPlaces) variants → SeesTaggedVariants t i (tagged_variants_at whole mark i layouts numbers variants) → (j : ℕ) → j < length layouts →
+    is_place (variant_in t (i + j)) k ≡ is_place_of_part (parts_of_tagged_variant (tagged_variants_at whole mark i layouts numbers variants) j) k
+tagged_variant_cover whole mark t k i size numbers [] variants long inside tell seen j lt = absurd (omega arith)
+tagged_variant_cover whole mark t k i size numbers (l ∷ layouts) [] long inside tell seen j lt = absurd inside
+tagged_variant_cover whole mark t k i size [] (l ∷ layouts) (ps ∷ variants) long inside tell seen j lt = absurd (omega arith)
+tagged_variant_cover whole mark t k i size (n ∷ numbers) (l ∷ layouts) (ps ∷ variants) long inside tell seen zero lt =
     let same : i + 0 ≡ i = omega arith in
     ap (λ v. is_place (variant_in t v) k) same ∙ variant_places (variant_in t i) l.size l.field_offsets ps inside.1 (All-head (All TellsPlaces) ps variants tell) seen.1 seen.2 k
-arm_cover whole mark t k i size (n ∷ numbers) (l ∷ layouts) (ps ∷ variants) long inside tell seen (suc j) lt =
+tagged_variant_cover whole mark t k i size (n ∷ numbers) (l ∷ layouts) (ps ∷ variants) long inside tell seen (suc j) lt =
     let next : suc i ≡ i + 1 = omega arith in
     let same : i + suc j ≡ i + 1 + j = omega arith in
     ap (λ v. is_place (variant_in t v) k) same
-    ∙ arm_cover whole mark t k (i + 1) size numbers layouts variants (omega arith) inside.2 (All-tail (All TellsPlaces) ps variants tell) (subst (λ j. SeesArms t j (arms_at whole mark (i + 1) layouts numbers variants)) next seen.3) j (omega arith)
+    ∙ tagged_variant_cover whole mark t k (i + 1) size numbers layouts variants (omega arith) inside.2 (All-tail (All TellsPlaces) ps variants tell) (subst (λ j. SeesTaggedVariants t j (tagged_variants_at whole mark (i + 1) layouts numbers variants)) next seen.3) j (omega arith)
 
--- ---- what a tag tells
+-- ---- what a tag says
 
--- no tag tells variants apart
+-- no tag distinguishes variants
 alone_unused : (t : Typed) (i k : ℕ) (vs : Variants ℕ ℕ) (place : Bool) → (layout_in t).variants ≡ vs → variants_of vs ≡ [] → IsVariantIndex vs i → is_unused t i k ≡ (place && not place)
 alone_unused t i k Empty place e none lt = rw e (and_not place)
 alone_unused t i k (Single index) place e none lt = rw e (and_not place)
@@ -215,12 +215,12 @@ scalar_places dl s t seen k =
 module _ (layout : Layout) (kind : Mark) (offsets : List ℕ) (pres : List Placed) (tag : Placed) (mark : Scalar) (numbers : List ℕ) (layouts : List (VariantLayout ℕ)) (variants : List (List Placed))
     (beside : AreBeside layout offsets pres mark numbers layouts variants) (tells : TellsPlaces tag) (own : All TellsPlaces pres) (each : All (All TellsPlaces) variants)
     (t : Typed) (same : layout_in t ≡ layout) (front : SeesParts t 0 (parts_at offsets pres)) (offset : ℕ) (at : HasOffset t (length pres) offset) (seen : Sees (field_in t (length pres)) tag)
-    (held : SeesArms t 0 (arms_at layout kind 0 layouts numbers variants)) where
+    (held : SeesTaggedVariants t 0 (tagged_variants_at layout kind 0 layouts numbers variants)) where
   shape : (layout_in t).fields ≡ Arbitrary offsets beside.order
   shape = ap (λ (l : Layout). l.fields) same ∙ beside.shape
 
-  told : (layout_in t).variants ≡ Multiple mark beside.encoding beside.field layouts
-  told = ap (λ (l : Layout). l.variants) same ∙ beside.told
+  tag_distinguishes : (layout_in t).variants ≡ Multiple mark beside.encoding beside.field layouts
+  tag_distinguishes = ap (λ (l : Layout). l.variants) same ∙ beside.tag_distinguishes
 
   beside_shared : (k : ℕ) → is_shared_place t k ≡ (is_place_of_part (parts_at offsets pres) k || (nat_le offset k && is_data_place tag (k - offset)))
   beside_shared k =
@@ -228,35 +228,35 @@ module _ (layout : Layout) (kind : Mark) (offsets : List ℕ) (pres : List Place
       ∙ ap (λ b. b || covers_at t k (length pres)) (parts_cover t k 0 offsets pres (omega (arith, beside.count)) own front)
       ∙ ap (λ b. is_place_of_part (parts_at offsets pres) k || b) (covers_seen t k (length pres) offset tag tells at seen)
 
-  beside_places : (k : ℕ) → is_place t k ≡ (is_place_of_part (parts_at offsets pres) k || ((nat_le offset k && is_data_place tag (k - offset)) || is_place_of_arm (arms_at layout kind 0 layouts numbers variants) k))
+  beside_places : (k : ℕ) → is_place t k ≡ (is_place_of_part (parts_at offsets pres) k || ((nat_le offset k && is_data_place tag (k - offset)) || is_place_of_tagged_variant (tagged_variants_at layout kind 0 layouts numbers variants) k))
   beside_places k =
       place_by t k ∙ ap (λ b. b || variants_cover (layout_in t).variants (λ v. is_place (variant_in t v)) k) (beside_shared k)
       ∙ ap (λ b. (is_place_of_part (parts_at offsets pres) k || (nat_le offset k && is_data_place tag (k - offset))) || b)
-      (ap (λ (vs : Variants ℕ ℕ). variants_cover vs (λ v. is_place (variant_in t v)) k) told ∙ arms_cover layout kind t k 0 layout.size numbers layouts variants beside.numbered beside.inside each held)
-      ∙ or_assoc (is_place_of_part (parts_at offsets pres) k) (nat_le offset k && is_data_place tag (k - offset)) (is_place_of_arm (arms_at layout kind 0 layouts numbers variants) k)
+      (ap (λ (vs : Variants ℕ ℕ). variants_cover vs (λ v. is_place (variant_in t v)) k) tag_distinguishes ∙ tagged_variants_cover layout kind t k 0 layout.size numbers layouts variants beside.number_variants beside.inside each held)
+      ∙ or_assoc (is_place_of_part (parts_at offsets pres) k) (nat_le offset k && is_data_place tag (k - offset)) (is_place_of_tagged_variant (tagged_variants_at layout kind 0 layouts numbers variants) k)
 
   beside_unused : (i k : ℕ) → IsVariantIndex layout.variants i →
       is_unused t i k
-      ≡ ((is_place_of_part (parts_at offsets pres) k || ((nat_le offset k && is_data_place tag (k - offset)) || is_place_of_arm (arms_at layout kind 0 layouts numbers variants) k))
-      && not (is_place_of_part (parts_at offsets pres) k || ((nat_le offset k && is_data_place tag (k - offset)) || is_place_of_part (parts_of_arm (arms_at layout kind 0 layouts numbers variants) i) k)))
+      ≡ ((is_place_of_part (parts_at offsets pres) k || ((nat_le offset k && is_data_place tag (k - offset)) || is_place_of_tagged_variant (tagged_variants_at layout kind 0 layouts numbers variants) k))
+      && not (is_place_of_part (parts_at offsets pres) k || ((nat_le offset k && is_data_place tag (k - offset)) || is_place_of_part (parts_of_tagged_variant (tagged_variants_at layout kind 0 layouts numbers variants) i) k)))
   beside_unused i k index =
-      let lt : i < length layouts = subst (λ vs. IsVariantIndex vs i) beside.told index in
+      let lt : i < length layouts = subst (λ vs. IsVariantIndex vs i) beside.tag_distinguishes index in
       let first : 0 + i ≡ i = omega arith in
-      let arm = ap (λ v. is_place (variant_in t v) k) (sym first) ∙ arm_cover layout kind t k 0 layout.size numbers layouts variants beside.numbered beside.inside each held i lt in
-      several_unused t i k mark beside.encoding beside.field layouts told
+      let tagged_variant = ap (λ v. is_place (variant_in t v) k) (sym first) ∙ tagged_variant_cover layout kind t k 0 layout.size numbers layouts variants beside.number_variants beside.inside each held i lt in
+      several_unused t i k mark beside.encoding beside.field layouts tag_distinguishes
       ∙ ap (λ b. b && not (is_shared_place t k || is_place (variant_in t i) k)) (beside_places k)
-      ∙ ap (λ b. (is_place_of_part (parts_at offsets pres) k || ((nat_le offset k && is_data_place tag (k - offset)) || is_place_of_arm (arms_at layout kind 0 layouts numbers variants) k)) && not b)
+      ∙ ap (λ b. (is_place_of_part (parts_at offsets pres) k || ((nat_le offset k && is_data_place tag (k - offset)) || is_place_of_tagged_variant (tagged_variants_at layout kind 0 layouts numbers variants) k)) && not b)
       (ap (λ b. b || is_place (variant_in t i) k) (beside_shared k)
-      ∙ ap (λ b. (is_place_of_part (parts_at offsets pres) k || (nat_le offset k && is_data_place tag (k - offset))) || b) arm
-      ∙ or_assoc (is_place_of_part (parts_at offsets pres) k) (nat_le offset k && is_data_place tag (k - offset)) (is_place_of_part (parts_of_arm (arms_at layout kind 0 layouts numbers variants) i) k))
+      ∙ ap (λ b. (is_place_of_part (parts_at offsets pres) k || (nat_le offset k && is_data_place tag (k - offset))) || b) tagged_variant
+      ∙ or_assoc (is_place_of_part (parts_at offsets pres) k) (nat_le offset k && is_data_place tag (k - offset)) (is_place_of_part (parts_of_tagged_variant (tagged_variants_at layout kind 0 layouts numbers variants) i) k))
 
 -- an element
 element_by : (view : BackendRepr) (t : Typed) (q : Placed) (j : ℕ) → (layout_in t).backend_repr ≡ view → layout_in t ≡ layout_of q → IsTold q → Sees t q → ((s : Scalar) → view ≡ OneScalar s → j < size_of q) →
     covers_element (layout_in t) (is_place t) j ≡ is_data_place q j
-element_by (OneScalar s) t q j e same told seen below =
+element_by (OneScalar s) t q j e same tag_distinguishes seen below =
     let lt : j < size_of q = below s refl in
-    rw e (ap (λ (l : Layout). nat_lt j l.size) same ∙ lt-ltb j (size_of q) lt ∙ sym (told.covered s (ap (λ (l : Layout). l.backend_repr) (sym same) ∙ e) j lt))
-element_by _ t q j e same told seen below = rw e (told.places t seen j)
+    rw e (ap (λ (l : Layout). nat_lt j l.size) same ∙ lt-ltb j (size_of q) lt ∙ sym (tag_distinguishes.covered s (ap (λ (l : Layout). l.backend_repr) (sym same) ∙ e) j lt))
+element_by _ t q j e same tag_distinguishes seen below = rw e (tag_distinguishes.places t seen j)
 
 -- the layout that handles see
 seen_layout : (t : Typed) (p : Placed) → Sees t p → layout_in t ≡ layout_of p
@@ -268,29 +268,29 @@ seen_layout t (vector layout lanes) seen = seen.0.0
 seen_layout t (fields layout mark parts) seen = seen.0.0
 seen_layout t (union layout mark parts) seen = seen.0.0
 seen_layout t (single layout mark index parts) seen = seen.0.0
-seen_layout t (tagged layout mark offset tag encoding arms) seen = seen.0.0
-seen_layout t (states layout prefix offset tag arms) seen = seen.0.0
+seen_layout t (tagged layout mark offset tag encoding tagged_variants) seen = seen.0.0
+seen_layout t (states layout prefix offset tag tagged_variants) seen = seen.0.0
 
 module _ (dl : TargetDataLayout) (law : IsLawfulDataLayout dl) where
   element_places : (t : Typed) (q : Placed) (k : ℕ) → IsLawfulLayout dl (layout_of q) → IsTold q → Sees t q → covers_element (layout_in t) (is_place t) (k % size_of q) ≡ is_data_place q (k % size_of q)
-  element_places t q k lawful told seen =
+  element_places t q k lawful tag_distinguishes seen =
       let same = seen_layout t q seen in
-      element_by (layout_in t).backend_repr t q (k % size_of q) refl same told seen
+      element_by (layout_in t).backend_repr t q (k % size_of q) refl same tag_distinguishes seen
       (λ s e.
       let view : (layout_of q).backend_repr ≡ OneScalar s = ap (λ (l : Layout). l.backend_repr) (sym same) ∙ e in
       let own = subst (IsLawfulView dl (size_of q)) view lawful.view in
       mod_below k (size_of q) (omega (arith, own.1, (lawful_readable dl s own.0).some)))
 
   all_covered : (ps : List Placed) → All IsTold ps → All IsCovered ps
-  all_covered ps told = All-weaker IsTold IsCovered (λ p one. one.covered) ps told
+  all_covered ps tag_distinguishes = All-weaker IsTold IsCovered (λ p one. one.covered) ps tag_distinguishes
 
   all_tell : (ps : List Placed) → All IsTold ps → All TellsPlaces ps
-  all_tell ps told = All-weaker IsTold TellsPlaces (λ p one. one.places) ps told
+  all_tell ps tag_distinguishes = All-weaker IsTold TellsPlaces (λ p one. one.places) ps tag_distinguishes
 
   each_tell : (variants : List (List Placed)) → All (All IsTold) variants → All (All TellsPlaces) variants
-  each_tell variants told = All-weaker (All IsTold) (All TellsPlaces) all_tell variants told
+  each_tell variants tag_distinguishes = All-weaker (All IsTold) (All TellsPlaces) all_tell variants tag_distinguishes
 
-  -- where no tag tells variants apart
+  -- where no tag distinguishes variants
   unused_alone : (layout : Layout) (t : Typed) (i k : ℕ) (place : Bool) → layout_in t ≡ layout → variants_of layout.variants ≡ [] → IsVariantIndex layout.variants i → is_unused t i k ≡ (place && not place)
   unused_alone layout t i k place same none index = alone_unused t i k layout.variants place (ap (λ (l : Layout). l.variants) same) none index
 
@@ -366,13 +366,13 @@ module _ (dl : TargetDataLayout) (law : IsLawfulDataLayout dl) where
 
   told_tagged : (layout : Layout) (mark : Mark) (offset : ℕ) (tag : Scalar) (encoding : TagEncoding ℕ) (numbers : List ℕ) (layouts : List (VariantLayout ℕ)) (variants : List (List Placed)) →
       AreBeside layout (offset ∷ []) [] tag numbers layouts variants → IsTagWhole dl layout offset tag → All (All IsTold) variants →
-      IsTold (tagged layout mark offset (one_scalar dl tag) encoding (arms_at layout mark 0 layouts numbers variants))
+      IsTold (tagged layout mark offset (one_scalar dl tag) encoding (tagged_variants_at layout mark 0 layouts numbers variants))
   told_tagged layout mark offset tag encoding numbers layouts variants beside whole own =
-      let arms : Arms = arms_at layout mark 0 layouts numbers variants in
+      let tagged_variants : TaggedVariants = tagged_variants_at layout mark 0 layouts numbers variants in
       record {
         covered = λ s e k lt.
             let view = whole s e in
-            or_left (nat_le offset k && is_data_place (one_scalar dl tag) (k - offset)) (is_place_of_arm arms k)
+            or_left (nat_le offset k && is_data_place (one_scalar dl tag) (k - offset)) (is_place_of_tagged_variant tagged_variants k)
             (both_true (le-leb offset k (omega (arith, view.0))) (lt-ltb (k - offset) (scalar_size dl tag) (omega (arith, lt, view.0, view.1))));
         places = λ t seen.
             beside_places layout mark (offset ∷ []) [] (one_scalar dl tag) tag numbers layouts variants beside (scalar_places dl tag) (All-nil TellsPlaces) (each_tell variants own) t seen.0.0 tt offset seen.1 seen.2 seen.3;
@@ -382,7 +382,7 @@ module _ (dl : TargetDataLayout) (law : IsLawfulDataLayout dl) where
 
   told_states : (layout : Layout) (offsets : List ℕ) (pres : List Placed) (tag : Scalar) (numbers : List ℕ) (layouts : List (VariantLayout ℕ)) (variants : List (List Placed)) →
       AreBeside layout offsets pres tag numbers layouts variants → IsNoScalar layout.backend_repr → All IsTold pres → All (All IsTold) variants →
-      IsTold (states layout (parts_at offsets pres) (get_or offsets (length pres) 0) (one_scalar dl tag) (arms_at layout Plain 0 layouts numbers variants))
+      IsTold (states layout (parts_at offsets pres) (get_or offsets (length pres) 0) (one_scalar dl tag) (tagged_variants_at layout Plain 0 layouts numbers variants))
   told_states layout offsets pres tag numbers layouts variants beside none front own =
       let offset : ℕ = get_or offsets (length pres) 0 in
       let last : last_field layout ≡ length pres = let count : field_count layout.fields ≡ length offsets = ap field_count beside.shape in omega (arith, count, beside.count) in

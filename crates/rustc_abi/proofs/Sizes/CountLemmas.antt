@@ -18,10 +18,10 @@ use Rattle.abi_tree.specs.Placed.{Placed, layout_of}
 use Rattle.abi_scalar.specs.Layout.{Layout}
 use Rattle.abi_tree.specs.Deciding.{are_inhabited}
 use Rattle.abi_tree.proofs.Meaning.NodesLemmas.{layout_of-placed_at}
-use Rattle.abi_tree.specs.Nodes.{arms_in, placed_at}
+use Rattle.abi_tree.specs.Nodes.{tagged_variants_in, placed_at}
 use Rattle.abi_tree.specs.Well.{IsPut}
 use Rattle.rustc_abi.specs.Adding.{IsAdded}
-use Rattle.rustc_abi.specs.Count.{AddsOwn, AreCounted, AreVariantsCounted, HasMore, HasNodes, HaveNodes, IsCounted, IsOwnPut, VariantsHaveNodes, arm_count, own_nodes}
+use Rattle.rustc_abi.specs.Count.{AddsOwn, AreCounted, AreVariantsCounted, HasMore, HasNodes, HaveNodes, IsCounted, IsOwnPut, VariantsHaveNodes, tagged_variant_count, own_nodes}
 use Rattle.rustc_abi.specs.Inhabited.{AreInhabited, EachInhabited, IsInhabited, VariantsInhabited}
 use Rattle.rustc_abi.proofs.Trees.OneAnswer.{one_answer}
 
@@ -107,15 +107,15 @@ array_flagged dl element whole count is flag = by (nat_lt (element.size * count)
         (and_parts element.uninhabited (not (count == 0)) (sym (ap (λ (l : Layout). l.uninhabited) same) ∙ flag)).0
     by false e = absurd (cc)
 
--- as many arms stand beside a tag as are listed
-pub arms_listed : (done : List Placed) (vs : List (ℕ × ℕ)) → arm_count (arms_in done vs) ≡ length vs
-arms_listed done [] = refl
-arms_listed done (v ∷ vs) = let rest = arms_listed done vs in omega (arith, rest)
+-- as many tagged variants stand beside a tag as are listed
+pub tagged_variants_listed : (done : List Placed) (vs : List (ℕ × ℕ)) → tagged_variant_count (tagged_variants_in done vs) ≡ length vs
+tagged_variants_listed done [] = refl
+tagged_variants_listed done (v ∷ vs) = let rest = tagged_variants_listed done vs in omega (arith, rest)
 
 -- a tag, so many variants, and the whole
-pub more_arms : (n m : ℕ) (flagged : Bool) (old one two new : List Node) → HasMore 1 false old one → HasMore n false one two → HasMore 1 flagged two new → m ≡ n → HasMore (m + 2) flagged old new
-more_arms n m flagged old one two new first arms last same =
-    more_as (1 + n + 1) (m + 2) flagged old new (omega (arith, same)) (more_both (1 + n) 1 false flagged old two new (more_both 1 n false false old one two first arms) last)
+pub more_tagged_variants : (n m : ℕ) (flagged : Bool) (old one two new : List Node) → HasMore 1 false old one → HasMore n false one two → HasMore 1 flagged two new → m ≡ n → HasMore (m + 2) flagged old new
+more_tagged_variants n m flagged old one two new first tagged_variants last same =
+    more_as (1 + n + 1) (m + 2) flagged old new (omega (arith, same)) (more_both (1 + n) 1 false flagged old two new (more_both 1 n false false old one two first tagged_variants) last)
 
 -- a type whose own nodes were put behind those of the types in it
 pub own_counted : (dl : TargetDataLayout) (first old new : List Node) (i : ℕ) (t : Tree) (parts : ℕ) → IsAdded dl old new i t → IsOwnPut old new i →

@@ -34,12 +34,12 @@ use Rattle.abi_calc.specs.Coroutine.Made.{AreStatesOf, IsMadeOfStates}
 use Rattle.abi_calc.specs.Coroutine.Promotion.{promoted_of}
 use Rattle.abi_calc.specs.Coroutine.Sizes.{behind_first, own_lists}
 use Rattle.abi_calc.specs.Coroutine.States.{rank_of, ranks_of, state_offsets}
-use Rattle.abi_calc.specs.Enums.Discriminants.{counting_of}
+use Rattle.abi_calc.specs.Enums.Discriminants.{counted_discriminants}
 use Rattle.abi_calc.specs.Enums.Growth.{grown_tag, moved, start_align}
 use Rattle.abi_calc.specs.Enums.Lists.{behind_tag}
 use Rattle.abi_calc.specs.Enums.Made.{AreBehindTag, AreBesideNiche, IsBesideNiche}
 use Rattle.abi_calc.specs.Enums.Niche.{room_beside, span_count, untagged_of}
-use Rattle.abi_calc.specs.Enums.Path.{path_of, variant_at}
+use Rattle.abi_calc.specs.Enums.EnumStrategy.{strategy_of, variant_at}
 use Rattle.abi_calc.specs.Enums.Payload.{tagged_view}
 use Rattle.abi_calc.specs.Enums.Several.{IsAskedFor}
 use Rattle.abi_calc.specs.Enums.Single.{IsSingleAnswer}
@@ -47,8 +47,8 @@ use Rattle.abi_calc.specs.Enums.Tagged.{lists_align, lists_size, payloads_of}
 use Rattle.abi_univariant.specs.Least.{IsPlacedBy, align_by}
 use Rattle.abi_calc.specs.Made.{AreFieldLists, IsFieldList}
 use Rattle.abi_univariant.specs.Placement.{source_order}
-use Rattle.abi_calc.specs.declared.enums.path.Path.{Path}
-use Rattle.abi_calc.specs.declared.enums.path.Path.TheVariants.{NoValue, OneList, Several}
+use Rattle.abi_calc.specs.declared.enums.strategy.EnumStrategy.{EnumStrategy}
+use Rattle.abi_calc.specs.declared.enums.strategy.EnumStrategy.TheVariants.{NoValue, OneList, Several}
 use Rattle.abi_calc.proofs.CoroutineLemmas.Seen.{coroutine_made}
 use Rattle.abi_calc.proofs.EnumLemmas.Growth.{grown_size}
 use Rattle.abi_calc.proofs.EnumLemmas.Made.{OfNiche, OfTagged, all_behind, all_beside, several_holds}
@@ -61,18 +61,18 @@ use Rattle.abi_tree.specs.declared.mark.Mark.{Mark}
 use Rattle.abi_tree.specs.declared.mark.Mark.TheVariants.{Plain}
 use Rattle.abi_tree.specs.Mark.{mark_of}
 use Rattle.abi_tree.specs.Nodes.{parts_at, placed_in, state_tag_offset, tag_offset}
-use Rattle.abi_tree.specs.Placed.{Placed, Arms, layout_of, size_of}
+use Rattle.abi_tree.specs.Placed.{Placed, TaggedVariants, layout_of, size_of}
 use Rattle.abi_scalar.specs.Layout.{Layout}
 use Rattle.rustc_abi.specs.Coroutines.{conflicts_of}
-use Rattle.rustc_abi.specs.Enums.{IsEnumed, IsTagIntegerAnswer, arms_at, counted, discriminants_of, layouts_of, numbered_from}
+use Rattle.rustc_abi.specs.Enums.{IsEnumed, IsTagIntegerAnswer, tagged_variants_at, counted, discriminants_of, layouts_of, numbered_from}
 use Rattle.rustc_abi.specs.Laying.{AreLaying, IsCoroutineOf, IsLaying, IsLaidList, VariantsLaying, coroutine_fault}
 use Rattle.rustc_abi.specs.Laying.{enum_fault, fields_fault, kind_of, one_scalar, placed_coroutine, placed_enum}
 use Rattle.rustc_abi.specs.Laying.{placed_fields, placed_variants}
 use Rattle.rustc_abi.specs.Least.{fields_of}
 use Rattle.rustc_abi.specs.Lists.{AreLeastVariants, AreListsBeside, AreMovedLists, AreStateLists}
 use Rattle.rustc_abi.specs.Lists.{HasLeastLists, IsLeastList, MayMove, offsets_of, types_of}
-use Rattle.rustc_abi.proofs.Enums.ArmsLemmas.{EachApart}
-use Rattle.rustc_abi.proofs.Sizes.EnumSizeLemmas.{Answers, apart_long, by_arms, fields_back, lawful_at, variants_back}
+use Rattle.rustc_abi.proofs.Enums.TaggedVariantsLemmas.{EachApart}
+use Rattle.rustc_abi.proofs.Sizes.EnumSizeLemmas.{Answers, apart_long, by_tagged_variants, fields_back, lawful_at, variants_back}
 use Rattle.rustc_abi.proofs.Trees.LaidLemmas.{IsWhole, all_whole, coroutine_asked, coroutine_laid, each_lawful, laid_by}
 use Rattle.rustc_abi.proofs.Trees.LaidLemmas.{numbers_for, some_field, stated_offsets, variants_whole, whole_lawful}
 use Rattle.rustc_abi.proofs.Sizes.LeastLemmas.{listed_count}
@@ -139,18 +139,18 @@ module _ (dl : TargetDataLayout) (repr : ReprOptions) where
 
   module _ (whole : Layout) (mark : Mark) (size : ℕ) where
     -- variants behind a tag
-    moved_arms : (kind : StructKind) (old new : ℕ) (first : ℕ) (numbers : List ℕ) (variants : List (List Placed))
+    moved_tagged_variants : (kind : StructKind) (old new : ℕ) (first : ℕ) (numbers : List ℕ) (variants : List (List Placed))
         (lists : List Layout) (layouts : List (VariantLayout ℕ)) → EachApart size variants layouts
         → length numbers ≡ length variants → AreFieldLists (λ i. i) dl repr kind (layouts_of variants) lists
         → AreBehindTag old new size lists layouts
-        → AreMovedLists dl repr kind (moved old new) (arms_at whole mark first layouts numbers variants)
-    moved_arms kind old new first numbers [] lists [] apart long own places = tt
-    moved_arms kind old new first numbers [] lists (l ∷ layouts) apart long own places = absurd apart
-    moved_arms kind old new first numbers (ps ∷ variants) lists [] apart long own places = absurd apart
-    moved_arms kind old new first numbers (ps ∷ variants) [] (l ∷ layouts) apart long own places = absurd own
-    moved_arms kind old new first [] (ps ∷ variants) (list ∷ lists) (l ∷ layouts) apart long own places =
+        → AreMovedLists dl repr kind (moved old new) (tagged_variants_at whole mark first layouts numbers variants)
+    moved_tagged_variants kind old new first numbers [] lists [] apart long own places = tt
+    moved_tagged_variants kind old new first numbers [] lists (l ∷ layouts) apart long own places = absurd apart
+    moved_tagged_variants kind old new first numbers (ps ∷ variants) lists [] apart long own places = absurd apart
+    moved_tagged_variants kind old new first numbers (ps ∷ variants) [] (l ∷ layouts) apart long own places = absurd own
+    moved_tagged_variants kind old new first [] (ps ∷ variants) (list ∷ lists) (l ∷ layouts) apart long own places =
         absurd (omega (arith, long))
-    moved_arms kind old new first (n ∷ numbers) (ps ∷ variants) (list ∷ lists) (l ∷ layouts) apart long own places =
+    moved_tagged_variants kind old new first (n ∷ numbers) (ps ∷ variants) (list ∷ lists) (l ∷ layouts) apart long own places =
         let count : length l.field_offsets ≡ length ps = apart_long size l.field_offsets (map size_of ps) apart.0
         ∙ length-map ps size_of in (
           (
@@ -160,24 +160,24 @@ module _ (dl : TargetDataLayout) (repr : ReprOptions) where
                 (least_list dl repr kind (map layout_of ps) list own.0),
             offsets_back l.field_offsets ps count ∙ places.0.offsets,
           ),
-          moved_arms kind old new (first + 1) numbers variants lists layouts apart.1
+          moved_tagged_variants kind old new (first + 1) numbers variants lists layouts apart.1
               (omega (arith, long)) own.1 places.1,
         )
 
     -- variants beside a niche
-    beside_arms : (place width untagged from : ℕ) (first : ℕ) (numbers : List ℕ) (variants : List (List Placed))
+    beside_tagged_variants : (place width untagged from : ℕ) (first : ℕ) (numbers : List ℕ) (variants : List (List Placed))
         (lists : List Layout) (layouts : List (VariantLayout ℕ)) → EachApart size variants layouts
         → length numbers ≡ length variants → AreFieldLists (λ i. i) dl repr AlwaysSized (layouts_of variants) lists
         → AreBesideNiche place width size untagged from lists layouts
-        → AreListsBeside dl repr place width size untagged from (arms_at whole mark first layouts numbers variants)
-    beside_arms place width untagged from first numbers [] lists [] apart long own places = tt
-    beside_arms place width untagged from first numbers [] lists (l ∷ layouts) apart long own places = absurd apart
-    beside_arms place width untagged from first numbers (ps ∷ variants) lists [] apart long own places = absurd apart
-    beside_arms place width untagged from first numbers (ps ∷ variants) [] (l ∷ layouts) apart long own places =
+        → AreListsBeside dl repr place width size untagged from (tagged_variants_at whole mark first layouts numbers variants)
+    beside_tagged_variants place width untagged from first numbers [] lists [] apart long own places = tt
+    beside_tagged_variants place width untagged from first numbers [] lists (l ∷ layouts) apart long own places = absurd apart
+    beside_tagged_variants place width untagged from first numbers (ps ∷ variants) lists [] apart long own places = absurd apart
+    beside_tagged_variants place width untagged from first numbers (ps ∷ variants) [] (l ∷ layouts) apart long own places =
         absurd own
-    beside_arms place width untagged from first [] (ps ∷ variants) (list ∷ lists) (l ∷ layouts) apart long own places =
+    beside_tagged_variants place width untagged from first [] (ps ∷ variants) (list ∷ lists) (l ∷ layouts) apart long own places =
         absurd (omega (arith, long))
-    beside_arms place width untagged from first (n ∷ numbers) (ps ∷ variants) (list ∷ lists)
+    beside_tagged_variants place width untagged from first (n ∷ numbers) (ps ∷ variants) (list ∷ lists)
         (l ∷ layouts) apart long own places =
         let count : length l.field_offsets ≡ length ps = apart_long size l.field_offsets (map size_of ps) apart.0
         ∙ length-map ps size_of in
@@ -197,11 +197,11 @@ module _ (dl : TargetDataLayout) (repr : ReprOptions) where
             subst (λ a. MatchBool (from == untagged) (one.0 ≡ 0) (MayMove place width size list.size a one.0))
                 (align ∙ type) one.2,
           ),
-          beside_arms place width untagged (from + 1) (first + 1) numbers variants lists layouts apart.1
+          beside_tagged_variants place width untagged (from + 1) (first + 1) numbers variants lists layouts apart.1
               (omega (arith, long)) own.1 places.1,
         )
 
--- the lists that several variants come from, by what tells them apart
+-- the lists that several variants come from, by what distinguishes them
 abbrev HasLists : TargetDataLayout → ReprOptions → (values : List ℕ) → (variants : List (List Layout)) → Layout
     → LayoutVariants ℕ ℕ → Type 0
 HasLists dl repr values variants l (Multiple tag Direct field layouts) =
@@ -220,7 +220,7 @@ module _ (dl : TargetDataLayout) (law : IsLawfulDataLayout dl) (repr : ReprOptio
   -- the layout's lists, by discriminants
   abbrev Listed : List (ℕ × ℕ) → Layout → Type 0
   Listed items l =
-      HasLists dl repr (counting_of (λ i. i) repr (map (map layout_of) variants) items)
+      HasLists dl repr (counted_discriminants (λ i. i) repr (map (map layout_of) variants) items)
       (map (map layout_of) variants) l l.variants
 
   tagged_lists : OfTagged layout_of (λ i. i) (λ i. i) (λ i. i) (λ i. i) dl repr (IsTagIntegerAnswer dl repr) variants Listed
@@ -253,13 +253,13 @@ module _ (dl : TargetDataLayout) (law : IsLawfulDataLayout dl) (repr : ReprOptio
             (untagged_of lists) 0 lists p.placed p.beside),
       )
 
-  -- each arm comes from its list
-  each_arm : (l : Layout) (tag : Scalar) (encoding : TagEncoding ℕ) (field : ℕ) (layouts : List (VariantLayout ℕ))
+  -- each tagged variant comes from its list
+  each_tagged_variant : (l : Layout) (tag : Scalar) (encoding : TagEncoding ℕ) (field : ℕ) (layouts : List (VariantLayout ℕ))
       → EachApart l.size variants layouts
       → HasLists dl repr (counted repr numbers variants) (layouts_of variants) l (Multiple tag encoding field layouts)
       → AreLeastVariants dl repr numbers l.size (tag_offset l) (one_scalar dl tag) encoding
-      (arms_at l (mark_of true repr) 0 layouts numbers variants)
-  each_arm l tag Direct field layouts apart (asked, signed, is, no_less, lists, own, places) =
+      (tagged_variants_at l (mark_of true repr) 0 layouts numbers variants)
+  each_tagged_variant l tag Direct field layouts apart (asked, signed, is, no_less, lists, own, places) =
       let back = variants_back l (mark_of true repr) 0 l.size layouts numbers variants apart long in (
         asked,
         signed,
@@ -267,13 +267,13 @@ module _ (dl : TargetDataLayout) (law : IsLawfulDataLayout dl) (repr : ReprOptio
         no_less,
         subst (λ vs. AreMovedLists dl repr (behind_tag dl repr asked (layouts_of vs))
             (moved (integer_size asked) (scalar_size dl tag))
-            (arms_at l (mark_of true repr) 0 layouts numbers variants))
+            (tagged_variants_at l (mark_of true repr) 0 layouts numbers variants))
             (sym back)
-            (moved_arms dl repr l (mark_of true repr) l.size (behind_tag dl repr asked (layouts_of variants))
+            (moved_tagged_variants dl repr l (mark_of true repr) l.size (behind_tag dl repr asked (layouts_of variants))
             (integer_size asked) (scalar_size dl tag) 0 numbers variants lists layouts apart long own places),
       )
-  each_arm l tag (Niche untagged span start) field layouts apart (lists, own, places) =
-      beside_arms dl repr l (mark_of true repr) l.size (tag_offset l)
+  each_tagged_variant l tag (Niche untagged span start) field layouts apart (lists, own, places) =
+      beside_tagged_variants dl repr l (mark_of true repr) l.size (tag_offset l)
       (scalar_size dl tag) untagged 0 0 numbers variants lists layouts apart long own places
 
 module _ (dl : TargetDataLayout) (law : IsLawfulDataLayout dl) (repr : ReprOptions) (all : Variants)
@@ -300,7 +300,7 @@ module _ (dl : TargetDataLayout) (law : IsLawfulDataLayout dl) (repr : ReprOptio
       (put_there dl repr AlwaysSized (listed_offsets h.0.fields) h.0.size ps count
       (least_list dl repr AlwaysSized (map layout_of ps) h.0 list))
 
-  listed_several : (l : Layout) → path_of true repr (layouts_of variants) ≡ Several
+  listed_several : (l : Layout) → strategy_of true repr (layouts_of variants) ≡ Several
       → Answers dl law repr (discriminants_of all) variants none long whole Several (Ok l) → With l l.variants
   listed_several l way h =
       let found =
@@ -311,21 +311,21 @@ module _ (dl : TargetDataLayout) (law : IsLawfulDataLayout dl) (repr : ReprOptio
       (λ items. items ≡ numbered_from 0 (discriminants_of all)) l h in
       let lists : HasLists dl repr (counted repr (discriminants_of all) variants) (layouts_of variants) l l.variants
       = subst (λ items. Listed dl law repr (discriminants_of all) variants none long whole items l) found.1 found.2 in
-      by_arms dl law repr (discriminants_of all) variants none long whole
+      by_tagged_variants dl law repr (discriminants_of all) variants none long whole
       (λ vs. HasLists dl repr (counted repr (discriminants_of all) variants) (layouts_of variants) l vs → With l vs) l
       way h
-      (λ tag encoding field layouts apart have. each_arm dl law repr
+      (λ tag encoding field layouts apart have. each_tagged_variant dl law repr
       (discriminants_of all) variants none long whole l tag encoding field layouts apart have) lists
 
-  listed_by : (path : Path) → path_of true repr (layouts_of variants) ≡ path → (l : Layout)
-      → Answers dl law repr (discriminants_of all) variants none long whole path (Ok l) → With l l.variants
+  listed_by : (strategy : EnumStrategy) → strategy_of true repr (layouts_of variants) ≡ strategy → (l : Layout)
+      → Answers dl law repr (discriminants_of all) variants none long whole strategy (Ok l) → With l l.variants
   listed_by NoValue way l h = let same : never_layout dl ≡ l = cc in subst (λ (m : Layout). With m m.variants) same tt
   listed_by (OneList i) way l h = listed_one i l h
   listed_by Several way l h = listed_several l way h
 
   listed_enum : (l : Layout) → IsEnumed dl repr (discriminants_of all) variants (Ok l)
       → HasLeastLists dl (enum repr all) (placed_enum dl repr (discriminants_of all) variants l)
-  listed_enum l h = listed_by (path_of true repr (layouts_of variants)) refl l h
+  listed_enum l h = listed_by (strategy_of true repr (layouts_of variants)) refl l h
 
 -- ---- a coroutine
 
@@ -367,7 +367,7 @@ module _ (dl : TargetDataLayout) (kind : StructKind) (ps : List Placed) (promote
       → AreFieldLists (λ i. i) dl default_repr kind (own_lists (map layout_of ps) promoted states) lists
       → AreStatesOf (λ i. i) (λ i. i) promoted shared ranks states lists layouts
       → AreStateLists dl kind (map layout_of ps) promoted shared states
-      (arms_at whole mark first layouts numbers (map (map (placed_in ps)) states))
+      (tagged_variants_at whole mark first layouts numbers (map (map (placed_in ps)) states))
   states_from first numbers [] [] [] long own h = tt
   states_from first numbers [] [] (l ∷ layouts) long own h = absurd h
   states_from first numbers [] (x ∷ lists) layouts long own h = absurd own
@@ -393,8 +393,8 @@ module _ (dl : TargetDataLayout) (law : IsLawfulDataLayout dl) where
     abbrev promoted : List Bool
     promoted = promoted_of states (conflicts_of (length ps) conflicts)
 
-    abbrev arms : Arms
-    arms = arms_at layout Plain 0 (layouts_in layout.variants) (source_order (length states))
+    abbrev tagged_variants : TaggedVariants
+    tagged_variants = tagged_variants_at layout Plain 0 (layouts_in layout.variants) (source_order (length states))
         (map (map (placed_in ps)) states)
 
     abbrev first_of : List Placed → Scalar → List Layout
@@ -404,7 +404,7 @@ module _ (dl : TargetDataLayout) (law : IsLawfulDataLayout dl) where
     abbrev AreLists : (shared : List ℕ) → (size : ℕ) → List Placed → Scalar → (offsets : List ℕ) → Type 0
     AreLists shared size qs t offsets =
         IsLeastList dl default_repr AlwaysSized (first_of qs t) offsets size
-        × AreStateLists dl (behind_first dl (first_of qs t) size) (map layout_of ps) promoted shared states arms
+        × AreStateLists dl (behind_first dl (first_of qs t) size) (map layout_of ps) promoted shared states tagged_variants
 
     module _ (made : IsMadeOfStates (λ i. i) (λ i. i) 0 dl (map layout_of pres) (map layout_of ps) states
         (conflicts_of (length ps) conflicts) layout)
@@ -421,7 +421,7 @@ module _ (dl : TargetDataLayout) (law : IsLawfulDataLayout dl) where
           (first_of pres made.tag) = made.shared.placed.2.alignment in (
             least_list dl default_repr AlwaysSized (first_of pres made.tag) made.first made.shared,
             subst (λ a. AreStateLists dl (Prefixed made.first.size a) (map layout_of ps) promoted
-                (drop count offsets) states arms) align
+                (drop count offsets) states tagged_variants) align
                 (states_from dl (Prefixed made.first.size made.first.align.abi) ps promoted (drop count offsets)
                 (ranks_of (λ i. i) count (listed_order made.first.fields)) layout Plain 0
                 (source_order (length states)) states made.lists

@@ -22,11 +22,11 @@ use Rattle.abi_univariant.specs.Apart.{AreApart}
 use Rattle.abi_univariant.specs.List.{AreSized}
 use Rattle.abi_univariant.proofs.Promised.LeastLemmas.{answer_large, answer_refused, never_large as listed_never_large}
 use Rattle.abi_univariant.specs.Least.{IsLeastSize}
-use Rattle.abi_calc.specs.declared.enums.path.Path.{Path}
-use Rattle.abi_calc.specs.declared.enums.path.Path.TheVariants.{NoValue, OneList, Several}
+use Rattle.abi_calc.specs.declared.enums.strategy.EnumStrategy.{EnumStrategy}
+use Rattle.abi_calc.specs.declared.enums.strategy.EnumStrategy.TheVariants.{NoValue, OneList, Several}
 use Rattle.abi_calc.specs.Enums.Answer.{IsTypeAnswer}
 use Rattle.abi_calc.specs.Enums.Lists.{behind_tag}
-use Rattle.abi_calc.specs.Enums.Path.{path_of, variant_at}
+use Rattle.abi_calc.specs.Enums.EnumStrategy.{strategy_of, variant_at}
 use Rattle.abi_calc.specs.Enums.Several.{IsAlwaysTooLarge, IsAskedTooLarge, IsSeveralAnswer}
 use Rattle.abi_calc.specs.Enums.Single.{IsSingleAnswer}
 use Rattle.abi_calc.specs.Enums.Sizes.{IsTaggedTooLarge}
@@ -42,10 +42,10 @@ use Rattle.abi_tree.specs.Placed.{Placed, layout_of, size_of}
 use Rattle.abi_scalar.specs.Layout.{Layout}
 use Rattle.rustc_abi.specs.Error.{lay_error}
 use Rattle.abi_tree.specs.Nodes.{parts_at}
-use Rattle.rustc_abi.specs.Enums.{IsCalculated, IsEnumed, IsTagIntegerAnswer, arms_at, counted, layouts_of, numbered_from}
+use Rattle.rustc_abi.specs.Enums.{IsCalculated, IsEnumed, IsTagIntegerAnswer, tagged_variants_at, counted, layouts_of, numbered_from}
 use Rattle.rustc_abi.specs.Laying.{enum_fault, placed_enum, placed_variants}
-use Rattle.rustc_abi.specs.Least.{IsEnumSized, IsEnumTooLarge, IsLeastEnum, IsTooLargeBy, fields_of, fields_of_arms}
-use Rattle.rustc_abi.proofs.Enums.ArmsLemmas.{EachApart, apart_behind, apart_beside}
+use Rattle.rustc_abi.specs.Least.{IsEnumSized, IsEnumTooLarge, IsLeastEnum, IsTooLargeBy, fields_of, fields_of_tagged_variants}
+use Rattle.rustc_abi.proofs.Enums.TaggedVariantsLemmas.{EachApart, apart_behind, apart_beside}
 use Rattle.rustc_abi.proofs.Trees.LaidLemmas.{IsWhole, aligns_of, asked_sized, each_lawful, each_of, tags_of}
 use Rattle.rustc_abi.proofs.Enums.TagIntegerLemmas.{tag_integer_one}
 use Rattle.abi_scalar.specs.declared.error.LayoutCalculatorError.TheVariants as calculator
@@ -68,14 +68,14 @@ apart_long size (o ∷ offsets) (n ∷ sizes) h = ap suc (apart_long size offset
 pub variants_back : (whole : Layout) (mark : Mark) (first : ℕ) (size : ℕ) (layouts : List (VariantLayout ℕ))
     (numbers : List ℕ) (variants : List (List Placed)) → EachApart size variants layouts
     → length numbers ≡ length variants →
-    fields_of_arms (arms_at whole mark first layouts numbers variants) ≡ variants
+    fields_of_tagged_variants (tagged_variants_at whole mark first layouts numbers variants) ≡ variants
 variants_back whole mark first size [] numbers [] apart long = refl
 variants_back whole mark first size [] numbers (ps ∷ variants) apart long = absurd apart
 variants_back whole mark first size (l ∷ layouts) numbers [] apart long = absurd apart
 variants_back whole mark first size (l ∷ layouts) [] (ps ∷ variants) apart long = absurd (omega (arith, long))
 variants_back whole mark first size (l ∷ layouts) (n ∷ numbers) (ps ∷ variants) apart long =
     let here : fields_of (parts_at l.field_offsets ps) ≡ ps = fields_back l.field_offsets ps (omega (arith, apart_long size l.field_offsets (map size_of ps) apart.0 ∙ length-map ps size_of)) in
-    ap (λ qs. qs ∷ fields_of_arms (arms_at whole mark (first + 1) layouts numbers variants)) here ∙ ap (λ rest. ps ∷ rest) (variants_back whole mark (first + 1) size layouts numbers variants apart.1 (omega (arith, long)))
+    ap (λ qs. qs ∷ fields_of_tagged_variants (tagged_variants_at whole mark (first + 1) layouts numbers variants)) here ∙ ap (λ rest. ps ∷ rest) (variants_back whole mark (first + 1) size layouts numbers variants apart.1 (omega (arith, long)))
 
 -- an error that is told as that of a size is it
 pub size_error : (error : LayoutCalculatorError Placed) → SizeOverflow ≡ lay_error error → error ≡ calculator.SizeOverflow
@@ -109,9 +109,9 @@ IsShaped dl repr numbers variants l (Multiple tag encoding field layouts) = Each
 
 module _ (dl : TargetDataLayout) (law : IsLawfulDataLayout dl) (repr : ReprOptions) (numbers : List ℕ) (variants : List (List Placed)) (none : enum_fault dl repr numbers variants ≡ None)
     (long : length numbers ≡ length variants) (whole : All (All (IsWhole dl)) variants) where
-  abbrev pub Answers : Path → Result Layout (LayoutCalculatorError Placed) → Type 0
-  Answers path r =
-      IsTypeAnswer layout_of (λ i. i) (λ i. i) (λ i. i) (λ i. i) dl repr variants true true Enabled (IsTagIntegerAnswer dl repr) (λ items. items ≡ numbered_from 0 numbers) path r
+  abbrev pub Answers : EnumStrategy → Result Layout (LayoutCalculatorError Placed) → Type 0
+  Answers strategy r =
+      IsTypeAnswer layout_of (λ i. i) (λ i. i) (λ i. i) (λ i. i) dl repr variants true true Enabled (IsTagIntegerAnswer dl repr) (λ items. items ≡ numbered_from 0 numbers) strategy r
 
   lawful : All (All (λ p. IsLawfulLayout dl (layout_of p))) variants
   lawful = each_lawful dl variants whole
@@ -129,7 +129,7 @@ module _ (dl : TargetDataLayout) (law : IsLawfulDataLayout dl) (repr : ReprOptio
   not_packed (inr (inl want)) = want.0
   not_packed (inr (inr h)) = h.0
 
-  large_by : (path : Path) → path_of true repr (layouts_of variants) ≡ path → Answers path (Err calculator.SizeOverflow) → IsTooLargeBy dl repr numbers variants path
+  large_by : (strategy : EnumStrategy) → strategy_of true repr (layouts_of variants) ≡ strategy → Answers strategy (Err calculator.SizeOverflow) → IsTooLargeBy dl repr numbers variants strategy
   large_by NoValue way h = absurd (cc)
   large_by (OneList i) way h = answer_large layout_of (λ i. i) 0 dl repr AlwaysSized (variant_at variants i) (Err calculator.SizeOverflow) (lawful_at i) tt h refl
   large_by Several way h = (
@@ -142,7 +142,7 @@ module _ (dl : TargetDataLayout) (law : IsLawfulDataLayout dl) (repr : ReprOptio
   pub enumed_large : IsEnumed dl repr numbers variants (Err SizeOverflow) → IsEnumTooLarge dl repr numbers variants
   enumed_large (error, h, other, e) =
       let is : error ≡ calculator.SizeOverflow = size_error error e in
-      large_by (path_of true repr (layouts_of variants)) refl (subst (λ x. IsCalculated dl repr numbers variants (Err x)) is h)
+      large_by (strategy_of true repr (layouts_of variants)) refl (subst (λ x. IsCalculated dl repr numbers variants (Err x)) is h)
 
   -- what is too large by the integer that is asked for is so by each
   always : IsAskedTooLarge dl repr (IsTagIntegerAnswer dl repr) (counted repr numbers variants) (layouts_of variants) → IsAlwaysTooLarge dl repr (IsTagIntegerAnswer dl repr) (counted repr numbers variants) (layouts_of variants)
@@ -157,7 +157,7 @@ module _ (dl : TargetDataLayout) (law : IsLawfulDataLayout dl) (repr : ReprOptio
   one_of e (inl is) = inl is
   one_of e (inr is) = inr is
 
-  refused_by : (path : Path) → path_of true repr (layouts_of variants) ≡ path → IsTooLargeBy dl repr numbers variants path → (r : Result Layout (LayoutCalculatorError Placed)) → Answers path r → IsSizeOrMemory r
+  refused_by : (strategy : EnumStrategy) → strategy_of true repr (layouts_of variants) ≡ strategy → IsTooLargeBy dl repr numbers variants strategy → (r : Result Layout (LayoutCalculatorError Placed)) → Answers strategy r → IsSizeOrMemory r
   refused_by NoValue way large r h = absurd large
   refused_by (OneList i) way large (Ok l) h = absurd (listed_never_large layout_of (λ i. i) 0 dl repr AlwaysSized (variant_at variants i) h.1.0 h.1.1 h.0 tt h.1.2 large)
   refused_by (OneList i) way large (Err e) h = one_of e (answer_refused layout_of (λ i. i) 0 dl repr AlwaysSized (variant_at variants i) (Err e) tt h (sized_at i) large)
@@ -167,12 +167,12 @@ module _ (dl : TargetDataLayout) (law : IsLawfulDataLayout dl) (repr : ReprOptio
 
   -- an enum that is too large is refused for its size
   pub enumed_refused : IsEnumTooLarge dl repr numbers variants → (r : Result Layout LayError) → IsEnumed dl repr numbers variants r → r ≡ Err SizeOverflow
-  enumed_refused large (Ok l) h = never (refused_by (path_of true repr (layouts_of variants)) refl large (Ok l) h)
+  enumed_refused large (Ok l) h = never (refused_by (strategy_of true repr (layouts_of variants)) refl large (Ok l) h)
     where
       never : IsSizeOrMemory (Ok l) → ◌≡◌ {A = Result Layout LayError} (Ok l) (Err SizeOverflow)
       never (inl e) = absurd (cc)
       never (inr e) = absurd (cc)
-  enumed_refused large (Err e) (error, h, other, is) = named (refused_by (path_of true repr (layouts_of variants)) refl large (Err error) h)
+  enumed_refused large (Err e) (error, h, other, is) = named (refused_by (strategy_of true repr (layouts_of variants)) refl large (Err error) h)
     where
       named : IsSizeOrMemory (Err error) → ◌≡◌ {A = Result Layout LayError} (Err e) (Err SizeOverflow)
       named (inl size) = let same : error ≡ calculator.SizeOverflow = cc in ap (λ x. Err x) (is ∙ ap lay_error same)
@@ -180,54 +180,54 @@ module _ (dl : TargetDataLayout) (law : IsLawfulDataLayout dl) (repr : ReprOptio
 
   -- ---- how large it is
 
-  shaped_one : (i : ℕ) → path_of true repr (layouts_of variants) ≡ OneList i → (l : Layout) → IsSingleAnswer layout_of (λ i. i) 0 i dl repr AlwaysSized Enabled (variant_at variants i) (Ok l) → IsShaped dl repr numbers variants l l.variants
+  shaped_one : (i : ℕ) → strategy_of true repr (layouts_of variants) ≡ OneList i → (l : Layout) → IsSingleAnswer layout_of (λ i. i) 0 i dl repr AlwaysSized Enabled (variant_at variants i) (Ok l) → IsShaped dl repr numbers variants l l.variants
   shaped_one i way l h =
       let ps : List Placed = variant_at variants i in
       let good = good_list layout_of (λ i. i) 0 dl repr AlwaysSized ps h.0 law (lawful_at i) (aligns_of dl law repr numbers variants none long) tt tt h.1 in
       let count : length (listed_offsets h.0.fields) ≡ length ps = apart_long h.0.size (listed_offsets h.0.fields) (map size_of ps) good.apart ∙ length-map ps size_of in
       subst (λ (m : Layout). IsShaped dl repr numbers variants m m.variants) (sym h.2) (index_within layout_of repr variants true i (λ e. absurd (cc)) way, count, good.least)
 
-  abbrev pub OfArmsApart : (Q : LayoutVariants ℕ ℕ → Type 0) → (size : ℕ) → Type 0
-  OfArmsApart Q size = (tag : Scalar) (encoding : TagEncoding ℕ) (field : ℕ) (layouts : List (VariantLayout ℕ))
+  abbrev pub OfTaggedVariantsApart : (Q : LayoutVariants ℕ ℕ → Type 0) → (size : ℕ) → Type 0
+  OfTaggedVariantsApart Q size = (tag : Scalar) (encoding : TagEncoding ℕ) (field : ℕ) (layouts : List (VariantLayout ℕ))
       → EachApart size variants layouts → Q (Multiple tag encoding field layouts)
 
-  arms_by : (Q : LayoutVariants ℕ ℕ → Type 0) (l : Layout) (tag : Scalar) (encoding : TagEncoding ℕ) (field : ℕ)
+  tagged_variants_by : (Q : LayoutVariants ℕ ℕ → Type 0) (l : Layout) (tag : Scalar) (encoding : TagEncoding ℕ) (field : ℕ)
       (layouts : List (VariantLayout ℕ)) → l.variants ≡ Multiple tag encoding field layouts
       → EachApart l.size variants layouts →
-      OfArmsApart Q l.size → Q l.variants
-  arms_by Q l tag encoding field layouts told apart each = subst Q (sym told) (each tag encoding field layouts apart)
+      OfTaggedVariantsApart Q l.size → Q l.variants
+  tagged_variants_by Q l tag encoding field layouts tag_distinguishes apart each = subst Q (sym tag_distinguishes) (each tag encoding field layouts apart)
 
   -- what holds of several variants that are laid apart holds of those of the layout
-  pub by_arms : (Q : LayoutVariants ℕ ℕ → Type 0) (l : Layout) → path_of true repr (layouts_of variants) ≡ Several
-      → Answers Several (Ok l) → OfArmsApart Q l.size → Q l.variants
-  by_arms Q l way h each =
+  pub by_tagged_variants : (Q : LayoutVariants ℕ ℕ → Type 0) (l : Layout) → strategy_of true repr (layouts_of variants) ≡ Several
+      → Answers Several (Ok l) → OfTaggedVariantsApart Q l.size → Q l.variants
+  by_tagged_variants Q l way h each =
       ⊎_elim
-      (λ t. arms_by Q l t.tag _ t.field t.layouts t.told (apart_behind l.size _ variants t.layouts t.apart) each)
-      (λ t. arms_by Q l t.tag _ t.field t.layouts t.told (apart_beside l.size _ _ _ 0 variants t.layouts t.apart) each)
+      (λ t. tagged_variants_by Q l t.tag _ t.field t.layouts t.tag_distinguishes (apart_behind l.size _ variants t.layouts t.apart) each)
+      (λ t. tagged_variants_by Q l t.tag _ t.field t.layouts t.tag_distinguishes (apart_beside l.size _ _ _ 0 variants t.layouts t.apart) each)
       (enum_told layout_of dl law repr (IsTagIntegerAnswer dl repr) variants (numbered_from 0 numbers)
       (aligns_of dl law repr numbers variants none long) lawful (several_some layout_of repr variants true way)
       (each_of dl law repr numbers variants none long) (tags_of dl law repr numbers variants none long) l h)
 
-  several_size : (l : Layout) → path_of true repr (layouts_of variants) ≡ Several → Answers Several (Ok l)
+  several_size : (l : Layout) → strategy_of true repr (layouts_of variants) ≡ Several → Answers Several (Ok l)
       → IsEnumSized dl repr numbers variants l.size
   several_size l way h =
       enum_size layout_of dl law repr (IsTagIntegerAnswer dl repr) variants (numbered_from 0 numbers)
       (aligns_of dl law repr numbers variants none long) lawful (several_some layout_of repr variants true way)
       (each_of dl law repr numbers variants none long) (tags_of dl law repr numbers variants none long) l h
 
-  shaped_by : (path : Path) → path_of true repr (layouts_of variants) ≡ path → (l : Layout) → Answers path (Ok l) → IsShaped dl repr numbers variants l l.variants
+  shaped_by : (strategy : EnumStrategy) → strategy_of true repr (layouts_of variants) ≡ strategy → (l : Layout) → Answers strategy (Ok l) → IsShaped dl repr numbers variants l l.variants
   shaped_by NoValue way l h = let same : never_layout dl ≡ l = cc in subst (λ (m : Layout). IsShaped dl repr numbers variants m m.variants) same tt
   shaped_by (OneList i) way l h = shaped_one i way l h
   shaped_by Several way l h =
-      by_arms (IsShaped dl repr numbers variants l) l way h
+      by_tagged_variants (IsShaped dl repr numbers variants l) l way h
       (λ tag encoding field layouts apart. (apart, several_size l way h))
 
   -- an enum that is laid out has such a layout
   pub enumed_shaped : (l : Layout) → IsEnumed dl repr numbers variants (Ok l) → IsShaped dl repr numbers variants l l.variants
-  enumed_shaped l h = shaped_by (path_of true repr (layouts_of variants)) refl l h
+  enumed_shaped l h = shaped_by (strategy_of true repr (layouts_of variants)) refl l h
 
-  abbrev IsLeastBy : Path → Layout → LayoutVariants ℕ ℕ → Type 0
-  IsLeastBy path l vs = IsLeastEnum dl repr numbers variants path (placed_variants dl repr numbers variants l vs)
+  abbrev IsLeastBy : EnumStrategy → Layout → LayoutVariants ℕ ℕ → Type 0
+  IsLeastBy strategy l vs = IsLeastEnum dl repr numbers variants strategy (placed_variants dl repr numbers variants l vs)
 
   least_one : (i : ℕ) (l : Layout) → IsSingleAnswer layout_of (λ i. i) 0 i dl repr AlwaysSized Enabled
       (variant_at variants i) (Ok l) → IsLeastBy (OneList i) l l.variants
@@ -240,17 +240,17 @@ module _ (dl : TargetDataLayout) (law : IsLawfulDataLayout dl) (repr : ReprOptio
       subst (λ (m : Layout). IsLeastBy (OneList i) m m.variants) (sym h.2)
       (refl, fields_back (listed_offsets h.0.fields) ps (omega (arith, count)), good.least)
 
-  least_by : (path : Path) → path_of true repr (layouts_of variants) ≡ path → (l : Layout) → Answers path (Ok l)
-      → IsLeastBy path l l.variants
+  least_by : (strategy : EnumStrategy) → strategy_of true repr (layouts_of variants) ≡ strategy → (l : Layout) → Answers strategy (Ok l)
+      → IsLeastBy strategy l l.variants
   least_by NoValue way l h = let same : never_layout dl ≡ l = cc in
       subst (λ (m : Layout). IsLeastBy NoValue m m.variants) same refl
   least_by (OneList i) way l h = least_one i l h
   least_by Several way l h =
-      by_arms (IsLeastBy Several l) l way h (λ tag encoding field layouts
+      by_tagged_variants (IsLeastBy Several l) l way h (λ tag encoding field layouts
       apart. (variants_back l (mark_of true repr) 0 l.size layouts numbers variants apart long, several_size l way h))
 
   -- and has the size that its variants allow
   pub enumed_least : (l : Layout) → IsEnumed dl repr numbers variants (Ok l)
-      → IsLeastEnum dl repr numbers variants (path_of true repr (layouts_of variants))
+      → IsLeastEnum dl repr numbers variants (strategy_of true repr (layouts_of variants))
       (placed_enum dl repr numbers variants l)
-  enumed_least l h = least_by (path_of true repr (layouts_of variants)) refl l h
+  enumed_least l h = least_by (strategy_of true repr (layouts_of variants)) refl l h

@@ -15,14 +15,14 @@ use Rattle.abi_scalar.specs.Pair.{pair_size}
 use Rattle.abi_scalar.specs.Scalar.{primitive_of}
 use Rattle.abi_scalar.specs.Shape.{listed_offsets}
 use Rattle.abi_univariant.specs.declared.order.NicheBias.TheVariants.{Start}
-use Rattle.abi_univariant.specs.declared.placing.ListFault.{ListFault}
-use Rattle.abi_univariant.specs.declared.placing.ListFault.TheVariants.{Unsized, TooLarge, OutOfMemory}
+use Rattle.abi_univariant.specs.declared.placing.FieldsFault.{FieldsFault}
+use Rattle.abi_univariant.specs.declared.placing.FieldsFault.TheVariants.{Unsized, TooLarge, OutOfMemory}
 use Rattle.abi_univariant.specs.Array.{elements_layout}
 use Rattle.abi_univariant.specs.Fault.{IsErrorOf, fault_in}
 use Rattle.abi_univariant.specs.List.{AreSized}
 use Rattle.abi_univariant.specs.Order.{IsNamedOrder}
 use Rattle.abi_univariant.specs.Simd.{simd_answer, IsVectorTooLarge}
-use Rattle.abi_univariant.specs.Placement.{IsAllowed, IsNonEmptyIfUnsized, list_repr, size_in}
+use Rattle.abi_univariant.specs.Placement.{IsAllowed, IsNonEmptyIfUnsized, fields_repr, size_in}
 use Rattle.abi_univariant.proofs.Promised.DeepLemmas.{sized_fault, sized_in_order}
 use Rattle.abi_univariant.proofs.Placed.FaultLemmas.{clear_of, large_in, memory_in}
 use Rattle.abi_univariant.proofs.Sorted.Least.{all_too_large}
@@ -48,7 +48,7 @@ use Rattle.abi_scalar.specs.Layout.{Layout}
 use Rattle.abi_tree.specs.Placed.{states as placed_states}
 use Rattle.rustc_abi.specs.Error.{Follows, IsRefused, named, lay_error}
 use Rattle.rustc_abi.specs.ScalarFault.{is_lawful_primitive, has_range_within, scalar_fault}
-use Rattle.rustc_abi.specs.Laying.{IsListedInOrder, IsOrderedFieldsAnswer, ordered_fault, randomized}
+use Rattle.rustc_abi.specs.Laying.{IsListedInOrder, IsOrderedFieldsAnswer, ordered_fault, with_randomize_flag}
 use Rattle.rustc_abi.specs.Laying.{AreLaying, IsFieldsAnswer, IsLaying, IsLaidList, IsCoroutineOf, IsUnionOf, IsUnited, VariantsLaying, elements_answer, fields_fault, kind_of, lanes_of, one_scalar, pair_answer, placed_by, placed_fields, placed_together, scalar_answer, two_scalars, unless, vector_answer, placed_enum, enum_fault, has_bad_index, has_bad_align, IsEnumOf, coroutine_fault, most_fields, placed_coroutine}
 use Rattle.rustc_abi.specs.Coroutines.{IsCoroutined, IsStated, conflicts_of, names_unknown}
 use Rattle.rustc_abi.specs.Least.{HasOverlapSize, IsCoroutineSized, IsCoroutineTooLarge, IsLeast, IsOverlapSized}
@@ -77,7 +77,7 @@ not_order : SizeOverflow ≡ LayError.BadOrder → ⊥
 not_order e = absurd (cc)
 
 -- an error is of the size
-large_of : (ps : List Placed) (fault : ListFault) (error : LayoutCalculatorError Layout) → IsErrorOf (map layout_of ps) fault error → SizeOverflow ≡ lay_error error → fault ≡ TooLarge
+large_of : (ps : List Placed) (fault : FieldsFault) (error : LayoutCalculatorError Layout) → IsErrorOf (map layout_of ps) fault error → SizeOverflow ≡ lay_error error → fault ≡ TooLarge
 large_of ps (Unsized i) error h e = let other : lay_error error ≡ lay_error {H = Layout} (calculator.UnexpectedUnsized h.0) = ap lay_error h.2 in absurd (not_size (e ∙ other))
 large_of ps TooLarge error h e = refl
 large_of ps OutOfMemory error h e = let other : lay_error error ≡ lay_error {H = Layout} calculator.OutOfMemory = ap lay_error h in absurd (not_size_either (e ∙ other))
@@ -104,8 +104,8 @@ module _ (dl : TargetDataLayout) (repr : ReprOptions) (always_sized : Bool) (ps 
   some : IsNonEmptyIfUnsized (kind_of always_sized ps) (length (asked_of dl (map layout_of ps)))
   some = subst (IsNonEmptyIfUnsized (kind_of always_sized ps)) (sym (length-asked dl ps)) (some_field always_sized ps)
 
-  asked : (order : List ℕ) → IsOrderOf dl repr (kind_of always_sized ps) (length (map layout_of ps)) order → IsAllowed (list_repr dl repr (kind_of always_sized ps)) (length (asked_of dl (map layout_of ps))) order
-  asked order q = subst (λ n. IsAllowed (list_repr dl repr (kind_of always_sized ps)) n order) (length-map ps layout_of ∙ sym (length-asked dl ps)) q
+  asked : (order : List ℕ) → IsOrderOf dl repr (kind_of always_sized ps) (length (map layout_of ps)) order → IsAllowed (fields_repr dl repr (kind_of always_sized ps)) (length (asked_of dl (map layout_of ps))) order
+  asked order q = subst (λ n. IsAllowed (fields_repr dl repr (kind_of always_sized ps)) n order) (length-map ps layout_of ∙ sym (length-asked dl ps)) q
 
   -- a struct has its least size
   listed_least : (layout : Layout) → IsLaidList dl repr (kind_of always_sized ps) (map layout_of ps) (Ok layout) → IsLeastStruct dl repr always_sized ps layout.size
@@ -114,7 +114,7 @@ module _ (dl : TargetDataLayout) (repr : ReprOptions) (always_sized : Bool) (ps 
   -- each field has an offset
   pub listed_count : (layout : Layout) → IsLaidList dl repr (kind_of always_sized ps) (map layout_of ps) (Ok layout) → length (listed_offsets layout.fields) ≡ length ps
   listed_count layout listed =
-      let made = biased_of dl (list_repr dl repr (kind_of always_sized ps)) (asked_of dl (map layout_of ps)) listed.0 listed.1 layout.size layout.align.abi layout.largest_niche listed.2.named in
+      let made = biased_of dl (fields_repr dl repr (kind_of always_sized ps)) (asked_of dl (map layout_of ps)) listed.0 listed.1 layout.size layout.align.abi layout.largest_niche listed.2.named in
       ap (λ shape. length (listed_offsets shape)) listed.2.shape ∙ made.placed.count ∙ length-asked dl ps
 
   -- what is laid out is not too large in each order
@@ -127,7 +127,7 @@ module _ (dl : TargetDataLayout) (repr : ReprOptions) (always_sized : Bool) (ps 
   -- a list that is refused for its size is too large in each order
   refused_large : IsLaidList dl repr (kind_of always_sized ps) (map layout_of ps) (Err SizeOverflow) → IsStructTooLarge dl repr always_sized ps
   refused_large (error, (first, named, fault, there, of), e) other q =
-      let list = list_repr dl repr (kind_of always_sized ps) in
+      let list = fields_repr dl repr (kind_of always_sized ps) in
       let ls = map (λ (l : Layout). l) (map layout_of ps) in
       let large : fault ≡ TooLarge = large_of ps fault error of e in
       let over : size_bound dl ≤ size_in list (asked_of dl ls) first = large_in list (size_bound dl) (asked_of dl ls) first (there ∙ ap (λ f. Some f) large) in
@@ -135,19 +135,19 @@ module _ (dl : TargetDataLayout) (repr : ReprOptions) (always_sized : Bool) (ps 
       let order = subst (λ layouts. IsNamedOrder list Start (asked_of dl layouts) first) plain named in
       all_too_large list Start (asked_of dl (map layout_of ps)) first (size_bound dl) (asked_aligned dl ps whole) some order bound other (asked other q)
 
-  name_of : (order : List ℕ) (fault : ListFault) (error : LayoutCalculatorError Layout) → IsErrorOf (map layout_of ps) fault error
-      → fault_in (list_repr dl repr (kind_of always_sized ps)) (size_bound dl) (asked_of dl (map (λ (l : Layout). l) (map layout_of ps))) order ≡ Some fault
+  name_of : (order : List ℕ) (fault : FieldsFault) (error : LayoutCalculatorError Layout) → IsErrorOf (map layout_of ps) fault error
+      → fault_in (fields_repr dl repr (kind_of always_sized ps)) (size_bound dl) (asked_of dl (map (λ (l : Layout). l) (map layout_of ps))) order ≡ Some fault
       → (fault ≡ TooLarge) ⊎ (fault ≡ OutOfMemory) → lay_error error ≡ SizeOverflow
   name_of order (Unsized i) error h there (inl e) = absurd (cc)
   name_of order (Unsized i) error h there (inr e) = absurd (cc)
   name_of order TooLarge error h there large = ap lay_error h
   name_of order OutOfMemory error h there large =
-      absurd (memory_in (list_repr dl repr (kind_of always_sized ps)) (size_bound dl) (asked_of dl (map (λ (l : Layout). l) (map layout_of ps))) order there)
+      absurd (memory_in (fields_repr dl repr (kind_of always_sized ps)) (size_bound dl) (asked_of dl (map (λ (l : Layout). l) (map layout_of ps))) order there)
 
   -- a refusal of sized fields is one for their size
   refused_for_size : (e : LayError) → IsLaidList dl repr (kind_of always_sized ps) (map layout_of ps) (Err e) → e ≡ SizeOverflow
   refused_for_size e (error, (first, named, fault, there, of), is) =
-      let list = list_repr dl repr (kind_of always_sized ps) in
+      let list = fields_repr dl repr (kind_of always_sized ps) in
       let sized = subst AreSized (sym plain) (asked_sized dl ps whole) in
       let full = subst (λ layouts. IsNonEmptyIfUnsized (kind_of always_sized ps) (length (asked_of dl layouts))) (sym plain) some in
       is ∙ name_of first fault error of there (sized_fault (λ (l : Layout). l) dl list (map layout_of ps) fault sized full (inl (first, named, there)))
@@ -158,7 +158,7 @@ module _ (dl : TargetDataLayout) (repr : ReprOptions) (kind : StructKind) (order
   -- what is laid out is not too large
   ordered_small : (layout : Layout) → IsListedInOrder dl repr kind order (map layout_of ps) (Ok layout) → size_bound dl ≤ size_by dl repr kind (map layout_of ps) order → ⊥
   ordered_small layout listed large =
-      let below = (clear_of (list_repr dl repr kind) (size_bound dl) (asked_of dl (map layout_of ps)) order listed.1.named.1.faultless).1 in
+      let below = (clear_of (fields_repr dl repr kind) (size_bound dl) (asked_of dl (map layout_of ps)) order listed.1.named.1.faultless).1 in
       omega (arith, below, large)
 
   ordered_plain : map (λ (l : Layout). l) (map layout_of ps) ≡ map layout_of ps
@@ -169,13 +169,13 @@ module _ (dl : TargetDataLayout) (repr : ReprOptions) (kind : StructKind) (order
       IsOrderOf dl repr kind (length (map layout_of ps)) order × (size_bound dl ≤ size_by dl repr kind (map layout_of ps) order)
   ordered_large (error, inl (bad, is), e) = let other : lay_error error ≡ lay_error {H = Layout} calculator.BadOrder = ap lay_error is in absurd (not_order (e ∙ other))
   ordered_large (error, inr (allowed, fault, there, of), e) =
-      let list = list_repr dl repr kind in
+      let list = fields_repr dl repr kind in
       let ls = map (λ (l : Layout). l) (map layout_of ps) in
       let large : fault ≡ TooLarge = large_of ps fault error of e in
       let over : size_bound dl ≤ size_in list (asked_of dl ls) order = large_in list (size_bound dl) (asked_of dl ls) order (there ∙ ap (λ f. Some f) large) in
       (allowed, subst (λ layouts. size_bound dl ≤ size_in list (asked_of dl layouts) order) ordered_plain over)
 
-  ordered_name : (fault : ListFault) (error : LayoutCalculatorError Layout) → IsErrorOf (map layout_of ps) fault error
+  ordered_name : (fault : FieldsFault) (error : LayoutCalculatorError Layout) → IsErrorOf (map layout_of ps) fault error
       → fault ≡ TooLarge → lay_error error ≡ SizeOverflow
   ordered_name (Unsized i) error h e = absurd (cc)
   ordered_name TooLarge error h e = ap lay_error h
@@ -185,7 +185,7 @@ module _ (dl : TargetDataLayout) (repr : ReprOptions) (kind : StructKind) (order
   ordered_for_size : All (IsWhole dl) ps → IsOrderOf dl repr kind (length (map layout_of ps)) order → (e : LayError) → IsListedInOrder dl repr kind order (map layout_of ps) (Err e) → e ≡ SizeOverflow
   ordered_for_size whole allowed e (error, inl (bad, is), named) = absurd (bad allowed)
   ordered_for_size whole allowed e (error, inr (same, fault, there, of), named) =
-      let list = list_repr dl repr kind in
+      let list = fields_repr dl repr kind in
       let sized = subst AreSized (sym ordered_plain) (asked_sized dl ps whole) in
       let found = subst (λ layouts. fault_in list (size_bound dl) (asked_of dl layouts) order ≡ Some fault) ordered_plain there in
       named ∙ ordered_name fault error of (sized_in_order layout_of dl list ps order fault (asked_sized dl ps whole) (allowed_parts dl repr kind order ps allowed) found)
@@ -290,15 +290,15 @@ module _ (dl : TargetDataLayout) (law : IsLawfulDataLayout dl) where
   -- the same where the order is handed in
   abbrev OrderedBy : Option LayError → ReprOptions → (always_sized : Bool) → (order : List ℕ) → List Placed → Result Placed LayError → Type 0
   OrderedBy fault repr always_sized order ps r =
-      MatchOption fault (Follows (IsListedInOrder dl (randomized repr) (kind_of always_sized ps) order (map layout_of ps)) (λ layout z. z ≡ Ok (placed_fields repr ps layout)) r) (λ e. r ≡ Err e)
+      MatchOption fault (Follows (IsListedInOrder dl (with_randomize_flag repr) (kind_of always_sized ps) order (map layout_of ps)) (λ layout z. z ≡ Ok (placed_fields repr ps layout)) r) (λ e. r ≡ Err e)
 
   overflow_ordered : (fault : Option LayError) (repr : ReprOptions) (always_sized : Bool) (order : List ℕ) (all : Trees) (ps : List Placed) → ordered_fault repr ps ≡ fault → AreLaying dl all (Ok ps)
       → OrderedBy fault repr always_sized order ps (Err SizeOverflow)
       → IsTooLarge dl (struct repr always_sized (Some order) all)
   overflow_ordered None repr always_sized order all ps none there (inl (e, listed, is)) =
       let same : e ≡ SizeOverflow = cc in
-      let large = ordered_large dl (randomized repr) (kind_of always_sized ps) order ps (subst (λ x. IsListedInOrder dl (randomized repr) (kind_of always_sized ps) order (map layout_of ps) (Err x)) same listed) in
-      inr (ps, there, none, subst (λ n. IsOrderOf dl (randomized repr) (kind_of always_sized ps) n order) (length-map ps layout_of) large.0, large.1)
+      let large = ordered_large dl (with_randomize_flag repr) (kind_of always_sized ps) order ps (subst (λ x. IsListedInOrder dl (with_randomize_flag repr) (kind_of always_sized ps) order (map layout_of ps) (Err x)) same listed) in
+      inr (ps, there, none, subst (λ n. IsOrderOf dl (with_randomize_flag repr) (kind_of always_sized ps) n order) (length-map ps layout_of) large.0, large.1)
   overflow_ordered None repr always_sized order all ps none there (inr (layout, listed, is)) = absurd (cc)
   overflow_ordered (Some f) repr always_sized order all ps fault there e =
       let same : Some f ≡ Some SizeOverflow = cc in
@@ -308,20 +308,20 @@ module _ (dl : TargetDataLayout) (law : IsLawfulDataLayout dl) where
       → OrderedBy fault repr always_sized order ps (Ok p) → IsLeast dl (struct repr always_sized (Some order) all) p
   least_ordered fault repr always_sized order all ps p answer =
       let kind = kind_of always_sized ps in
-      let found = laid_by fault (IsListedInOrder dl (randomized repr) kind order (map layout_of ps)) (placed_fields repr ps) p answer in
+      let found = laid_by fault (IsListedInOrder dl (with_randomize_flag repr) kind order (map layout_of ps)) (placed_fields repr ps) p answer in
       let layout : Layout = found.0 in
-      let count = ordered_count dl (randomized repr) kind order ps layout found.1 in
+      let count = ordered_count dl (with_randomize_flag repr) kind order ps layout found.1 in
       subst (IsLeast dl (struct repr always_sized (Some order) all)) found.2
-      (subst (λ qs. layout.size ≡ ordered_size dl repr always_sized order qs) (sym (fields_back (listed_offsets layout.fields) ps (omega (arith, count)))) (ordered_placed dl (randomized repr) kind order ps layout found.1).extent)
+      (subst (λ qs. layout.size ≡ ordered_size dl repr always_sized order qs) (sym (fields_back (listed_offsets layout.fields) ps (omega (arith, count)))) (ordered_placed dl (with_randomize_flag repr) kind order ps layout found.1).extent)
 
   refused_ordered : (fault : Option LayError) (repr : ReprOptions) (always_sized : Bool) (order : List ℕ) (all : Trees) (ps : List Placed) (r : Result Placed LayError) → fault ≡ None → AreLaying dl all (Ok ps)
       → IsOrderOfFields dl repr always_sized order ps → size_bound dl ≤ ordered_size dl repr always_sized order ps
       → OrderedBy fault repr always_sized order ps r → r ≡ Err SizeOverflow
   refused_ordered None repr always_sized order all ps r none there allowed large (inl (e, listed, is)) =
-      let own = subst (λ n. IsOrderOf dl (randomized repr) (kind_of always_sized ps) n order) (sym (length-map ps layout_of)) allowed in
-      is ∙ ap (λ x. Err x) (ordered_for_size dl (randomized repr) (kind_of always_sized ps) order ps (all_whole dl law all ps there) own e listed)
+      let own = subst (λ n. IsOrderOf dl (with_randomize_flag repr) (kind_of always_sized ps) n order) (sym (length-map ps layout_of)) allowed in
+      is ∙ ap (λ x. Err x) (ordered_for_size dl (with_randomize_flag repr) (kind_of always_sized ps) order ps (all_whole dl law all ps there) own e listed)
   refused_ordered None repr always_sized order all ps r none there allowed large (inr (layout, listed, is)) =
-      absurd (ordered_small dl (randomized repr) (kind_of always_sized ps) order ps layout listed large)
+      absurd (ordered_small dl (with_randomize_flag repr) (kind_of always_sized ps) order ps layout listed large)
   refused_ordered (Some f) repr always_sized order all ps r none there allowed large e = absurd (cc)
 
   refused_fields : (fault : Option LayError) (repr : ReprOptions) (always_sized : Bool) (all : Trees) (ps : List Placed) (r : Result Placed LayError) → fault ≡ None → AreLaying dl all (Ok ps)
@@ -371,18 +371,18 @@ module _ (dl : TargetDataLayout) (law : IsLawfulDataLayout dl) where
     large_union None none (inl (e, (error, answer, name), is)) =
         let same : SizeOverflow ≡ e = cc in
         let size : named {A = Layout} (Err error) ≡ Err SizeOverflow = ap (λ x. Err x) (sym name ∙ sym same) in
-        let told : Err error ≡ Err calculator.SizeOverflow = named_large (Err error) (λ layout. placed_together repr ps layout) (ap (placed_by (placed_together repr ps)) size) in
-        (none, subst (IsUnionTooLarge dl repr) all_same ((union_sized (λ (l : Layout). l) 0 dl repr (map layout_of ps) (Err error) law answer).too_large told))
+        let tag_distinguishes : Err error ≡ Err calculator.SizeOverflow = named_large (Err error) (λ layout. placed_together repr ps layout) (ap (placed_by (placed_together repr ps)) size) in
+        (none, subst (IsUnionTooLarge dl repr) all_same ((union_sized (λ (l : Layout). l) 0 dl repr (map layout_of ps) (Err error) law answer).too_large tag_distinguishes))
     large_union None none (inr (layout, united, is)) = absurd (cc)
     large_union (Some f) there e = absurd (not_fields _ _ (there ∙ cc))
 
     refused_union : (fault : Option LayError) (r : Result Placed LayError) → fault ≡ None → IsUnionTooLarge dl repr (map layout_of ps) → UnionAnswersBy fault r → r ≡ Err SizeOverflow
     refused_union None r none large (inl (e, (error, answer, name), is)) =
-        let told : Err error ≡ Err calculator.SizeOverflow = (union_sized (λ (l : Layout). l) 0 dl repr (map layout_of ps) (Err error) law answer).refused (subst (IsUnionTooLarge dl repr) (sym all_same) large) in
+        let tag_distinguishes : Err error ≡ Err calculator.SizeOverflow = (union_sized (λ (l : Layout). l) 0 dl repr (map layout_of ps) (Err error) law answer).refused (subst (IsUnionTooLarge dl repr) (sym all_same) large) in
         let named_so : error ≡ calculator.SizeOverflow = cc in
         is ∙ ap (λ x. Err x) (name ∙ ap lay_error named_so)
     refused_union None r none large (inr (layout, united, is)) =
-        let told : Ok layout ≡ Err calculator.SizeOverflow = (union_sized (λ (l : Layout). l) 0 dl repr (map layout_of ps) (Ok layout) law united).refused (subst (IsUnionTooLarge dl repr) (sym all_same) large) in
+        let tag_distinguishes : Ok layout ≡ Err calculator.SizeOverflow = (union_sized (λ (l : Layout). l) 0 dl repr (map layout_of ps) (Ok layout) law united).refused (subst (IsUnionTooLarge dl repr) (sym all_same) large) in
         absurd (cc)
     refused_union (Some f) r none large e = absurd (cc)
 
@@ -491,12 +491,12 @@ module _ (dl : TargetDataLayout) (law : IsLawfulDataLayout dl) where
             let same : asked ≡ tag = one_tag (length states) asked tag also tells in
             subst (λ t. IsTooLargeWith dl (map layout_of pres) (layout_of (one_scalar dl t)) (map layout_of ps) states (promoted_of states (conflicts_of (length ps) conflicts))) same large
 
-        told : (answer : Result Layout (LayoutCalculatorError Placed)) → IsStated dl pres tag (one_scalar dl tag) ps states conflicts answer → IsAnswer (Err calculator.SizeOverflow) answer
-        told answer h = IsSizedPromoted.refused (IsPromised.sized (promised tag tells answer h)) (asked_sized dl pres (all_whole dl law prefix pres before)) (asked_sized dl ps (all_whole dl law locals ps there)) here
+        tag_distinguishes : (answer : Result Layout (LayoutCalculatorError Placed)) → IsStated dl pres tag (one_scalar dl tag) ps states conflicts answer → IsAnswer (Err calculator.SizeOverflow) answer
+        tag_distinguishes answer h = IsSizedPromoted.refused (IsPromised.sized (promised tag tells answer h)) (asked_sized dl pres (all_whole dl law prefix pres before)) (asked_sized dl ps (all_whole dl law locals ps there)) here
 
         by : Follows (IsCoroutined dl pres tag (one_scalar dl tag) ps states conflicts) (λ layout z. z ≡ Ok (placed_coroutine dl pres tag ps states layout)) r → r ≡ Err SizeOverflow
-        by (inl (e, (error, stated, other, name), is)) = is ∙ ap (λ x. Err x) (size_or_memory e error (told (Err error) stated) other name)
-        by (inr (layout, stated, is)) = absurd (never_laid layout (told (Ok layout) stated))
+        by (inl (e, (error, stated, other, name), is)) = is ∙ ap (λ x. Err x) (size_or_memory e error (tag_distinguishes (Err error) stated) other name)
+        by (inr (layout, stated, is)) = absurd (never_laid layout (tag_distinguishes (Ok layout) stated))
     refused_coroutine (Some f) r none large h = absurd (cc)
 
   refused_pair : (a b : Scalar) (r : Result Placed LayError) → IsTooLarge dl (pair a b) → r ≡ pair_answer dl a b → r ≡ Err SizeOverflow
@@ -539,7 +539,7 @@ module _ (dl : TargetDataLayout) (law : IsLawfulDataLayout dl) where
       (tag, tells, overlap_promised dl (map layout_of pres) own (map layout_of ps) states rules answer known size)
 
   overlap_of : (t : Tree) (p : Placed) → IsLeast dl t p → HasOverlapSize dl t p
-  overlap_of (coroutine prefix locals all conflicts) (placed_states layout pre offset tag arms) (ps, there, least) =
+  overlap_of (coroutine prefix locals all conflicts) (placed_states layout pre offset tag tagged_variants) (ps, there, least) =
       (ps, there, overlapped (fields_of pre) ps all conflicts layout least)
   overlap_of _ _ least = tt
 
@@ -645,7 +645,7 @@ module _ (dl : TargetDataLayout) (law : IsLawfulDataLayout dl) where
         follows_refused (VariantsLaying dl others) (λ rest z. z ≡ Ok (ps ∷ rest)) r (λ x here. variants_refused others x large here)
         (follows_on (AreLaying dl ts) (λ ps. Follows (VariantsLaying dl others) (λ rest z. z ≡ Ok (ps ∷ rest))) r ps there (λ x y a b. one_list dl ts x y a b) h)
 
-  -- what a refusal tells of sizes, and a layout
+  -- what a refusal says of sizes, and a layout
   pub told_overflow : (t : Tree) (e : LayError) → IsRefused (IsLaying dl t) e → e ≡ SizeOverflow → IsTooLarge dl t
   told_overflow t e (inl memory) size = absurd (not_size_either (sym size ∙ memory))
   told_overflow t e (inr refused) size = refused_overflow t (subst (λ x. IsLaying dl t (Err x)) size refused)

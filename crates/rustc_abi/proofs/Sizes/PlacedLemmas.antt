@@ -11,9 +11,9 @@ use Rattle.abi_scalar.specs.declared.variants.Variants.{Variants as LayoutVarian
 use Rattle.abi_scalar.specs.Shape.{listed_offsets}
 use Rattle.abi_scalar.specs.Simple.{never_layout}
 use Rattle.abi_univariant.specs.Least.{IsPlacedBy}
-use Rattle.abi_calc.specs.declared.enums.path.Path.{Path}
-use Rattle.abi_calc.specs.declared.enums.path.Path.TheVariants.{NoValue, OneList, Several}
-use Rattle.abi_calc.specs.Enums.Path.{path_of, variant_at}
+use Rattle.abi_calc.specs.declared.enums.strategy.EnumStrategy.{EnumStrategy}
+use Rattle.abi_calc.specs.declared.enums.strategy.EnumStrategy.TheVariants.{NoValue, OneList, Several}
+use Rattle.abi_calc.specs.Enums.EnumStrategy.{strategy_of, variant_at}
 use Rattle.abi_calc.specs.Enums.Single.{IsSingleAnswer}
 use Rattle.abi_calc.proofs.Made.{field_list}
 use Rattle.abi_tree.specs.Tree.{Tree, struct, enum, Trees, Variants}
@@ -22,12 +22,12 @@ use Rattle.abi_tree.specs.Placed.{Placed, layout_of}
 use Rattle.abi_scalar.specs.Layout.{Layout}
 use Rattle.rustc_abi.specs.Enums.{IsEnumed, discriminants_of, layouts_of}
 use Rattle.rustc_abi.specs.Laying.{AreLaying, IsLaying, IsLaidList, IsListedInOrder, VariantsLaying, enum_fault, fields_fault, kind_of, ordered_fault}
-use Rattle.rustc_abi.specs.Laying.{placed_enum, placed_fields, placed_variants, randomized}
+use Rattle.rustc_abi.specs.Laying.{placed_enum, placed_fields, placed_variants, with_randomize_flag}
 use Rattle.rustc_abi.specs.Least.{fields_of}
 use Rattle.rustc_abi.specs.Lists.{types_of}
 use Rattle.rustc_abi.specs.Orders.{LieIn, LiesAsAsked}
 use Rattle.rustc_abi.proofs.Sizes.EachListLemmas.{offsets_back}
-use Rattle.rustc_abi.proofs.Sizes.EnumSizeLemmas.{Answers, by_arms, fields_back, lawful_at}
+use Rattle.rustc_abi.proofs.Sizes.EnumSizeLemmas.{Answers, by_tagged_variants, fields_back, lawful_at}
 use Rattle.rustc_abi.proofs.Sizes.LeastLemmas.{listed_count}
 use Rattle.rustc_abi.proofs.Trees.LaidLemmas.{IsWhole, all_whole, laid_by, numbers_for, some_field, variants_whole, whole_lawful}
 use Rattle.rustc_abi.proofs.Trees.OrderLemmas.{ordered_count, ordered_placed}
@@ -62,13 +62,13 @@ module _ (dl : TargetDataLayout) (law : IsLawfulDataLayout dl) where
       (list.placed.0, of_kind repr always_sized list.placed.0 ps layout count (lie_there dl repr kind list.placed.0 ps layout count list.placed.2))
 
   placed_ordered : (repr : ReprOptions) (always_sized : Bool) (order : List ℕ) (all : Trees) (ps : List Placed) (layout : Layout)
-      → IsListedInOrder dl (randomized repr) (kind_of always_sized ps) order (map layout_of ps) (Ok layout)
+      → IsListedInOrder dl (with_randomize_flag repr) (kind_of always_sized ps) order (map layout_of ps) (Ok layout)
       → LiesAsAsked dl (struct repr always_sized (Some order) all) (placed_fields repr ps layout)
   placed_ordered repr always_sized order all ps layout listed =
       let kind = kind_of always_sized ps in
-      let count = ordered_count dl (randomized repr) kind order ps layout listed in
-      of_kind (randomized repr) always_sized order ps layout count
-      (lie_there dl (randomized repr) kind order ps layout count (ordered_placed dl (randomized repr) kind order ps layout listed))
+      let count = ordered_count dl (with_randomize_flag repr) kind order ps layout listed in
+      of_kind (with_randomize_flag repr) always_sized order ps layout count
+      (lie_there dl (with_randomize_flag repr) kind order ps layout count (ordered_placed dl (with_randomize_flag repr) kind order ps layout listed))
 
   -- ---- enums
 
@@ -91,15 +91,15 @@ module _ (dl : TargetDataLayout) (law : IsLawfulDataLayout dl) where
         let count : length (listed_offsets h.0.fields) ≡ length ps = list.placed.2.count ∙ length-map ps layout_of in
         subst (λ (m : Layout). With m m.variants) (sym h.2) (list.placed.0, lie_there dl repr AlwaysSized list.placed.0 ps h.0 count list.placed.2)
 
-    placed_by : (path : Path) → path_of true repr (layouts_of variants) ≡ path → (l : Layout)
-        → Answers dl law repr (discriminants_of all) variants none long whole path (Ok l) → With l l.variants
+    placed_by : (strategy : EnumStrategy) → strategy_of true repr (layouts_of variants) ≡ strategy → (l : Layout)
+        → Answers dl law repr (discriminants_of all) variants none long whole strategy (Ok l) → With l l.variants
     placed_by NoValue way l h = let same : never_layout dl ≡ l = cc in subst (λ (m : Layout). With m m.variants) same tt
     placed_by (OneList i) way l h = placed_one i l h
     placed_by Several way l h =
-        by_arms dl law repr (discriminants_of all) variants none long whole (λ vs. With l vs) l way h (λ tag encoding field layouts apart. tt)
+        by_tagged_variants dl law repr (discriminants_of all) variants none long whole (λ vs. With l vs) l way h (λ tag encoding field layouts apart. tt)
 
     placed_several : (l : Layout) → IsEnumed dl repr (discriminants_of all) variants (Ok l) → LiesAsAsked dl (enum repr all) (placed_enum dl repr (discriminants_of all) variants l)
-    placed_several l h = placed_by (path_of true repr (layouts_of variants)) refl l h
+    placed_several l h = placed_by (strategy_of true repr (layouts_of variants)) refl l h
 
   -- each type that is laid out lies as it is asked
   pub laid_as_asked : (t : Tree) (p : Placed) → IsLaying dl t (Ok p) → LiesAsAsked dl t p
@@ -108,7 +108,7 @@ module _ (dl : TargetDataLayout) (law : IsLawfulDataLayout dl) where
       let found = laid_by (fields_fault repr ps) (IsLaidList dl repr (kind_of always_sized ps) (map layout_of ps)) (placed_fields repr ps) p answer in
       subst (LiesAsAsked dl (struct repr always_sized None all)) found.2 (placed_struct repr always_sized all ps found.0 there found.1)
   laid_as_asked (struct repr always_sized (Some order) all) p (inr (ps, there, answer)) =
-      let found = laid_by (ordered_fault repr ps) (IsListedInOrder dl (randomized repr) (kind_of always_sized ps) order (map layout_of ps)) (placed_fields repr ps) p answer in
+      let found = laid_by (ordered_fault repr ps) (IsListedInOrder dl (with_randomize_flag repr) (kind_of always_sized ps) order (map layout_of ps)) (placed_fields repr ps) p answer in
       subst (LiesAsAsked dl (struct repr always_sized (Some order) all)) found.2 (placed_ordered repr always_sized order all ps found.0 found.1)
   laid_as_asked (enum repr all) p (inl f) = absurd (cc f.2)
   laid_as_asked (enum repr all) p (inr (variants, there, answer)) =

@@ -22,13 +22,13 @@ use Rattle.abi_calc.specs.Coroutine.Sizes.{align_of_all, behind_first}
 use Rattle.abi_calc.specs.Enums.Sizes.{AreLeastSizes}
 use Rattle.abi_univariant.specs.Fields.{greatest}
 use Rattle.abi_univariant.specs.Placement.{source_order}
-use Rattle.abi_calc.specs.Enums.Path.{path_of}
+use Rattle.abi_calc.specs.Enums.EnumStrategy.{strategy_of}
 use Rattle.abi_univariant.specs.Least.{IsLeastSize, places_by, size_by}
 use Rattle.abi_calc.proofs.EnumLemmas.Tagged.{integer_some}
 use Rattle.abi_calc.proofs.CoroutineLemmas.OneCoroutine.{one_tag}
 use Rattle.abi_univariant.proofs.Sorted.Sorting.{within_order}
 use Rattle.abi_univariant.proofs.Facts.{IsOneOfSix, order_021, order_102, six_orders}
-use Rattle.abi_calc.specs.declared.enums.path.Path.TheVariants.{Several}
+use Rattle.abi_calc.specs.declared.enums.strategy.EnumStrategy.TheVariants.{Several}
 use Rattle.abi_tree.specs.declared.mark.Mark.{Mark}
 use Rattle.abi_tree.specs.Tree.{enum, no_trees, Variants, no_variants, more_variants}
 use Rattle.abi_tree.specs.Placed.{Placed, Parts, layout_of, scalar, never as nowhere, single}
@@ -54,7 +54,7 @@ as_several dl placed (variants, there, least) =
     let same : Ok variants ≡ Ok ([] ∷ [] ∷ [])
     = one_list_each dl two_empty (Ok variants) (Ok ([] ∷ [] ∷ [])) there (empties dl) in
     let are : variants ≡ [] ∷ [] ∷ [] = cc in
-    subst (λ vs. IsLeastEnum dl default_repr (0 ∷ 1 ∷ []) vs (path_of true default_repr (layouts_of vs)) placed) are
+    subst (λ vs. IsLeastEnum dl default_repr (0 ∷ 1 ∷ []) vs (strategy_of true default_repr (layouts_of vs)) placed) are
     least
 
 never_is_no_enum : (dl : TargetDataLayout) (layout : Layout) (mark : Mark)

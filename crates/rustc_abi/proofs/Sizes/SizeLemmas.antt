@@ -1,4 +1,4 @@
--- The sizes of types that are no list of fields: each is the one that its rule tells.
+-- The sizes of types that are no list of fields: each is the one that its rule says.
 use Rattle.std.proofs.Common.{◌≡◌, ℕ, ◌*◌, ◌^◌, Bool, true, false, List, map, ap, sym, ◌∙◌, subst, arith, refl}
 use Rattle.std.proofs.Common.{Ok, Err}
 use Rattle.std.specs.Prelude.{nat_lt, if◌then◌else◌}

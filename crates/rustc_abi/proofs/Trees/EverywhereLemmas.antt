@@ -11,7 +11,7 @@ use Rattle.abi_scalar.specs.declared.variants.Variants.{Variants as LayoutVarian
 use Rattle.abi_scalar.specs.declared.variants.Variants.TheVariants.{Empty, Multiple, Single}
 use Rattle.abi_scalar.specs.Shape.{listed_offsets}
 use Rattle.abi_univariant.specs.Array.{elements_layout}
-use Rattle.abi_calc.specs.Enums.Path.{variant_at}
+use Rattle.abi_calc.specs.Enums.EnumStrategy.{variant_at}
 use Rattle.abi_univariant.specs.Simd.{simd_answer}
 use Rattle.abi_tree.specs.Tree.{Tree, scalar, pair, never, unit, array, vector, struct, union, enum, coroutine, Trees, no_trees, more_trees, Variants, no_variants, more_variants}
 use Rattle.abi_tree.specs.declared.mark.Mark.{Mark}
@@ -32,15 +32,15 @@ use Rattle.abi_calc.proofs.CoroutineLemmas.Seen.{coroutine_made}
 use Rattle.rustc_abi.specs.Coroutines.{IsStated, conflicts_of}
 use Rattle.rustc_abi.proofs.Sizes.EachListLemmas.{state_count}
 use Rattle.rustc_abi.specs.Error.{named}
-use Rattle.rustc_abi.specs.Enums.{IsEnumed, arms_at, discriminants_of}
+use Rattle.rustc_abi.specs.Enums.{IsEnumed, tagged_variants_at, discriminants_of}
 use Rattle.rustc_abi.specs.Laying.{AreLaying, IsLaying, IsLaidList, IsListedInOrder, IsUnited, VariantsLaying, coroutine_fault, enum_fault}
-use Rattle.rustc_abi.specs.Laying.{ordered_fault, randomized}
+use Rattle.rustc_abi.specs.Laying.{ordered_fault, with_randomize_flag}
 use Rattle.rustc_abi.proofs.Trees.OrderLemmas.{ordered_count}
 use Rattle.rustc_abi.specs.Laying.{one_scalar}
 use Rattle.rustc_abi.specs.Laying.{fields_fault, kind_of, lanes_of, placed_enum, placed_fields, placed_together}
 use Rattle.rustc_abi.specs.Laying.{placed_variants}
-use Rattle.rustc_abi.specs.Everywhere.{Everywhere, HaveLocals, OfAbsent, OfArms, OfEach, OfVariant, Within}
-use Rattle.rustc_abi.proofs.Enums.ArmsLemmas.{EachApart}
+use Rattle.rustc_abi.specs.Everywhere.{Everywhere, HaveLocals, OfAbsent, OfTaggedVariants, OfEach, OfVariant, Within}
+use Rattle.rustc_abi.proofs.Enums.TaggedVariantsLemmas.{EachApart}
 use Rattle.rustc_abi.proofs.Sizes.EnumSizeLemmas.{IsShaped, apart_long, enumed_shaped, fields_back}
 use Rattle.rustc_abi.proofs.Trees.LaidLemmas.{all_whole, whole_lawful, coroutine_asked, coroutine_laid, laid_by, numbers_for}
 use Rattle.rustc_abi.proofs.Trees.LaidLemmas.{placed_back, stated_offsets, variants_whole}
@@ -52,20 +52,20 @@ module _ (dl : TargetDataLayout) (P : Tree → Placed → Type 0) where
   within_variants : (repr : ReprOptions) (all : Variants) (numbers : List ℕ) (variants : List (List Placed)) (l : Layout) (vs : LayoutVariants ℕ ℕ) → IsShaped dl repr numbers variants l vs
       → OfAbsent dl P all
       → ((i : ℕ) (offsets : List ℕ) → i < length variants → length offsets ≡ length (variant_at variants i) → OfVariant dl P all i (parts_at offsets (variant_at variants i)))
-      → ((size : ℕ) (layouts : List (VariantLayout ℕ)) → EachApart size variants layouts → OfArms dl P all (arms_at l (mark_of true repr) 0 layouts numbers variants))
+      → ((size : ℕ) (layouts : List (VariantLayout ℕ)) → EachApart size variants layouts → OfTaggedVariants dl P all (tagged_variants_at l (mark_of true repr) 0 layouts numbers variants))
       → Within dl P (enum repr all) (placed_variants dl repr numbers variants l vs)
-  within_variants repr all numbers variants l Empty h absent each_at each_arm = absent
-  within_variants repr all numbers variants l (Single i) h absent each_at each_arm =
+  within_variants repr all numbers variants l Empty h absent each_at each_tagged_variant = absent
+  within_variants repr all numbers variants l (Single i) h absent each_at each_tagged_variant =
       each_at i (listed_offsets l.fields) h.0 h.1
-  within_variants repr all numbers variants l (Multiple tag encoding field layouts) h absent each_at each_arm =
-      each_arm l.size layouts h.0
+  within_variants repr all numbers variants l (Multiple tag encoding field layouts) h absent each_at each_tagged_variant =
+      each_tagged_variant l.size layouts h.0
 
 -- each state of a coroutine has the locals that it holds
 module _ (ps : List Placed) (promoted : List Bool) (shared ranks : List ℕ) (whole : Layout) (mark : Mark) where
   states_have : (first : ℕ) (numbers : List ℕ) (states : List (List ℕ)) (lists : List Layout)
       (layouts : List (VariantLayout ℕ)) → length numbers ≡ length states
       → AreStatesOf (λ i. i) (λ i. i) promoted shared ranks states lists layouts
-      → HaveLocals ps states (arms_at whole mark first layouts numbers (map (map (placed_in ps)) states))
+      → HaveLocals ps states (tagged_variants_at whole mark first layouts numbers (map (map (placed_in ps)) states))
   states_have first numbers [] [] [] long h = tt
   states_have first numbers [] [] (l ∷ layouts) long h = absurd h
   states_have first numbers [] (x ∷ lists) layouts long h = absurd h
@@ -84,7 +84,7 @@ module _ (dl : TargetDataLayout) (law : IsLawfulDataLayout dl) where
       → All (λ p. IsLawfulLayout dl (layout_of p)) pres → All (λ p. IsLawfulLayout dl (layout_of p)) ps
       → (tag : Scalar) → IsStateTag (length states) tag → (layout : Layout)
       → IsStated dl pres tag (one_scalar dl tag) ps states conflicts (Ok layout)
-      → HaveLocals ps states (arms_at layout Plain 0 (layouts_in layout.variants) (source_order (length states))
+      → HaveLocals ps states (tagged_variants_at layout Plain 0 (layouts_in layout.variants) (source_order (length states))
       (map (map (placed_in ps)) states))
   coroutine_has pres ps states conflicts before there tag tells layout stated =
       let rules = conflicts_of (length ps) conflicts in
@@ -118,8 +118,8 @@ module _ (dl : TargetDataLayout) (law : IsLawfulDataLayout dl) (P : Tree → Pla
         subst (Within dl P (struct repr always_sized None all)) found.2 (of_each all ps (listed_offsets found.0.fields) (omega (arith, count)) there)
     within (struct repr always_sized (Some order) all) p (inr (ps, there, answer)) =
         let kind = kind_of always_sized ps in
-        let found = laid_by (ordered_fault repr ps) (IsListedInOrder dl (randomized repr) kind order (map layout_of ps)) (placed_fields repr ps) p answer in
-        let count = ordered_count dl (randomized repr) kind order ps found.0 found.1 in
+        let found = laid_by (ordered_fault repr ps) (IsListedInOrder dl (with_randomize_flag repr) kind order (map layout_of ps)) (placed_fields repr ps) p answer in
+        let count = ordered_count dl (with_randomize_flag repr) kind order ps found.0 found.1 in
         subst (Within dl P (struct repr always_sized (Some order) all)) found.2 (of_each all ps (listed_offsets found.0.fields) (omega (arith, count)) there)
     within (union repr all) p (inl f) = absurd (cc f.2)
     within (union repr all) p (inr (ps, there, answer)) =
@@ -133,7 +133,7 @@ module _ (dl : TargetDataLayout) (law : IsLawfulDataLayout dl) (P : Tree → Pla
         (within_variants dl P repr all (discriminants_of all) variants found.0 found.0.variants shaped
         (of_absent all variants there)
         (λ i offsets short e. of_variant all variants i offsets short e there)
-        (λ size layouts apart. of_arms found.0 (mark_of true repr) 0 all variants size layouts apart there))
+        (λ size layouts apart. of_tagged_variants found.0 (mark_of true repr) 0 all variants size layouts apart there))
     within (coroutine prefix locals states conflicts) p (inl f) = absurd (cc f.2)
     within (coroutine prefix locals states conflicts) p (inr (pres, before, inl f)) = absurd (cc f.2)
     within (coroutine prefix locals states conflicts) p (inr (pres, before, inr (ps, there, answer))) =
@@ -191,21 +191,21 @@ module _ (dl : TargetDataLayout) (law : IsLawfulDataLayout dl) (P : Tree → Pla
         )
 
     -- and of each variant's
-    of_arms : (whole : Layout) (mark : Mark) (from : ℕ) (all : Variants) (variants : List (List Placed)) (size : ℕ) (layouts : List (VariantLayout ℕ)) → EachApart size variants layouts → VariantsLaying dl all (Ok variants) →
-        OfArms dl P all (arms_at whole mark from layouts (discriminants_of all) variants)
-    of_arms whole mark from no_variants variants size [] apart h = tt
-    of_arms whole mark from no_variants [] size (l ∷ layouts) apart h = absurd apart
-    of_arms whole mark from no_variants (ps ∷ variants) size (l ∷ layouts) apart h = tt
-    of_arms whole mark from (more_variants d ts others) variants size layouts apart (inl f) = absurd (cc f.2)
-    of_arms whole mark from (more_variants d ts others) variants size layouts apart (inr (ps, here, inl f)) = absurd (cc f.2)
-    of_arms whole mark from (more_variants d ts others) [] size layouts apart (inr (ps, here, inr (rest, later, is))) = absurd (cc)
-    of_arms whole mark from (more_variants d ts others) (qs ∷ variants) size [] apart (inr (ps, here, inr (rest, later, is))) = absurd apart
-    of_arms whole mark from (more_variants d ts others) (qs ∷ variants) size (l ∷ layouts) apart (inr (ps, here, inr (rest, later, is))) =
+    of_tagged_variants : (whole : Layout) (mark : Mark) (from : ℕ) (all : Variants) (variants : List (List Placed)) (size : ℕ) (layouts : List (VariantLayout ℕ)) → EachApart size variants layouts → VariantsLaying dl all (Ok variants) →
+        OfTaggedVariants dl P all (tagged_variants_at whole mark from layouts (discriminants_of all) variants)
+    of_tagged_variants whole mark from no_variants variants size [] apart h = tt
+    of_tagged_variants whole mark from no_variants [] size (l ∷ layouts) apart h = absurd apart
+    of_tagged_variants whole mark from no_variants (ps ∷ variants) size (l ∷ layouts) apart h = tt
+    of_tagged_variants whole mark from (more_variants d ts others) variants size layouts apart (inl f) = absurd (cc f.2)
+    of_tagged_variants whole mark from (more_variants d ts others) variants size layouts apart (inr (ps, here, inl f)) = absurd (cc f.2)
+    of_tagged_variants whole mark from (more_variants d ts others) [] size layouts apart (inr (ps, here, inr (rest, later, is))) = absurd (cc)
+    of_tagged_variants whole mark from (more_variants d ts others) (qs ∷ variants) size [] apart (inr (ps, here, inr (rest, later, is))) = absurd apart
+    of_tagged_variants whole mark from (more_variants d ts others) (qs ∷ variants) size (l ∷ layouts) apart (inr (ps, here, inr (rest, later, is))) =
         let first : ps ≡ qs = cc in
         let others_same : rest ≡ variants = cc in
         let count : length l.field_offsets ≡ length qs = apart_long size l.field_offsets (map size_of qs) apart.0 ∙ length-map qs size_of in (
           of_each ts qs l.field_offsets (omega (arith, count)) (subst (λ xs. AreLaying dl ts (Ok xs)) first here),
-          of_arms whole mark (from + 1) others variants size layouts apart.1 (subst (λ xs. VariantsLaying dl others (Ok xs)) others_same later),
+          of_tagged_variants whole mark (from + 1) others variants size layouts apart.1 (subst (λ xs. VariantsLaying dl others (Ok xs)) others_same later),
         )
 
 -- what holds of each type that is laid out holds of it and of each type in it

@@ -30,12 +30,12 @@ use Rattle.abi_univariant.specs.ListView.{list_view}
 use Rattle.abi_univariant.specs.Part.{parts_of}
 use Rattle.abi_univariant.specs.Placement.{source_order}
 use Rattle.abi_univariant.specs.Simd.{is_tight, lanes_answer, simd_align, simd_answer, simd_view, vector_layout}
-use Rattle.abi_calc.specs.declared.enums.path.Path.{Path}
-use Rattle.abi_calc.specs.declared.enums.path.Path.TheVariants.{NoValue, OneList, Several}
+use Rattle.abi_calc.specs.declared.enums.strategy.EnumStrategy.{EnumStrategy}
+use Rattle.abi_calc.specs.declared.enums.strategy.EnumStrategy.TheVariants.{NoValue, OneList, Several}
 use Rattle.abi_calc.specs.Coroutine.Layout.{IsStateTag}
 use Rattle.abi_calc.specs.Enums.Answer.{IsTypeAnswer}
 use Rattle.abi_calc.specs.Enums.Beside.{HasTagAt, IsToldByNiche, IsToldByTag}
-use Rattle.abi_calc.specs.Enums.Path.{path_of, variant_at}
+use Rattle.abi_calc.specs.Enums.EnumStrategy.{strategy_of, variant_at}
 use Rattle.abi_calc.specs.Enums.Payload.{BeginsWithTag}
 use Rattle.abi_calc.specs.Enums.Single.{single_layout}
 use Rattle.abi_calc.proofs.EnumLemmas.GoodLists.{good_list}
@@ -51,11 +51,11 @@ use Rattle.rustc_abi.specs.Inside.{VariantsInside}
 use Rattle.rustc_abi.specs.Error.{named}
 use Rattle.rustc_abi.specs.ScalarFault.{scalar_fault}
 use Rattle.rustc_abi.specs.Coroutines.{IsStated}
-use Rattle.rustc_abi.specs.Enums.{IsEnumed, IsTagIntegerAnswer, arms_at, discriminants_of, layouts_of, numbered_from}
-use Rattle.rustc_abi.specs.Laying.{IsListedInOrder, ordered_fault, randomized}
+use Rattle.rustc_abi.specs.Enums.{IsEnumed, IsTagIntegerAnswer, tagged_variants_at, discriminants_of, layouts_of, numbered_from}
+use Rattle.rustc_abi.specs.Laying.{IsListedInOrder, ordered_fault, with_randomize_flag}
 use Rattle.rustc_abi.specs.Laying.{AreLaying, IsLaying, IsLaidList, IsUnited, VariantsLaying, coroutine_fault, enum_fault, fields_fault, kind_of, lanes_of, one_scalar, pair_answer, placed_by, placed_coroutine, placed_enum, placed_fields, placed_together, placed_variants, scalar_answer, two_scalars, unless, vector_answer}
 use Rattle.rustc_abi.proofs.Unions.CalcLemmas.{after_ok, chosen_ok, named-ok, united_layout, vector_made}
-use Rattle.rustc_abi.proofs.Enums.CalculatedLemmas.{calculated_lawful, lawful_at, told}
+use Rattle.rustc_abi.proofs.Enums.CalculatedLemmas.{calculated_lawful, lawful_at, tag_distinguishes}
 use Rattle.rustc_abi.proofs.Faults.CoroutineFaultLemmas.{states_within}
 use Rattle.rustc_abi.proofs.Places.CoveredLemmas.{HasOneWhole, IsNoScalar, list_whole, memory_none, one_size, union_whole}
 use Rattle.rustc_abi.proofs.Sizes.EnumSizeLemmas.{apart_long, fact_at}
@@ -66,7 +66,7 @@ use Rattle.rustc_abi.proofs.Trees.OrderLemmas.{ordered_count}
 use Rattle.abi_scalar.specs.declared.niche.Niche.{Niche}
 use Rattle.abi_scalar.specs.declared.error.LayoutCalculatorError.TheVariants as calculator
 
--- Types at these offsets are the fields, listed one by one, of a type of this layout, and no tag tells variants of it apart.
+-- Types at these offsets are the fields, listed one by one, of a type of this layout, and no tag distinguishes variants of it.
 pub record AreFields (layout : Layout) (offsets : List ℕ) (ps : List Placed) : Type 0 where
   pub order : List ℕ
   pub shape : layout.fields ≡ Arbitrary offsets order
@@ -74,7 +74,7 @@ pub record AreFields (layout : Layout) (offsets : List ℕ) (ps : List Placed) :
   pub alone : variants_of layout.variants ≡ []
   pub one : HasOneWhole layout offsets ps
 
--- Prefix types at these offsets and, behind them, a tag are the fields of a type of this layout; the tag tells apart its variants, of
+-- Prefix types at these offsets and, behind them, a tag are the fields of a type of this layout; the tag distinguishes its variants, of
 -- these layouts.
 pub record AreBeside (layout : Layout) (offsets : List ℕ) (pres : List Placed) (tag : Scalar) (numbers : List ℕ) (layouts : List (VariantLayout ℕ)) (variants : List (List Placed)) : Type 0 where
   pub order : List ℕ
@@ -82,9 +82,9 @@ pub record AreBeside (layout : Layout) (offsets : List ℕ) (pres : List Placed)
   pub count : length offsets ≡ length pres + 1
   pub encoding : TagEncoding ℕ
   pub field : ℕ
-  pub told : layout.variants ≡ Multiple tag encoding field layouts
+  pub tag_distinguishes : layout.variants ≡ Multiple tag encoding field layouts
   pub inside : VariantsInside layout.size layouts variants
-  pub numbered : length numbers ≡ length variants
+  pub number_variants : length numbers ≡ length variants
 
 -- a tag that is seen as the whole begins it, and is as large
 abbrev pub IsTagWhole : TargetDataLayout → Layout → (offset : ℕ) → (tag : Scalar) → Type 0
@@ -103,10 +103,10 @@ pub record IsKept (dl : TargetDataLayout) (P : Placed → Type 0) : Type 0 where
       P (placed_union layout mark (parts_at_0 ps))
   pub of_tagged : (layout : Layout) (mark : Mark) (offset : ℕ) (tag : Scalar) (encoding : TagEncoding ℕ) (numbers : List ℕ) (layouts : List (VariantLayout ℕ)) (variants : List (List Placed)) →
       AreBeside layout (offset ∷ []) [] tag numbers layouts variants → IsTagWhole dl layout offset tag → All (All P) variants →
-      P (placed_tagged layout mark offset (one_scalar dl tag) encoding (arms_at layout mark 0 layouts numbers variants))
+      P (placed_tagged layout mark offset (one_scalar dl tag) encoding (tagged_variants_at layout mark 0 layouts numbers variants))
   pub of_states : (layout : Layout) (offsets : List ℕ) (pres : List Placed) (tag : Scalar) (numbers : List ℕ) (layouts : List (VariantLayout ℕ)) (variants : List (List Placed)) →
       AreBeside layout offsets pres tag numbers layouts variants → IsNoScalar layout.backend_repr → All P pres → All (All P) variants →
-      P (placed_states layout (parts_at offsets pres) (get_or offsets (length pres) 0) (one_scalar dl tag) (arms_at layout Plain 0 layouts numbers variants))
+      P (placed_states layout (parts_at offsets pres) (get_or offsets (length pres) 0) (one_scalar dl tag) (tagged_variants_at layout Plain 0 layouts numbers variants))
 
 -- ---- lists
 
@@ -178,9 +178,9 @@ module _ (dl : TargetDataLayout) (law : IsLawfulDataLayout dl) (P : Placed → T
 
   module _ (repr : ReprOptions) (numbers : List ℕ) (variants : List (List Placed)) (none : enum_fault dl repr numbers variants ≡ None)
       (long : length numbers ≡ length variants) (whole : All (All (IsWhole dl)) variants) (own : All (All P) variants) where
-    abbrev Answers : Path → Layout → Type 0
-    Answers path l =
-        IsTypeAnswer layout_of (λ i. i) (λ i. i) (λ i. i) (λ i. i) dl repr variants true true Enabled (IsTagIntegerAnswer dl repr) (λ items. items ≡ numbered_from 0 numbers) path (Ok l)
+    abbrev Answers : EnumStrategy → Layout → Type 0
+    Answers strategy l =
+        IsTypeAnswer layout_of (λ i. i) (λ i. i) (λ i. i) (λ i. i) dl repr variants true true Enabled (IsTagIntegerAnswer dl repr) (λ items. items ≡ numbered_from 0 numbers) strategy (Ok l)
 
     lawful : All (All (λ p. IsLawfulLayout dl (layout_of p))) variants
     lawful = each_lawful dl variants whole
@@ -200,10 +200,10 @@ module _ (dl : TargetDataLayout) (law : IsLawfulDataLayout dl) (P : Placed → T
 
     kept_tagged : (l : Layout) → IsEnumed dl repr numbers variants (Ok l) → (offset field : ℕ) (tag : Scalar) (encoding : TagEncoding ℕ) (layouts : List (VariantLayout ℕ)) →
         l.fields ≡ Arbitrary (offset ∷ []) (field ∷ []) → l.variants ≡ Multiple tag encoding field layouts → IsTagWhole dl l offset tag → P (placed_enum dl repr numbers variants l)
-    kept_tagged l enumed offset field tag encoding layouts place told view =
-        let made = λ (o : ℕ). placed_tagged l (mark_of true repr) o (one_scalar dl tag) encoding (arms_at l (mark_of true repr) 0 layouts numbers variants) in
+    kept_tagged l enumed offset field tag encoding layouts place tag_distinguishes view =
+        let made = λ (o : ℕ). placed_tagged l (mark_of true repr) o (one_scalar dl tag) encoding (tagged_variants_at l (mark_of true repr) 0 layouts numbers variants) in
         let same : placed_enum dl repr numbers variants l ≡ made offset =
-        ap (placed_variants dl repr numbers variants l) told ∙ ap made (ap (λ shape. get_or (listed_offsets shape) 0 0) place) in
+        ap (placed_variants dl repr numbers variants l) tag_distinguishes ∙ ap made (ap (λ shape. get_or (listed_offsets shape) 0 0) place) in
         subst P (sym same)
         (kept.of_tagged l (mark_of true repr) offset tag encoding numbers layouts variants
         (record {
@@ -212,31 +212,31 @@ module _ (dl : TargetDataLayout) (law : IsLawfulDataLayout dl) (P : Placed → T
           count = refl;
           encoding = encoding;
           field = field;
-          told = told;
-          inside = inside_enum dl law repr numbers variants none long lawful l enumed tag encoding field layouts told;
-          numbered = long;
+          tag_distinguishes = tag_distinguishes;
+          inside = inside_enum dl law repr numbers variants none long lawful l enumed tag encoding field layouts tag_distinguishes;
+          number_variants = long;
         }) view own)
 
-    kept_by : (path : Path) → path_of true repr (layouts_of variants) ≡ path → (l : Layout) → IsEnumed dl repr numbers variants (Ok l) → Answers path l → P (placed_enum dl repr numbers variants l)
-    kept_by NoValue path l enumed h =
+    kept_by : (strategy : EnumStrategy) → strategy_of true repr (layouts_of variants) ≡ strategy → (l : Layout) → IsEnumed dl repr numbers variants (Ok l) → Answers strategy l → P (placed_enum dl repr numbers variants l)
+    kept_by NoValue strategy l enumed h =
         let same : never_layout dl ≡ l = cc in subst (λ (m : Layout). P (placed_enum dl repr numbers variants m)) same (kept.of_never (mark_of true repr))
-    kept_by (OneList i) path l enumed h = kept_one i l h
-    kept_by Several path l enumed h =
+    kept_by (OneList i) strategy l enumed h = kept_one i l h
+    kept_by Several strategy l enumed h =
         let aligns = aligns_of dl law repr numbers variants none long in
         let each = each_of dl law repr numbers variants none long in
         let tags = tags_of dl law repr numbers variants none long in
         let own_lawful = calculated_lawful dl law repr numbers variants aligns lawful each tags l enumed in
         ⊎_elim
         (λ (t : IsToldByTag dl (λ v. v) (layouts_of variants) (numbered_from 0 numbers) l).
-        kept_tagged l enumed 0 t.field t.tag _ t.layouts t.place t.told
+        kept_tagged l enumed 0 t.field t.tag _ t.layouts t.place t.tag_distinguishes
         (λ s e. let is : s ≡ t.tag = subst (BeginsWithTag dl t.tag) e t.view in (refl, ap (scalar_size dl) (sym is) ∙ one_size dl l s own_lawful e)))
         (λ (t : IsToldByNiche dl (λ v. v) (layouts_of variants) l).
-        kept_tagged l enumed t.niche.offset t.field t.tag _ t.layouts t.place t.told
+        kept_tagged l enumed t.niche.offset t.field t.tag _ t.layouts t.place t.tag_distinguishes
         (λ s e. let is = subst (HasTagAt t.niche.offset t.tag) e t.view in (is.0, ap (scalar_size dl) (sym is.1) ∙ one_size dl l s own_lawful e)))
-        (told dl law repr numbers variants aligns lawful each tags path l h)
+        (tag_distinguishes dl law repr numbers variants aligns lawful each tags strategy l h)
 
     kept_enum : (l : Layout) → IsEnumed dl repr numbers variants (Ok l) → P (placed_enum dl repr numbers variants l)
-    kept_enum l h = kept_by (path_of true repr (layouts_of variants)) refl l h h
+    kept_enum l h = kept_by (strategy_of true repr (layouts_of variants)) refl l h h
 
   -- ---- coroutines
 
@@ -261,9 +261,9 @@ module _ (dl : TargetDataLayout) (law : IsLawfulDataLayout dl) (P : Placed → T
         count = stated_offsets dl law pres ps states conflicts front locals none tag tells layout h;
         encoding = Direct;
         field = length pres;
-        told = several ∙ ap (Multiple tag Direct (length pres)) (sym (ap variants_of several));
+        tag_distinguishes = several ∙ ap (Multiple tag Direct (length pres)) (sym (ap variants_of several));
         inside = inside_coroutine dl law pres ps states conflicts front locals none tag tells layout h;
-        numbered = many;
+        number_variants = many;
       })
       (λ s e. memory_none true s (sym (ap (λ (l : Layout). l.backend_repr) h.5) ∙ e)) own_pres
       (All-map (All P) (map (placed_in ps)) states
@@ -290,10 +290,10 @@ module _ (dl : TargetDataLayout) (law : IsLawfulDataLayout dl) (P : Placed → T
         (kept.of_fields found.0 (mark_of false repr) (listed_offsets found.0.fields) ps (fields_of dl repr (kind_of always_sized ps) ps found.1.0 found.1.1 found.0 found.1.2 count) (all_kept all ps there))
     laid_kept (struct repr always_sized (Some order) all) p (inr (ps, there, answer)) =
         let kind = kind_of always_sized ps in
-        let found = laid_by (ordered_fault repr ps) (IsListedInOrder dl (randomized repr) kind order (map layout_of ps)) (placed_fields repr ps) p answer in
-        let count = ordered_count dl (randomized repr) kind order ps found.0 found.1 in
+        let found = laid_by (ordered_fault repr ps) (IsListedInOrder dl (with_randomize_flag repr) kind order (map layout_of ps)) (placed_fields repr ps) p answer in
+        let count = ordered_count dl (with_randomize_flag repr) kind order ps found.0 found.1 in
         subst P found.2
-        (kept.of_fields found.0 (mark_of false repr) (listed_offsets found.0.fields) ps (fields_of dl (randomized repr) kind ps order found.1.0 found.0 found.1.1 count) (all_kept all ps there))
+        (kept.of_fields found.0 (mark_of false repr) (listed_offsets found.0.fields) ps (fields_of dl (with_randomize_flag repr) kind ps order found.1.0 found.0 found.1.1 count) (all_kept all ps there))
     laid_kept (union repr all) p (inl f) = absurd (cc f.2)
     laid_kept (union repr all) p (inr (ps, there, answer)) =
         let found = laid_by (fields_fault repr ps) (IsUnited dl repr (map layout_of ps)) (placed_together repr ps) p answer in

@@ -33,7 +33,7 @@ use Rattle.abi_univariant.specs.List.{AreSized, HasLawfulAligns}
 use Rattle.abi_univariant.specs.ListView.{any_unsized, bulky_parts, bulky_view, kept_view, list_view, pair_view, part_at, two_view}
 use Rattle.abi_univariant.specs.Part.{is_unsized, part_of, parts_of}
 use Rattle.abi_univariant.specs.LawfulPart.{IsAlignedPart, IsLawfulPart}
-use Rattle.abi_univariant.specs.Placement.{IsLawfulPrefix, IsNonEmptyIfUnsized, align_of, end_from, in_order, list_repr, size_in, start_of}
+use Rattle.abi_univariant.specs.Placement.{IsWellFormedPrefix, IsNonEmptyIfUnsized, align_of, end_from, in_order, fields_repr, size_in, start_of}
 use Rattle.abi_univariant.specs.Simd.{if_below, is_tight, lanes_answer, simd_align, simd_answer, simd_view, vector_layout}
 use Rattle.abi_univariant.specs.Union.{CountsForView, HasView, IsUnionView, fault_before, first_unsized, sized_fault, union_size}
 use Rattle.abi_univariant.proofs.Promised.DeepLemmas.{in_order_of}
@@ -47,15 +47,15 @@ use Rattle.abi_univariant.proofs.Placed.RunLemmas.{aligned_parts, biased_of}
 use Rattle.abi_univariant.specs.Run.{IsInOrder}
 use Rattle.abi_univariant.proofs.UnionsVectors.UnionLawful.{union_is_lawful}
 use Rattle.abi_univariant.proofs.UnionsVectors.VectorLemmas.{factor_small, lanes_are, lanes_bounded, simd_of_view, simd_viewed, vector_small, vectors_lawful}
-use Rattle.abi_calc.specs.declared.enums.path.Path.{Path}
-use Rattle.abi_calc.specs.declared.enums.path.Path.TheVariants.{NoValue, OneList, Several}
+use Rattle.abi_calc.specs.declared.enums.strategy.EnumStrategy.{EnumStrategy}
+use Rattle.abi_calc.specs.declared.enums.strategy.EnumStrategy.TheVariants.{NoValue, OneList, Several}
 use Rattle.abi_calc.specs.Coroutine.Layout.{IsStateTag}
 use Rattle.abi_calc.specs.Coroutine.Promotion.{promoted_of}
 use Rattle.abi_calc.proofs.CoroutineLemmas.Promised.{IsAsked, IsPromised}
 use Rattle.abi_calc.proofs.CoroutineLemmas.Deep.{coroutine_promised, coroutine_told}
-use Rattle.abi_calc.specs.Enums.Several.{AreLawfulTags}
+use Rattle.abi_calc.specs.Enums.Several.{AreWellFormedTags}
 use Rattle.abi_calc.specs.Enums.Answer.{HasOneEach, IsTypeAnswer}
-use Rattle.abi_calc.specs.Enums.Path.{variant_at, path_of}
+use Rattle.abi_calc.specs.Enums.EnumStrategy.{variant_at, strategy_of}
 use Rattle.abi_calc.proofs.EnumLemmas.Deep.{enum_sized}
 use Rattle.abi_calc.proofs.EnumLemmas.Whole.{several_some}
 use Rattle.rustc_abi.specs.declared.error.LayError.{LayError}
@@ -67,7 +67,7 @@ use Rattle.abi_tree.specs.Placed.{Placed, layout_of, size_of, elements, fields, 
 use Rattle.abi_scalar.specs.Layout.{Layout}
 use Rattle.rustc_abi.specs.ScalarFault.{scalar_fault}
 use Rattle.rustc_abi.specs.Error.{named, Follows}
-use Rattle.rustc_abi.specs.Laying.{IsListedInOrder, ordered_fault, randomized}
+use Rattle.rustc_abi.specs.Laying.{IsListedInOrder, ordered_fault, with_randomize_flag}
 use Rattle.rustc_abi.specs.Laying.{IsLaying, AreLaying, IsLaidList, IsUnited, fields_fault, kind_of, lanes_of, one_scalar, pair_answer, placed_by, placed_fields, placed_together, scalar_answer, two_scalars, unless, vector_answer, placed_variants, placed_enum, enum_fault, VariantsLaying, coroutine_fault, placed_coroutine}
 use Rattle.rustc_abi.specs.Coroutines.{IsCoroutined, IsStated, conflicts_of}
 use Rattle.rustc_abi.specs.Enums.{layouts_of, IsTagIntegerAnswer, numbered_from, IsEnumed, discriminants_of}
@@ -92,7 +92,7 @@ some_field true (p ∷ ps) = tt
 some_field false (p ∷ ps) = omega arith
 
 -- and has no prefix
-pub no_prefix : (always_sized : Bool) (ps : List Placed) (bound : ℕ) → IsLawfulPrefix (kind_of always_sized ps) bound
+pub no_prefix : (always_sized : Bool) (ps : List Placed) (bound : ℕ) → IsWellFormedPrefix (kind_of always_sized ps) bound
 no_prefix always_sized [] bound = tt
 no_prefix true (p ∷ ps) bound = tt
 no_prefix false (p ∷ ps) bound = tt
@@ -246,7 +246,7 @@ module _ (dl : TargetDataLayout) (law : IsLawfulDataLayout dl) where
 
   module _ (repr : ReprOptions) (numbers : List ℕ) (variants : List (List Placed)) (none : enum_fault dl repr numbers variants ≡ None) (long : length numbers ≡ length variants) where
     -- the question for its tag's integer has a lawful answer
-    pub tags_of : AreLawfulTags (λ v. v) dl repr (IsTagIntegerAnswer dl repr) (layouts_of variants) (numbered_from 0 numbers)
+    pub tags_of : AreWellFormedTags (λ v. v) dl repr (IsTagIntegerAnswer dl repr) (layouts_of variants) (numbered_from 0 numbers)
     tags_of = lawful_tags dl law repr numbers (layouts_of variants) (none_equal dl repr numbers variants none) (all_discriminants dl repr numbers variants none)
 
     pub each_of : HasOneEach (λ v. v) (length variants) (numbered_from 0 numbers)
@@ -260,23 +260,23 @@ module _ (dl : TargetDataLayout) (law : IsLawfulDataLayout dl) where
     sized_at (ps ∷ all) zero h = asked_sized dl ps (All-head (All (IsWhole dl)) ps all h)
     sized_at (ps ∷ all) (suc i) h = sized_at all i (All-tail (All (IsWhole dl)) ps all h)
 
-    sized_by : All (All (IsWhole dl)) variants → (path : Path) → path_of true repr (layouts_of variants) ≡ path → (l : Layout) →
-        IsTypeAnswer layout_of (λ i. i) (λ i. i) (λ i. i) (λ i. i) dl repr variants true true Enabled (IsTagIntegerAnswer dl repr) (λ items. items ≡ numbered_from 0 numbers) path (Ok l) →
+    sized_by : All (All (IsWhole dl)) variants → (strategy : EnumStrategy) → strategy_of true repr (layouts_of variants) ≡ strategy → (l : Layout) →
+        IsTypeAnswer layout_of (λ i. i) (λ i. i) (λ i. i) (λ i. i) dl repr variants true true Enabled (IsTagIntegerAnswer dl repr) (λ items. items ≡ numbered_from 0 numbers) strategy (Ok l) →
         is_unsized l.backend_repr ≡ false
-    sized_by whole NoValue path l h = let same : never_layout dl ≡ l = cc in subst (λ (m : Layout). is_unsized m.backend_repr ≡ false) same refl
-    sized_by whole (OneList i) path l h =
+    sized_by whole NoValue strategy l h = let same : never_layout dl ≡ l = cc in subst (λ (m : Layout). is_unsized m.backend_repr ≡ false) same refl
+    sized_by whole (OneList i) strategy l h =
         let made = h.1.2 in
         let sized : is_unsized h.0.backend_repr ≡ false =
         ap is_unsized made.view ∙ view_sized dl (is_abi_fixed repr) h.0.size h.0.align.abi (map layout_of (variant_at variants i)) h.1.1 (sized_at variants i whole) in
         subst (λ (m : Layout). is_unsized m.backend_repr ≡ false) (sym h.2) sized
-    sized_by whole Several path l h =
-        enum_sized layout_of dl law repr (IsTagIntegerAnswer dl repr) variants (numbered_from 0 numbers) aligns_of (each_lawful dl variants whole) (several_some layout_of repr variants true path) each_of tags_of l h
+    sized_by whole Several strategy l h =
+        enum_sized layout_of dl law repr (IsTagIntegerAnswer dl repr) variants (numbered_from 0 numbers) aligns_of (each_lawful dl variants whole) (several_some layout_of repr variants true strategy) each_of tags_of l h
 
     -- its layout is lawful, and it is sized
     enumed_whole : All (All (IsWhole dl)) variants → (l : Layout) → IsEnumed dl repr numbers variants (Ok l) → IsWhole dl (placed_enum dl repr numbers variants l)
     enumed_whole whole l h =
         let lawful = calculated_lawful dl law repr numbers variants aligns_of (each_lawful dl variants whole) each_of tags_of l h in
-        let sized = sized_by whole (path_of true repr (layouts_of variants)) refl l h in
+        let sized = sized_by whole (strategy_of true repr (layouts_of variants)) refl l h in
         let same : layout_of (placed_enum dl repr numbers variants l) ≡ l = layout_of-variants dl repr numbers variants l l.variants in
         (subst (IsLawfulLayout dl) (sym same) lawful, subst (λ (m : Layout). is_unsized m.backend_repr ≡ false) (sym same) sized)
 
@@ -342,12 +342,12 @@ module _ (dl : TargetDataLayout) (law : IsLawfulDataLayout dl) where
 
   -- a list in an allowed order, with the view of its fields
   in_order_whole : (repr : ReprOptions) (always_sized : Bool) (ps : List Placed) (order offsets : List ℕ) (layout : Layout) → HasLawfulAligns repr → All (IsWhole dl) ps →
-      IsInOrder dl (list_repr dl repr (kind_of always_sized ps)) (parts_of dl (map layout_of ps)) order offsets layout.size layout.align.abi layout.largest_niche →
+      IsInOrder dl (fields_repr dl repr (kind_of always_sized ps)) (parts_of dl (map layout_of ps)) order offsets layout.size layout.align.abi layout.largest_niche →
       layout.backend_repr ≡ list_view dl (is_abi_fixed repr) layout.size layout.align.abi (parts_of dl (map layout_of ps)) offsets → layout.variants ≡ Single 0 →
       IsLawfulLayout dl layout × (is_unsized layout.backend_repr ≡ false)
   in_order_whole repr always_sized ps order offsets layout aligns h made view alone =
       let kind = kind_of always_sized ps in
-      let list = list_repr dl repr kind in
+      let list = fields_repr dl repr kind in
       let parts = parts_of dl (map layout_of ps) in
       let some = subst (IsNonEmptyIfUnsized kind) (sym (length-asked dl ps)) (some_field always_sized ps) in
       let lawful = repr_lawful dl repr kind (length parts) law aligns (no_prefix always_sized ps (size_bound dl)) some in
@@ -366,7 +366,7 @@ module _ (dl : TargetDataLayout) (law : IsLawfulDataLayout dl) where
       IsLaidList dl repr (kind_of always_sized ps) (map layout_of ps) (Ok layout) → IsWhole dl (placed_fields repr ps layout)
   listed_whole repr always_sized ps layout none h listed =
       let kind = kind_of always_sized ps in
-      let list = list_repr dl repr kind in
+      let list = fields_repr dl repr kind in
       let parts = parts_of dl (map layout_of ps) in
       let made = biased_of dl list parts listed.0 listed.1 layout.size layout.align.abi layout.largest_niche listed.2.named in
       let some = subst (IsNonEmptyIfUnsized kind) (sym (length-asked dl ps)) (some_field always_sized ps) in
@@ -374,10 +374,10 @@ module _ (dl : TargetDataLayout) (law : IsLawfulDataLayout dl) where
       (in_order_of dl list parts listed.0 listed.1 layout.size layout.align.abi layout.largest_niche some made) listed.2.view listed.2.variants
 
   ordered_whole : (repr : ReprOptions) (always_sized : Bool) (order : List ℕ) (ps : List Placed) (layout : Layout) → ordered_fault repr ps ≡ None → All (IsWhole dl) ps →
-      IsListedInOrder dl (randomized repr) (kind_of always_sized ps) order (map layout_of ps) (Ok layout) → IsWhole dl (placed_fields repr ps layout)
+      IsListedInOrder dl (with_randomize_flag repr) (kind_of always_sized ps) order (map layout_of ps) (Ok layout) → IsWhole dl (placed_fields repr ps layout)
   ordered_whole repr always_sized order ps layout none h listed =
-      in_order_whole (randomized repr) always_sized ps order listed.0 layout (randomized_aligns repr (faultless_aligns repr ps (ordered_faultless repr ps none).0)) h
-      (in_this_order dl (randomized repr) (kind_of always_sized ps) order ps layout listed) listed.1.view listed.1.variants
+      in_order_whole (with_randomize_flag repr) always_sized ps order listed.0 layout (randomized_aligns repr (faultless_aligns repr ps (ordered_faultless repr ps none).0)) h
+      (in_this_order dl (with_randomize_flag repr) (kind_of always_sized ps) order ps layout listed) listed.1.view listed.1.variants
 
   answer_whole : (fault : Option LayError) (P : Result Layout LayError → Type 0) (make : Layout → Placed) (p : Placed)
       → (fault ≡ None → (layout : Layout) → P (Ok layout) → IsWhole dl (make layout)) → AnswersBy fault P make (Ok p) → IsWhole dl p
@@ -443,10 +443,10 @@ module _ (dl : TargetDataLayout) (law : IsLawfulDataLayout dl) where
     pub stated_offsets : coroutine_fault (length pres) (length ps) states conflicts ≡ None → (tag : Scalar) → IsStateTag (length states) tag → (layout : Layout) → IsStated dl pres tag (one_scalar dl tag) ps states conflicts (Ok layout)
         → length (listed_offsets layout.fields) ≡ length pres + 1
     stated_offsets none tag tells layout h =
-        let told =
+        let tag_distinguishes =
         coroutine_told layout_of dl pres tag (one_scalar dl tag) ps states (conflicts_of (length ps) conflicts) (coroutine_asked tag tells) (states_within (length pres) (length ps) states conflicts none) (conflict_rows (length ps) conflicts)
         (states_once (length pres) (length ps) states conflicts none) layout h in
-        ap (λ shape. length (listed_offsets shape)) told.fields ∙ told.count ∙ ap (λ n. n + 1) (length-map pres layout_of)
+        ap (λ shape. length (listed_offsets shape)) tag_distinguishes.fields ∙ tag_distinguishes.count ∙ ap (λ n. n + 1) (length-map pres layout_of)
 
   pub placed_back : (make : Layout → Placed) (r : Result Layout LayError) (p : Placed) → Ok p ≡ placed_by make r → (layout : Layout) × (r ≡ Ok layout) × (make layout ≡ p)
   placed_back make (Ok layout) p e = (layout, refl, cc)
@@ -472,7 +472,7 @@ module _ (dl : TargetDataLayout) (law : IsLawfulDataLayout dl) where
         answer_whole (fields_fault repr ps) (IsLaidList dl repr (kind_of always_sized ps) (map layout_of ps)) (placed_fields repr ps) p
         (λ none layout listed. listed_whole repr always_sized ps layout none (all_whole all ps there) listed) answer
     laid_whole (struct repr always_sized (Some order) all) p (inr (ps, there, answer)) =
-        answer_whole (ordered_fault repr ps) (IsListedInOrder dl (randomized repr) (kind_of always_sized ps) order (map layout_of ps)) (placed_fields repr ps) p
+        answer_whole (ordered_fault repr ps) (IsListedInOrder dl (with_randomize_flag repr) (kind_of always_sized ps) order (map layout_of ps)) (placed_fields repr ps) p
         (λ none layout listed. ordered_whole repr always_sized order ps layout none (all_whole all ps there) listed) answer
     laid_whole (vector lanes packed element) p (inl f) = absurd (cc f.2)
     laid_whole (vector lanes packed element) p (inr (q, there, e)) = whole_vector lanes packed q p (laid_whole element q there) e

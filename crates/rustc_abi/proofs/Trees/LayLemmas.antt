@@ -33,7 +33,7 @@ use Rattle.abi_tree.specs.Fits.{Fits}
 use Rattle.abi_tree.specs.Nodes.{placed_in, meaning, types_in, placed_at, root_of, Keeps}
 use Rattle.abi_tree.specs.Values.{LocalsHaveValues}
 use Rattle.abi_tree.specs.Faithful.{IsFaithful}
-use Rattle.rustc_abi.specs.Laying.{IsListedInOrder, IsOrderedFieldsAnswer, ordered_fault, randomized}
+use Rattle.rustc_abi.specs.Laying.{IsListedInOrder, IsOrderedFieldsAnswer, ordered_fault, with_randomize_flag}
 use Rattle.rustc_abi.specs.Laying.{IsLaying, AreLaying, IsFieldsAnswer, IsLaidList, fields_fault, has_bad_align, is_above_limit, most_fields, kind_of, placed_fields, placed_by, unless, one_scalar, two_scalars, pair_answer}
 use Rattle.abi_tree.specs.Room.{has_room}
 use Rattle.abi_tree.specs.Unions.{Begins, IsCommon, InUnions}
@@ -149,7 +149,7 @@ struct_refused dl repr always_sized ts ps e exact (inr f) = inr (inr (ps, exact,
 
 -- where the order is handed in, the calculator's refusal is the struct's, and the struct's the tree's
 pub ordered_refused : (dl : TargetDataLayout) (repr : ReprOptions) (always_sized : Bool) (order : List ℕ) (ps : List Placed) (e : LayError) → ordered_fault repr ps ≡ None →
-    IsRefused (IsListedInOrder dl (randomized repr) (kind_of always_sized ps) order (map layout_of ps)) e → IsRefused (IsOrderedFieldsAnswer dl repr always_sized order ps) e
+    IsRefused (IsListedInOrder dl (with_randomize_flag repr) (kind_of always_sized ps) order (map layout_of ps)) e → IsRefused (IsOrderedFieldsAnswer dl repr always_sized order ps) e
 ordered_refused dl repr always_sized order ps e faultless (inl memory) = inl memory
 ordered_refused dl repr always_sized order ps e faultless (inr f) = inr (rw faultless (inl (e, f, refl)))
 
@@ -174,12 +174,12 @@ IsAdded-fields dl old new i repr always_sized ps layout ts faultless listed lawf
 
 -- and that of a struct whose order is handed in
 pub IsAdded-ordered : (dl : TargetDataLayout) (old new : List Node) (i : ℕ) (repr : ReprOptions) (always_sized : Bool) (order : List ℕ) (ps : List Placed) (layout : Layout) (ts : Trees) →
-    ordered_fault repr ps ≡ None → IsListedInOrder dl (randomized repr) (kind_of always_sized ps) order (map layout_of ps) (Ok layout) → IsLawfulLayout dl layout →
+    ordered_fault repr ps ≡ None → IsListedInOrder dl (with_randomize_flag repr) (kind_of always_sized ps) order (map layout_of ps) (Ok layout) → IsLawfulLayout dl layout →
     IfSome layout.largest_niche (IsNicheOfPart (listed_offsets layout.fields) (map layout_of ps)) → AreApart layout.size (listed_offsets layout.fields) (map size_of ps) →
     IsPut old new i (placed_fields repr ps layout) → AreLaying dl ts (Ok ps) → EachFits dl ts ps → IsAdded dl old new i (struct repr always_sized (Some order) ts)
 IsAdded-ordered dl old new i repr always_sized order ps layout ts faultless listed lawful niche apart put exact fits =
     let made = listed.1 in
-    let fixed = is_abi_fixed (randomized repr) in
+    let fixed = is_abi_fixed (with_randomize_flag repr) in
     let offsets : listed_offsets layout.fields ≡ listed.0 = ap listed_offsets made.shape in
     let view = made.view ∙ ap (list_view dl fixed layout.size layout.align.abi (parts_of dl (map layout_of ps))) (sym offsets) in
     let answer : IsOrderedFieldsAnswer dl repr always_sized order ps (Ok (placed_fields repr ps layout)) = rw faultless (inr (layout, listed, refl)) in

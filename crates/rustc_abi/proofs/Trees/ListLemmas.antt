@@ -15,15 +15,15 @@ use Rattle.abi_scalar.specs.declared.error.LayoutCalculatorError.{LayoutCalculat
 use Rattle.abi_scalar.specs.declared.error.LayoutCalculatorError.TheVariants.{SizeOverflow, UnexpectedUnsized}
 use Rattle.abi_scalar.specs.declared.error.LayoutCalculatorError.TheVariants as calculator
 use Rattle.abi_univariant.specs.declared.order.NicheBias.TheVariants.{Start}
-use Rattle.abi_univariant.specs.declared.placing.ListFault.{ListFault}
-use Rattle.abi_univariant.specs.declared.placing.ListFault.TheVariants as fault
+use Rattle.abi_univariant.specs.declared.placing.FieldsFault.{FieldsFault}
+use Rattle.abi_univariant.specs.declared.placing.FieldsFault.TheVariants as fault
 use Rattle.abi_univariant.specs.Fault.{IsErrorOf, fault_in}
 use Rattle.abi_univariant.specs.InOrder.{IsOrderedAnswer, IsOrderedError}
 use Rattle.abi_univariant.specs.Least.{IsOrderOf}
-use Rattle.abi_univariant.specs.List.{IsListAnswer}
+use Rattle.abi_univariant.specs.List.{IsUnivariantAnswer}
 use Rattle.abi_univariant.specs.Order.{IsNamedOrder}
 use Rattle.abi_univariant.specs.Part.{parts_of}
-use Rattle.abi_univariant.specs.Placement.{list_repr}
+use Rattle.abi_univariant.specs.Placement.{fields_repr}
 use Rattle.rustc_abi.specs.declared.error.LayError.{LayError}
 use Rattle.abi_tree.specs.Placed.{Placed, layout_of, size_of}
 use Rattle.abi_scalar.specs.Layout.{Layout}
@@ -42,23 +42,23 @@ module _ {H : Type 0} (f : H → Layout) (dl : TargetDataLayout) (repr : ReprOpt
   field_there (k ∷ hs) (suc i) h e = field_there hs i h e
 
   -- an error by its name
-  named_error : (hs : List H) (fault : ListFault) (e : LayoutCalculatorError H) → IsErrorOf hs fault e →
+  named_error : (hs : List H) (fault : FieldsFault) (e : LayoutCalculatorError H) → IsErrorOf hs fault e →
       (error : LayoutCalculatorError Layout) × IsErrorOf (map f hs) fault error × (lay_error e ≡ lay_error error)
   named_error hs (fault.Unsized i) e h = (UnexpectedUnsized (f h.0), (f h.0, field_there hs i h.0 h.1, refl), ap lay_error h.2)
   named_error hs fault.TooLarge e h = (SizeOverflow, refl, ap lay_error h)
   named_error hs fault.OutOfMemory e h = (calculator.OutOfMemory, refl, ap lay_error h)
 
   -- it is the answer to the list of the layouts
-  pub listed_ok : (hs : List H) (layouts : List Layout) (made : Layout) → map f hs ≡ layouts → IsListAnswer f (λ i. i) 0 dl repr kind hs (Ok made) → IsLaidList dl repr kind layouts (Ok made)
+  pub listed_ok : (hs : List H) (layouts : List Layout) (made : Layout) → map f hs ≡ layouts → IsUnivariantAnswer f (λ i. i) 0 dl repr kind hs (Ok made) → IsLaidList dl repr kind layouts (Ok made)
   listed_ok hs layouts made same h = subst (λ ls. IsLaidList dl repr kind ls (Ok made)) same h
 
-  pub listed_err : (hs : List H) (layouts : List Layout) (e : LayoutCalculatorError H) → map f hs ≡ layouts → IsListAnswer f (λ i. i) 0 dl repr kind hs (Err e) →
+  pub listed_err : (hs : List H) (layouts : List Layout) (e : LayoutCalculatorError H) → map f hs ≡ layouts → IsUnivariantAnswer f (λ i. i) 0 dl repr kind hs (Err e) →
       IsRefused (IsLaidList dl repr kind layouts) (lay_error e)
   listed_err hs layouts e same (inl (order, first, which, there, of)) =
       let error = named_error hs which e of in
       let whole : map (λ l. l) (map f hs) ≡ map f hs = map-id (map f hs) in
-      let order_of = subst (λ ls. IsNamedOrder (list_repr dl repr kind) Start (parts_of dl ls) order) (sym whole) first in
-      let fault_of = subst (λ ls. fault_in (list_repr dl repr kind) (size_bound dl) (parts_of dl ls) order ≡ Some which) (sym whole) there in
+      let order_of = subst (λ ls. IsNamedOrder (fields_repr dl repr kind) Start (parts_of dl ls) order) (sym whole) first in
+      let fault_of = subst (λ ls. fault_in (fields_repr dl repr kind) (size_bound dl) (parts_of dl ls) order ≡ Some which) (sym whole) there in
       subst (λ ls. IsRefused (IsLaidList dl repr kind ls) (lay_error e)) same (inr (error.0, (order, order_of, which, fault_of, error.1), error.2))
   listed_err hs layouts e same (inr memory) = inl (ap lay_error memory)
 
@@ -74,7 +74,7 @@ module _ {H : Type 0} (f : H → Layout) (dl : TargetDataLayout) (repr : ReprOpt
   ordered_error order hs e (inr (allowed, which, there, of)) =
       let error = named_error hs which e of in
       let as_many = subst (λ n. IsOrderOf dl repr kind n order) (sym (length-map hs f)) allowed in
-      let fault_of = subst (λ ls. fault_in (list_repr dl repr kind) (size_bound dl) (parts_of dl ls) order ≡ Some which) (sym (map-id (map f hs))) there in
+      let fault_of = subst (λ ls. fault_in (fields_repr dl repr kind) (size_bound dl) (parts_of dl ls) order ≡ Some which) (sym (map-id (map f hs))) there in
       inr (error.0, inr (as_many, which, fault_of, error.1), error.2)
 
   pub ordered_err : (order : List ℕ) (hs : List H) (layouts : List Layout) (e : LayoutCalculatorError H) → map f hs ≡ layouts → IsOrderedAnswer f (λ i. i) 0 dl repr kind order hs (Err e) →

@@ -10,26 +10,26 @@ use Rattle.abi_scalar.specs.declared.error.LayoutCalculatorError.{LayoutCalculat
 use Rattle.abi_scalar.specs.declared.repr.ReprOptions.{ReprOptions}
 use Rattle.abi_scalar.specs.declared.scalar.Scalar.{Scalar}
 use Rattle.abi_univariant.specs.declared.order.NicheBias.TheVariants.{Start}
-use Rattle.abi_univariant.specs.declared.placing.ListFault.{ListFault}
-use Rattle.abi_univariant.specs.declared.placing.ListFault.TheVariants.{Unsized, TooLarge, OutOfMemory}
+use Rattle.abi_univariant.specs.declared.placing.FieldsFault.{FieldsFault}
+use Rattle.abi_univariant.specs.declared.placing.FieldsFault.TheVariants.{Unsized, TooLarge, OutOfMemory}
 use Rattle.abi_univariant.specs.Fault.{IsErrorOf, fault_in}
 use Rattle.abi_univariant.specs.InOrder.{IsOrderedError}
-use Rattle.abi_univariant.specs.List.{IsListError}
+use Rattle.abi_univariant.specs.List.{IsUnivariantError}
 use Rattle.abi_univariant.specs.Order.{IsNamedOrder}
 use Rattle.abi_univariant.specs.Part.{parts_of}
-use Rattle.abi_univariant.specs.Placement.{IsNonEmptyIfUnsized, list_repr}
+use Rattle.abi_univariant.specs.Placement.{IsNonEmptyIfUnsized, fields_repr}
 use Rattle.abi_univariant.specs.Union.{union_fault, union_layout}
 use Rattle.abi_univariant.proofs.UnionsVectors.UnionLemmas.{one_union_view}
 use Rattle.abi_univariant.proofs.Layouts.OneOrder.{one_in_order, one_layout, one_named, never_refused}
 use Rattle.abi_calc.proofs.EnumLemmas.OneEnum.{one_type, IsMade}
 use Rattle.abi_calc.proofs.CoroutineLemmas.OneCoroutine.{one_coroutine, one_tag}
-use Rattle.abi_calc.specs.Enums.Path.{path_of}
+use Rattle.abi_calc.specs.Enums.EnumStrategy.{strategy_of}
 use Rattle.rustc_abi.specs.declared.error.LayError.{LayError}
 use Rattle.abi_tree.specs.Tree.{Tree, scalar, pair, never, unit, array, vector, struct, union, enum, coroutine, Trees, no_trees, more_trees, Variants, no_variants, more_variants}
 use Rattle.abi_tree.specs.Placed.{Placed, layout_of}
 use Rattle.abi_scalar.specs.Layout.{Layout}
 use Rattle.rustc_abi.specs.Error.{Follows, lay_error}
-use Rattle.rustc_abi.specs.Laying.{IsListedInOrder, IsOrderedFieldsAnswer, ordered_fault, randomized}
+use Rattle.rustc_abi.specs.Laying.{IsListedInOrder, IsOrderedFieldsAnswer, ordered_fault, with_randomize_flag}
 use Rattle.rustc_abi.specs.Laying.{IsLaying, AreLaying, VariantsLaying, IsFieldsAnswer, IsLaidList, IsCoroutineOf, IsUnionOf, IsUnited, elements_answer, fields_fault, kind_of, placed_fields, placed_together, vector_answer, IsEnumOf, enum_fault, placed_enum, coroutine_fault, one_scalar, placed_coroutine}
 use Rattle.rustc_abi.specs.Coroutines.{IsCoroutined, IsStated, conflicts_of}
 use Rattle.rustc_abi.specs.Enums.{IsCalculated, IsEnumed, IsTagIntegerAnswer, numbered_from, layouts_of, discriminants_of}
@@ -60,7 +60,7 @@ follows_one P next r s one then_one (inr (a, p, m)) (inr (b, q, n)) =
 
 module _ (dl : TargetDataLayout) (repr : ReprOptions) (kind : StructKind) (layouts : List Layout) (some : IsNonEmptyIfUnsized kind (length (parts_of dl layouts))) where
   -- one fault has one name
-  one_name : (fault : ListFault) (e f : LayoutCalculatorError Layout) → IsErrorOf layouts fault e → IsErrorOf layouts fault f → lay_error e ≡ lay_error f
+  one_name : (fault : FieldsFault) (e f : LayoutCalculatorError Layout) → IsErrorOf layouts fault e → IsErrorOf layouts fault f → lay_error e ≡ lay_error f
   one_name (Unsized i) e f h k = ap lay_error h.2 ∙ sym (ap lay_error k.2)
   one_name TooLarge e f h k = ap lay_error (h ∙ sym k)
   one_name OutOfMemory e f h k = ap lay_error (h ∙ sym k)
@@ -68,19 +68,19 @@ module _ (dl : TargetDataLayout) (repr : ReprOptions) (kind : StructKind) (layou
   whole : map (λ (l : Layout). l) layouts ≡ layouts
   whole = map-id layouts
 
-  one_error : (e f : LayoutCalculatorError Layout) → IsListError (λ l. l) dl repr kind layouts e → IsListError (λ l. l) dl repr kind layouts f → lay_error e ≡ lay_error f
+  one_error : (e f : LayoutCalculatorError Layout) → IsUnivariantError (λ l. l) dl repr kind layouts e → IsUnivariantError (λ l. l) dl repr kind layouts f → lay_error e ≡ lay_error f
   one_error e f (order, named, fault, there, of) (order2, named2, fault2, there2, of2) =
-      let same : order2 ≡ order = one_named (list_repr dl repr kind) Start (parts_of dl (map (λ l. l) layouts)) order2 order named2 named in
-      let found : fault_in (list_repr dl repr kind) (size_bound dl) (parts_of dl (map (λ l. l) layouts)) order ≡ Some fault2 =
-      ap (fault_in (list_repr dl repr kind) (size_bound dl) (parts_of dl (map (λ l. l) layouts))) (sym same) ∙ there2 in
+      let same : order2 ≡ order = one_named (fields_repr dl repr kind) Start (parts_of dl (map (λ l. l) layouts)) order2 order named2 named in
+      let found : fault_in (fields_repr dl repr kind) (size_bound dl) (parts_of dl (map (λ l. l) layouts)) order ≡ Some fault2 =
+      ap (fault_in (fields_repr dl repr kind) (size_bound dl) (parts_of dl (map (λ l. l) layouts))) (sym same) ∙ there2 in
       let one : fault2 ≡ fault = cc in
       one_name fault e f of (subst (λ x. IsErrorOf layouts x f) one of2)
 
   never_both : (a : Layout) (f : LayError) → IsLaidList dl repr kind layouts (Ok a) → IsLaidList dl repr kind layouts (Err f) → ⊥
   never_both a f (order, offsets, made) (error, (first, named, fault, there, of), e) =
-      never_refused dl (list_repr dl repr kind) (parts_of dl layouts) some order offsets first a.size a.align.abi a.largest_niche fault made.named
-      (subst (λ ls. IsNamedOrder (list_repr dl repr kind) Start (parts_of dl ls) first) whole named)
-      (subst (λ ls. fault_in (list_repr dl repr kind) (size_bound dl) (parts_of dl ls) first ≡ Some fault) whole there)
+      never_refused dl (fields_repr dl repr kind) (parts_of dl layouts) some order offsets first a.size a.align.abi a.largest_niche fault made.named
+      (subst (λ ls. IsNamedOrder (fields_repr dl repr kind) Start (parts_of dl ls) first) whole named)
+      (subst (λ ls. fault_in (fields_repr dl repr kind) (size_bound dl) (parts_of dl ls) first ≡ Some fault) whole there)
 
   one_listed : (r s : Result Layout LayError) → IsLaidList dl repr kind layouts r → IsLaidList dl repr kind layouts s → r ≡ s
   one_listed (Ok a) (Ok b) (order, offsets, made) (order2, offsets2, made2) =
@@ -101,7 +101,7 @@ module _ (dl : TargetDataLayout) (repr : ReprOptions) (kind : StructKind) (layou
   never_ordered : (order : List ℕ) (a : Layout) (f : LayError) → IsListedInOrder dl repr kind order layouts (Ok a) → IsListedInOrder dl repr kind order layouts (Err f) → ⊥
   never_ordered order a f (offsets, made) (error, inl (bad, is), e) = bad made.named.0
   never_ordered order a f (offsets, made) (error, inr (allowed, fault, there, of), e) =
-      let found = subst (λ ls. fault_in (list_repr dl repr kind) (size_bound dl) (parts_of dl ls) order ≡ Some fault) whole there in
+      let found = subst (λ ls. fault_in (fields_repr dl repr kind) (size_bound dl) (parts_of dl ls) order ≡ Some fault) whole there in
       let none = made.named.1.faultless in
       absurd (cc)
 
@@ -144,7 +144,7 @@ module _ (dl : TargetDataLayout) where
 
   -- ---- an enum has one answer
 
-  -- what the calculator makes isn't want of memory
+  -- what the calculator makes isn't that memory ran out
   made_layout : (l : Layout) → IsMade {H = Placed} (Ok l)
   made_layout l e = cc
 
@@ -155,7 +155,7 @@ module _ (dl : TargetDataLayout) where
       IsCalculated dl repr numbers variants r → IsCalculated dl repr numbers variants s → IsMade r → IsMade s → r ≡ s
   one_calculated repr numbers variants r s h k p q =
       one_type layout_of dl repr variants true true Enabled (IsTagIntegerAnswer dl repr) (tag_integer_one dl repr) (λ items. items ≡ numbered_from 0 numbers)
-      (λ xs ys (a : xs ≡ numbered_from 0 numbers) b. a ∙ sym b) (path_of true repr (layouts_of variants)) r s h k p q
+      (λ xs ys (a : xs ≡ numbered_from 0 numbers) b. a ∙ sym b) (strategy_of true repr (layouts_of variants)) r s h k p q
 
   -- what has one answer with its calculator's errors has one with their names
   module _ (P : Result Layout (LayoutCalculatorError Placed) → Type 0) (one : (r s : Result Layout (LayoutCalculatorError Placed)) → P r → P s → IsMade r → IsMade s → r ≡ s) where
@@ -237,8 +237,8 @@ module _ (dl : TargetDataLayout) where
         (λ x y p q. one_listed dl repr (kind_of always_sized ps) (map layout_of ps) (full always_sized ps) x y p q) a b) h k
     one_answer (struct repr always_sized (Some order) all) r s h k =
         follows_one (AreLaying dl all) (IsOrderedFieldsAnswer dl repr always_sized order) r s (λ x y p q. one_list all x y p q)
-        (λ ps a b. one_by (ordered_fault repr ps) (IsListedInOrder dl (randomized repr) (kind_of always_sized ps) order (map layout_of ps)) (placed_fields repr ps) r s
-        (λ x y p q. one_ordered dl (randomized repr) (kind_of always_sized ps) (map layout_of ps) (full always_sized ps) order x y p q) a b) h k
+        (λ ps a b. one_by (ordered_fault repr ps) (IsListedInOrder dl (with_randomize_flag repr) (kind_of always_sized ps) order (map layout_of ps)) (placed_fields repr ps) r s
+        (λ x y p q. one_ordered dl (with_randomize_flag repr) (kind_of always_sized ps) (map layout_of ps) (full always_sized ps) order x y p q) a b) h k
     one_answer (vector lanes packed element) r s h k =
         follows_one (IsLaying dl element) (λ p z. z ≡ vector_answer dl lanes packed p) r s (λ x y p q. one_answer element x y p q)
         (λ p (a : r ≡ vector_answer dl lanes packed p) b. a ∙ sym b) h k

@@ -13,7 +13,7 @@ use Rattle.abi_univariant.specs.Least.{IsOrderOf, IsPlacedBy}
 use Rattle.abi_univariant.specs.List.{HasLawfulAligns}
 use Rattle.abi_univariant.specs.Part.{part_of, parts_of}
 use Rattle.abi_base.specs.declared.struct_kind.StructKind.TheVariants.{AlwaysSized, MaybeUnsized}
-use Rattle.abi_univariant.specs.Placement.{IsAllowed, IsNonEmptyIfUnsized, list_repr}
+use Rattle.abi_univariant.specs.Placement.{IsAllowed, IsNonEmptyIfUnsized, fields_repr}
 use Rattle.abi_scalar.specs.declared.error.LayoutCalculatorError.TheVariants as calculator
 use Rattle.abi_univariant.proofs.Sorted.Least.{allowed_permutes}
 use Rattle.abi_univariant.specs.Run.{IsInOrder}
@@ -21,22 +21,22 @@ use Rattle.abi_univariant.proofs.Sorted.Sorting.{within_order}
 use Rattle.rustc_abi.specs.declared.error.LayError.TheVariants.{BadAlign, BadIndex, BadOrder}
 use Rattle.abi_tree.specs.Placed.{Placed, layout_of}
 use Rattle.abi_scalar.specs.Layout.{Layout}
-use Rattle.rustc_abi.specs.Laying.{IsListedInOrder, fields_fault, has_bad_align, ordered_fault, randomized}
+use Rattle.rustc_abi.specs.Laying.{IsListedInOrder, fields_fault, has_bad_align, ordered_fault, with_randomize_flag}
 
 -- ---- the repr
 
 -- the flag is none of those that fix the order
-same_order : (repr : ReprOptions) → has_fixed_order (randomized repr) ≡ has_fixed_order repr
+same_order : (repr : ReprOptions) → has_fixed_order (with_randomize_flag repr) ≡ has_fixed_order repr
 same_order repr = ap (λ fixing. not (fixing == 0) || is_some repr.int) (and_or_apart 75 repr.flags.0 16 refl)
 
 -- so the order is free
-pub free_order : (repr : ReprOptions) → has_fixed_order repr ≡ false → may_randomize (randomized repr) ≡ true
+pub free_order : (repr : ReprOptions) → has_fixed_order repr ≡ false → may_randomize (with_randomize_flag repr) ≡ true
 free_order repr free = ap₂ (λ fixed flag. not fixed && (flag == 16)) (same_order repr ∙ free) (and_or_self 16 repr.flags.0)
 
-pub reorderable : (dl : TargetDataLayout) (repr : ReprOptions) (kind : StructKind) → has_fixed_order repr ≡ false → (list_repr dl (randomized repr) kind).reorderable ≡ true
+pub reorderable : (dl : TargetDataLayout) (repr : ReprOptions) (kind : StructKind) → has_fixed_order repr ≡ false → (fields_repr dl (with_randomize_flag repr) kind).reorderable ≡ true
 reorderable dl repr kind free = ap not (same_order repr ∙ free)
 
-pub randomized_aligns : (repr : ReprOptions) → HasLawfulAligns repr → HasLawfulAligns (randomized repr)
+pub randomized_aligns : (repr : ReprOptions) → HasLawfulAligns repr → HasLawfulAligns (with_randomize_flag repr)
 randomized_aligns repr lawful = record { align = lawful.align; pack = lawful.pack }
 
 no_fault : (many bad fixed : Bool) → (if many then Some BadIndex else (if bad then Some BadAlign else (if fixed then Some BadOrder else None))) ≡ None
@@ -64,7 +64,7 @@ unknown_field dl repr kind order count layouts many unknown = (
   calculator.BadOrder,
   inl (
     (λ allowed. unknown (subst (λ n. All (λ i. i < n) order) many
-        (within_order (length layouts) order (allowed_permutes (list_repr dl repr kind) (length layouts) order allowed)))),
+        (within_order (length layouts) order (allowed_permutes (fields_repr dl repr kind) (length layouts) order allowed)))),
     refl,
   ),
   refl,
@@ -74,11 +74,11 @@ module _ (dl : TargetDataLayout) (repr : ReprOptions) (kind : StructKind) (order
   many : length (parts_of dl (map layout_of ps)) ≡ length (map layout_of ps)
   many = length-map (map layout_of ps) (λ l. part_of dl l)
 
-  pub allowed_parts : IsOrderOf dl repr kind (length (map layout_of ps)) order → IsAllowed (list_repr dl repr kind) (length (parts_of dl (map layout_of ps))) order
-  allowed_parts allowed = subst (λ n. IsAllowed (list_repr dl repr kind) n order) (sym many) allowed
+  pub allowed_parts : IsOrderOf dl repr kind (length (map layout_of ps)) order → IsAllowed (fields_repr dl repr kind) (length (parts_of dl (map layout_of ps))) order
+  allowed_parts allowed = subst (λ n. IsAllowed (fields_repr dl repr kind) n order) (sym many) allowed
 
   module _ (layout : Layout) (listed : IsListedInOrder dl repr kind order (map layout_of ps) (Ok layout)) where
-    pub in_this_order : IsInOrder dl (list_repr dl repr kind) (parts_of dl (map layout_of ps)) order listed.0 layout.size layout.align.abi layout.largest_niche
+    pub in_this_order : IsInOrder dl (fields_repr dl repr kind) (parts_of dl (map layout_of ps)) order listed.0 layout.size layout.align.abi layout.largest_niche
     in_this_order = record { bias = Start; allowed = allowed_parts listed.1.named.0; placed = listed.1.named.1 }
 
     own : listed_offsets layout.fields ≡ listed.0

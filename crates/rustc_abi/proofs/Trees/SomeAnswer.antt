@@ -21,8 +21,8 @@ use Rattle.abi_scalar.specs.declared.variants.Variants.TheVariants.{Single}
 use Rattle.abi_scalar.specs.Repr.{is_abi_fixed}
 use Rattle.abi_scalar.specs.Lawful.{IsLawfulLayout}
 use Rattle.abi_univariant.specs.declared.order.NicheBias.TheVariants.{Start}
-use Rattle.abi_univariant.specs.declared.placing.ListFault.{ListFault}
-use Rattle.abi_univariant.specs.declared.placing.ListFault.TheVariants.{Unsized, TooLarge, OutOfMemory}
+use Rattle.abi_univariant.specs.declared.placing.FieldsFault.{FieldsFault}
+use Rattle.abi_univariant.specs.declared.placing.FieldsFault.TheVariants.{Unsized, TooLarge, OutOfMemory}
 use Rattle.abi_univariant.specs.Fault.{IsErrorOf, fault_in}
 use Rattle.abi_univariant.specs.Fields.{greatest_repr_align, lies_as_in_c}
 use Rattle.abi_univariant.specs.InOrder.{IsLaidInOrder}
@@ -32,7 +32,7 @@ use Rattle.abi_univariant.specs.ListView.{list_view}
 use Rattle.abi_univariant.specs.Order.{IsNamedOrder}
 use Rattle.abi_univariant.specs.Part.{parts_of as asked_of}
 use Rattle.abi_base.specs.declared.struct_kind.StructKind.{StructKind}
-use Rattle.abi_univariant.specs.Placement.{IsNonEmptyIfUnsized, KeepsTail, list_repr, source_order}
+use Rattle.abi_univariant.specs.Placement.{IsNonEmptyIfUnsized, KeepsTail, fields_repr, source_order}
 use Rattle.abi_univariant.specs.Run.{IsNamedLayout}
 use Rattle.abi_univariant.specs.Union.{union_fault, union_layout}
 use Rattle.abi_univariant.proofs.Promised.DeepLemmas.{sized_fault, sized_in_order}
@@ -42,14 +42,14 @@ use Rattle.abi_univariant.proofs.Views.SomeView.{some_union_view}
 use Rattle.abi_calc.specs.Coroutine.Layout.{IsStateTag}
 use Rattle.abi_calc.proofs.CoroutineLemmas.SomeCoroutine.{some_coroutine}
 use Rattle.abi_calc.proofs.EnumLemmas.SomeEnum.{some_type}
-use Rattle.abi_calc.specs.Enums.Path.{path_of}
+use Rattle.abi_calc.specs.Enums.EnumStrategy.{strategy_of}
 use Rattle.rustc_abi.specs.declared.error.LayError.{LayError}
 use Rattle.rustc_abi.specs.declared.error.LayError.TheVariants.{BadOrder, SizeOverflow}
 use Rattle.abi_tree.specs.Tree.{Tree, scalar, pair, never, unit, array, vector, struct, union, enum, coroutine, Trees, no_trees, more_trees, Variants, no_variants, more_variants}
 use Rattle.abi_tree.specs.Placed.{Placed, layout_of}
 use Rattle.abi_scalar.specs.Layout.{Layout}
 use Rattle.rustc_abi.specs.Error.{Follows, lay_error}
-use Rattle.rustc_abi.specs.Laying.{IsListedInOrder, IsOrderedFieldsAnswer, ordered_fault, randomized}
+use Rattle.rustc_abi.specs.Laying.{IsListedInOrder, IsOrderedFieldsAnswer, ordered_fault, with_randomize_flag}
 use Rattle.rustc_abi.proofs.Trees.OrderLemmas.{allowed_parts, ordered_faultless, reorderable}
 use Rattle.abi_univariant.proofs.Sorted.Allowed.{keeps_or_not, permutes_or_not}
 use Rattle.rustc_abi.specs.Laying.{AreLaying, IsFieldsAnswer, IsLaying, IsLaidList, IsCoroutineOf, IsUnionOf, IsUnited, VariantsLaying, elements_answer, fields_fault, kind_of, placed_fields, placed_together, vector_answer, IsEnumOf, enum_fault, placed_enum, coroutine_fault, most_fields, one_scalar, placed_coroutine}
@@ -127,17 +127,17 @@ module _ (dl : TargetDataLayout) (law : IsLawfulDataLayout dl) where
     plain : map (λ (l : Layout). l) layouts ≡ layouts
     plain = map-id layouts
 
-    told_as : (fault : ListFault) → (fault ≡ TooLarge) ⊎ (fault ≡ OutOfMemory) → (fault ≡ OutOfMemory → ⊥) → IsErrorOf layouts fault calculator.SizeOverflow
+    told_as : (fault : FieldsFault) → (fault ≡ TooLarge) ⊎ (fault ≡ OutOfMemory) → (fault ≡ OutOfMemory → ⊥) → IsErrorOf layouts fault calculator.SizeOverflow
     told_as (Unsized i) (inl e) other = absurd (cc)
     told_as (Unsized i) (inr e) other = absurd (cc)
     told_as TooLarge h other = refl
     told_as OutOfMemory h other = absurd (other refl)
 
-    refused : (first : List ℕ) (fault : ListFault) → IsNamedOrder (list_repr dl repr (kind_of always_sized ps)) Start (asked_of dl layouts) first
-        → fault_in (list_repr dl repr (kind_of always_sized ps)) (size_bound dl) (asked_of dl layouts) first ≡ Some fault
+    refused : (first : List ℕ) (fault : FieldsFault) → IsNamedOrder (fields_repr dl repr (kind_of always_sized ps)) Start (asked_of dl layouts) first
+        → fault_in (fields_repr dl repr (kind_of always_sized ps)) (size_bound dl) (asked_of dl layouts) first ≡ Some fault
         → HasAnswer (IsLaidList dl repr (kind_of always_sized ps) layouts)
     refused first fault named there =
-        let list = list_repr dl repr (kind_of always_sized ps) in
+        let list = fields_repr dl repr (kind_of always_sized ps) in
         let same_named = subst (λ ls. IsNamedOrder list Start (asked_of dl ls) first) (sym plain) named in
         let same_there = subst (λ ls. fault_in list (size_bound dl) (asked_of dl ls) first ≡ Some fault) (sym plain) there in
         let sized = subst AreSized (sym plain) (asked_sized dl ps whole) in
@@ -176,19 +176,19 @@ module _ (dl : TargetDataLayout) (law : IsLawfulDataLayout dl) where
         } in
         (made, is)
 
-    laid : (order offsets : List ℕ) (size align : ℕ) (niche : Option Niche) → IsNamedLayout dl (list_repr dl repr (kind_of always_sized ps)) (asked_of dl layouts) order offsets size align niche
+    laid : (order offsets : List ℕ) (size align : ℕ) (niche : Option Niche) → IsNamedLayout dl (fields_repr dl repr (kind_of always_sized ps)) (asked_of dl layouts) order offsets size align niche
         → HasAnswer (IsLaidList dl repr (kind_of always_sized ps) layouts)
     laid order offsets size align niche named =
-        let made = made_by (IsNamedLayout dl (list_repr dl repr (kind_of always_sized ps)) (asked_of dl layouts)) order offsets size align niche named in
+        let made = made_by (IsNamedLayout dl (fields_repr dl repr (kind_of always_sized ps)) (asked_of dl layouts)) order offsets size align niche named in
         (Ok made.0, (order, offsets, made.1))
 
     some_listed : HasAnswer (IsLaidList dl repr (kind_of always_sized ps) layouts)
-    some_listed = either (some_layout dl (list_repr dl repr (kind_of always_sized ps)) (asked_of dl layouts) (asked_lawful dl ps whole) full)
+    some_listed = either (some_layout dl (fields_repr dl repr (kind_of always_sized ps)) (asked_of dl layouts) (asked_lawful dl ps whole) full)
       where
-        either : ((first : List ℕ) × IsNamedOrder (list_repr dl repr (kind_of always_sized ps)) Start (asked_of dl layouts) first
-            × ((fault : ListFault) × (fault_in (list_repr dl repr (kind_of always_sized ps)) (size_bound dl) (asked_of dl layouts) first ≡ Some fault)))
+        either : ((first : List ℕ) × IsNamedOrder (fields_repr dl repr (kind_of always_sized ps)) Start (asked_of dl layouts) first
+            × ((fault : FieldsFault) × (fault_in (fields_repr dl repr (kind_of always_sized ps)) (size_bound dl) (asked_of dl layouts) first ≡ Some fault)))
             ⊎ ((order : List ℕ) × (offsets : List ℕ) × (size : ℕ) × (align : ℕ) × (niche : Option Niche)
-            × IsNamedLayout dl (list_repr dl repr (kind_of always_sized ps)) (asked_of dl layouts) order offsets size align niche)
+            × IsNamedLayout dl (fields_repr dl repr (kind_of always_sized ps)) (asked_of dl layouts) order offsets size align niche)
             → HasAnswer (IsLaidList dl repr (kind_of always_sized ps) layouts)
         either (inl (first, named, (fault, there))) = refused first fault named there
         either (inr (order, offsets, size, align, niche, named)) = laid order offsets size align niche named
@@ -198,19 +198,19 @@ module _ (dl : TargetDataLayout) (law : IsLawfulDataLayout dl) where
     abbrev kind : StructKind
     kind = kind_of always_sized ps
 
-    faulty : (order : List ℕ) → IsOrderOf dl repr kind (length layouts) order → (fault : Option ListFault) → fault_in (list_repr dl repr kind) (size_bound dl) (asked_of dl layouts) order ≡ fault
+    faulty : (order : List ℕ) → IsOrderOf dl repr kind (length layouts) order → (fault : Option FieldsFault) → fault_in (fields_repr dl repr kind) (size_bound dl) (asked_of dl layouts) order ≡ fault
         → HasAnswer (IsListedInOrder dl repr kind order layouts)
     faulty order allowed None clear =
-        let found = some_placed dl (list_repr dl repr kind) (asked_of dl layouts) (asked_lawful dl ps whole) full Start order (allowed_parts dl repr kind order ps allowed) clear in
+        let found = some_placed dl (fields_repr dl repr kind) (asked_of dl layouts) (asked_lawful dl ps whole) full Start order (allowed_parts dl repr kind order ps allowed) clear in
         let made = made_by (IsLaidInOrder dl repr kind layouts) order found.0 _ _ _ (allowed, found.1) in
         (Ok made.0, (found.0, made.1))
     faulty order allowed (Some fault) there =
-        let list = list_repr dl repr kind in
+        let list = fields_repr dl repr kind in
         let same = subst (λ ls. fault_in list (size_bound dl) (asked_of dl ls) order ≡ Some fault) (sym plain) there in
         let large = sized_in_order layout_of dl list ps order fault (asked_sized dl ps whole) (allowed_parts dl repr kind order ps allowed) there in
         (Err SizeOverflow, (calculator.SizeOverflow, inr (allowed, fault, same, told_as fault (inl large) (λ e. absurd (cc))), refl))
 
-    some_ordered : (order : List ℕ) → (list_repr dl repr kind).reorderable ≡ true → HasAnswer (IsListedInOrder dl repr kind order layouts)
+    some_ordered : (order : List ℕ) → (fields_repr dl repr kind).reorderable ≡ true → HasAnswer (IsListedInOrder dl repr kind order layouts)
     some_ordered order free = by (permutes_or_not (length layouts) order) (keeps_or_not kind (length layouts) order)
       where
         IsEither : Bool → Type 0
@@ -221,9 +221,9 @@ module _ (dl : TargetDataLayout) (law : IsLawfulDataLayout dl) where
 
         by : IsPermutation (source_order (length layouts)) order ⊎ (IsPermutation (source_order (length layouts)) order → ⊥)
             → KeepsTail kind (length layouts) order ⊎ (KeepsTail kind (length layouts) order → ⊥) → HasAnswer (IsListedInOrder dl repr kind order layouts)
-        by (inr isnt) keeps = bad (λ (allowed : IsEither (list_repr dl repr kind).reorderable). isnt (subst IsEither free allowed).0)
-        by (inl permutes) (inr isnt) = bad (λ (allowed : IsEither (list_repr dl repr kind).reorderable). isnt (subst IsEither free allowed).1)
-        by (inl permutes) (inl keeps) = faulty order (subst IsEither (sym free) (permutes, keeps)) (fault_in (list_repr dl repr kind) (size_bound dl) (asked_of dl layouts) order) refl
+        by (inr isnt) keeps = bad (λ (allowed : IsEither (fields_repr dl repr kind).reorderable). isnt (subst IsEither free allowed).0)
+        by (inl permutes) (inr isnt) = bad (λ (allowed : IsEither (fields_repr dl repr kind).reorderable). isnt (subst IsEither free allowed).1)
+        by (inl permutes) (inl keeps) = faulty order (subst IsEither (sym free) (permutes, keeps)) (fault_in (fields_repr dl repr kind) (size_bound dl) (asked_of dl layouts) order) refl
 
   -- ---- the fields of a union
 
@@ -246,7 +246,7 @@ module _ (dl : TargetDataLayout) (law : IsLawfulDataLayout dl) where
   some_enumed : (repr : ReprOptions) (numbers : List ℕ) (variants : List (List Placed)) → All (All (λ p. IsLawfulLayout dl (layout_of p))) variants → HasAnswer (IsEnumed dl repr numbers variants)
   some_enumed repr numbers variants lawful =
       let answer = some_type layout_of dl repr variants lawful true true Enabled (IsTagIntegerAnswer dl repr) (tag_integer_total dl repr) (λ items. items ≡ numbered_from 0 numbers) (numbered_from 0 numbers) refl
-      (path_of true repr (layouts_of variants)) in
+      (strategy_of true repr (layouts_of variants)) in
       named_so repr numbers variants answer.0 answer.1 answer.2
 
   -- ---- the lists of a coroutine
@@ -278,11 +278,11 @@ module _ (dl : TargetDataLayout) (law : IsLawfulDataLayout dl) where
 
   -- where there is no own fault, the order is free
   ordered_by : (repr : ReprOptions) (always_sized : Bool) (order : List ℕ) (ps : List Placed) (fault : Option LayError) → ordered_fault repr ps ≡ fault
-      → ((list_repr dl (randomized repr) (kind_of always_sized ps)).reorderable ≡ true → HasAnswer (IsListedInOrder dl (randomized repr) (kind_of always_sized ps) order (map layout_of ps)))
+      → ((fields_repr dl (with_randomize_flag repr) (kind_of always_sized ps)).reorderable ≡ true → HasAnswer (IsListedInOrder dl (with_randomize_flag repr) (kind_of always_sized ps) order (map layout_of ps)))
       → HasAnswer (IsOrderedFieldsAnswer dl repr always_sized order ps)
   ordered_by repr always_sized order ps None none answer =
       let listed = answer (reorderable dl repr (kind_of always_sized ps) (ordered_faultless repr ps none).1) in
-      let found = some_by None (IsListedInOrder dl (randomized repr) (kind_of always_sized ps) order (map layout_of ps)) (placed_fields repr ps) listed in
+      let found = some_by None (IsListedInOrder dl (with_randomize_flag repr) (kind_of always_sized ps) order (map layout_of ps)) (placed_fields repr ps) listed in
       (found.0, rw none found.1)
   ordered_by repr always_sized order ps (Some f) is answer = (Err f, rw is refl)
 
@@ -298,7 +298,7 @@ module _ (dl : TargetDataLayout) (law : IsLawfulDataLayout dl) where
         (λ ps h. some_by (fields_fault repr ps) (IsLaidList dl repr (kind_of always_sized ps) (map layout_of ps)) (placed_fields repr ps) (some_listed repr always_sized ps (all_whole dl law all ps h)))
     some_answer (struct repr always_sized (Some order) all) =
         some_follows (AreLaying dl all) (IsOrderedFieldsAnswer dl repr always_sized order) (some_list all)
-        (λ ps h. ordered_by repr always_sized order ps (ordered_fault repr ps) refl (some_ordered (randomized repr) always_sized ps (all_whole dl law all ps h) order))
+        (λ ps h. ordered_by repr always_sized order ps (ordered_fault repr ps) refl (some_ordered (with_randomize_flag repr) always_sized ps (all_whole dl law all ps h) order))
     some_answer (vector lanes packed element) =
         some_follows (IsLaying dl element) (λ p r. r ≡ vector_answer dl lanes packed p) (some_answer element) (λ p h. (vector_answer dl lanes packed p, refl))
     some_answer (union repr all) =

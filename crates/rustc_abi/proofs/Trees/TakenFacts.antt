@@ -42,7 +42,7 @@ not_byte_aligned : (placed : Placed) → HasAlignOfParts default_data_layout (sc
     → abi_align_of placed ≡ 0 → ⊥
 not_byte_aligned placed h byte = omega (arith, h, byte)
 
--- ---- a struct tells that it is one, and a union isn't marked as having no values
+-- ---- a struct says that it is one, and a union isn't marked as having no values
 
 struct_is_marked : (repr : ReprOptions) (always_sized : Bool) (order : Option (List ℕ)) (all : Trees) (layout : Layout)
     (parts : Parts)

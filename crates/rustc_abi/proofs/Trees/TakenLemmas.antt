@@ -24,22 +24,22 @@ use Rattle.abi_univariant.specs.Array.{elements_layout}
 use Rattle.abi_univariant.specs.Fields.{greatest, greatest_align}
 use Rattle.abi_univariant.specs.Least.{align_by}
 use Rattle.abi_univariant.specs.ListNiche.{IsNicheOfPart}
-use Rattle.abi_univariant.specs.Placement.{list_repr, source_order}
+use Rattle.abi_univariant.specs.Placement.{fields_repr, source_order}
 use Rattle.abi_univariant.specs.Union.{union_align}
 use Rattle.abi_univariant.specs.Simd.{lanes_align, lanes_answer, simd_align, simd_answer, simd_view, vector_layout}
 use Rattle.abi_univariant.proofs.Promised.OrderedLemmas.{ordered_largest, ordered_of_part}
 use Rattle.abi_univariant.proofs.UnionsVectors.VectorLemmas.{lanes_are}
-use Rattle.abi_calc.specs.declared.enums.path.Path.{Path}
-use Rattle.abi_calc.specs.declared.enums.path.Path.TheVariants.{NoValue, OneList, Several}
+use Rattle.abi_calc.specs.declared.enums.strategy.EnumStrategy.{EnumStrategy}
+use Rattle.abi_calc.specs.declared.enums.strategy.EnumStrategy.TheVariants.{NoValue, OneList, Several}
 use Rattle.abi_calc.specs.Coroutine.Lists.{first_list}
 use Rattle.abi_calc.specs.Coroutine.Promotion.{promoted_of}
 use Rattle.abi_calc.specs.Coroutine.Sizes.{align_of_all, own_lists}
 use Rattle.abi_calc.specs.Enums.Made.{IsMadeOfLists}
-use Rattle.abi_calc.specs.Enums.Path.{path_of, variant_at}
-use Rattle.abi_calc.specs.Enums.Beside.{AreToldApart}
+use Rattle.abi_calc.specs.Enums.EnumStrategy.{strategy_of, variant_at}
+use Rattle.abi_calc.specs.Enums.Beside.{AreDistinguished}
 use Rattle.abi_calc.specs.Enums.Single.{IsSingleAnswer}
 use Rattle.abi_calc.specs.Made.{AreFieldLists}
-use Rattle.abi_calc.specs.Enums.Discriminants.{counting_of}
+use Rattle.abi_calc.specs.Enums.Discriminants.{counted_discriminants}
 use Rattle.abi_calc.specs.Marks.{HasCoroutineMarks, HasEnumMarks, HasListMarks, HasMarks, HasUnionMarks}
 use Rattle.abi_calc.proofs.CoroutineLemmas.OneCoroutine.{one_tag}
 use Rattle.abi_calc.proofs.CoroutineLemmas.Seen.{coroutine_align, coroutine_marks, coroutine_niche}
@@ -60,20 +60,20 @@ use Rattle.abi_tree.specs.Placed.{vector as placed_vector}
 use Rattle.rustc_abi.specs.Aligns.{HasAlignOfParts, IsKindOfVariants, variants_align}
 use Rattle.rustc_abi.specs.Coroutines.{conflicts_of}
 use Rattle.rustc_abi.specs.declared.error.LayError.TheVariants.{SizeOverflow}
-use Rattle.rustc_abi.specs.Enums.{IsEnumed, IsTagIntegerAnswer, arms_at, counted, discriminants_of, layouts_of, numbered_from}
+use Rattle.rustc_abi.specs.Enums.{IsEnumed, IsTagIntegerAnswer, tagged_variants_at, counted, discriminants_of, layouts_of, numbered_from}
 use Rattle.rustc_abi.specs.Error.{named}
 use Rattle.rustc_abi.specs.Laying.{AreLaying, IsCoroutineOf, IsLaying, IsLaidList, IsListedInOrder, IsUnited, VariantsLaying}
 use Rattle.rustc_abi.specs.Laying.{coroutine_fault, elements_answer, enum_fault, fields_fault, kind_of, lanes_of, one_scalar}
 use Rattle.rustc_abi.specs.Laying.{ordered_fault, pair_answer, placed_enum, placed_fields, placed_together}
-use Rattle.rustc_abi.specs.Laying.{placed_variants, randomized, scalar_answer, two_scalars, unless, vector_answer}
+use Rattle.rustc_abi.specs.Laying.{placed_variants, with_randomize_flag, scalar_answer, two_scalars, unless, vector_answer}
 use Rattle.rustc_abi.specs.Least.{fields_of}
 use Rattle.rustc_abi.specs.Lists.{offsets_of, types_of}
 use Rattle.rustc_abi.specs.Marks.{AreMarked, HasMarksOfParts}
 use Rattle.rustc_abi.specs.Niches.{HasNicheOfParts, IsBestNiche}
 use Rattle.rustc_abi.specs.ScalarFault.{scalar_fault}
-use Rattle.rustc_abi.proofs.Enums.ArmsLemmas.{EachApart}
+use Rattle.rustc_abi.proofs.Enums.TaggedVariantsLemmas.{EachApart}
 use Rattle.rustc_abi.proofs.Sizes.EachListLemmas.{offsets_back}
-use Rattle.rustc_abi.proofs.Sizes.EnumSizeLemmas.{Answers, by_arms, fields_back, lawful_at, variants_back}
+use Rattle.rustc_abi.proofs.Sizes.EnumSizeLemmas.{Answers, by_tagged_variants, fields_back, lawful_at, variants_back}
 use Rattle.rustc_abi.proofs.Sizes.LeastLemmas.{listed_count}
 use Rattle.rustc_abi.proofs.Sizes.SizeLemmas.{elements_there}
 use Rattle.rustc_abi.proofs.Trees.LaidLemmas.{IsWhole, aligns_of, all_whole, coroutine_laid, each_lawful}
@@ -125,7 +125,7 @@ lists_aligned dl repr kind (v ∷ vs) [] h = absurd h
 lists_aligned dl repr kind (v ∷ vs) (l ∷ ls) h =
     ap₂ (λ a rest. a ∷ rest) h.0.placed.2.alignment (lists_aligned dl repr kind vs ls h.1)
 
--- what a layout of several variants takes over from their lists, by what tells them apart
+-- what a layout of several variants takes over from their lists, by what distinguishes them
 abbrev AreTakenOf : TargetDataLayout → ReprOptions → (numbers : List ℕ) → (variants : List (List Placed)) → Layout
     → LayoutVariants ℕ ℕ → Type 0
 AreTakenOf dl repr numbers variants l (Multiple tag encoding field layouts) =
@@ -141,7 +141,7 @@ IsLeft dl l _ = ⊥
 
 -- each variant is marked as the whole is
 all_marked : (whole : Layout) (mark : Mark) (from : ℕ) (layouts : List (VariantLayout ℕ)) (numbers : List ℕ)
-    (variants : List (List Placed)) → AreMarked mark (arms_at whole mark from layouts numbers variants)
+    (variants : List (List Placed)) → AreMarked mark (tagged_variants_at whole mark from layouts numbers variants)
 all_marked whole mark from [] numbers variants = tt
 all_marked whole mark from (l ∷ layouts) [] variants = tt
 all_marked whole mark from (l ∷ layouts) (n ∷ numbers) [] = tt
@@ -190,28 +190,28 @@ module _ (dl : TargetDataLayout) (law : IsLawfulDataLayout dl) (repr : ReprOptio
       (counted repr (discriminants_of all) variants) (layouts_of variants) l
       → AreTakenOf dl repr (discriminants_of all) variants l l.variants
   taken_lists l (inl m) =
-      subst (AreTakenOf dl repr (discriminants_of all) variants l) (sym m.told)
+      subst (AreTakenOf dl repr (discriminants_of all) variants l) (sym m.tag_distinguishes)
       (_, (m.asked, m.signed, m.is, refl), m.lists, m.own, m.alignment, m.marks)
   taken_lists l (inr m) =
-      subst (AreTakenOf dl repr (discriminants_of all) variants l) (sym m.told)
+      subst (AreTakenOf dl repr (discriminants_of all) variants l) (sym m.tag_distinguishes)
       (AlwaysSized, refl, m.lists, m.own, m.alignment, m.marks)
 
   -- and their niche is what the tag leaves
-  left_by : (l : Layout) → AreToldApart dl (λ i. i) (layouts_of variants) (numbered_from 0 (discriminants_of all)) l
+  left_by : (l : Layout) → AreDistinguished dl (λ i. i) (layouts_of variants) (numbered_from 0 (discriminants_of all)) l
       → IsLeft dl l l.variants
   left_by l (inl t) =
       let at : tag_offset l ≡ 0 = ap (λ shape. get_or (listed_offsets shape) 0 0) t.place in
-      subst (IsLeft dl l) (sym t.told) (t.niche ∙ ap (λ o. niche_at dl o t.tag) (sym at))
+      subst (IsLeft dl l) (sym t.tag_distinguishes) (t.niche ∙ ap (λ o. niche_at dl o t.tag) (sym at))
   left_by l (inr t) =
       let at : tag_offset l ≡ t.niche.offset = ap (λ shape. get_or (listed_offsets shape) 0 0) t.place in
-      subst (IsLeft dl l) (sym t.told) (t.left ∙ ap (λ o. niche_at dl o t.tag) (sym at))
+      subst (IsLeft dl l) (sym t.tag_distinguishes) (t.left ∙ ap (λ o. niche_at dl o t.tag) (sym at))
 
   -- beside the tag each variant has its fields
-  taken_arms : (l : Layout) (tag : Scalar) (encoding : TagEncoding ℕ) (field : ℕ) (layouts : List (VariantLayout ℕ))
+  taken_tagged_variants : (l : Layout) (tag : Scalar) (encoding : TagEncoding ℕ) (field : ℕ) (layouts : List (VariantLayout ℕ))
       → EachApart l.size variants layouts
       → AreTakenOf dl repr (discriminants_of all) variants l (Multiple tag encoding field layouts)
       → IsLeft dl l (Multiple tag encoding field layouts) → With l (Multiple tag encoding field layouts)
-  taken_arms l tag encoding field layouts apart (kind, of_kind, lists, own, align, marks) left =
+  taken_tagged_variants l tag encoding field layouts apart (kind, of_kind, lists, own, align, marks) left =
       let back = variants_back l (mark_of true repr) 0 l.size layouts (discriminants_of all) variants apart long in
       let greatest_of : l.align.abi ≡ variants_align dl repr kind variants
       = align ∙ ap (λ aligns. max dl.aggregate_align (greatest aligns))
@@ -230,33 +230,33 @@ module _ (dl : TargetDataLayout) (law : IsLawfulDataLayout dl) (repr : ReprOptio
         ),
       )
 
-  taken_several : (l : Layout) → path_of true repr (layouts_of variants) ≡ Several
+  taken_several : (l : Layout) → strategy_of true repr (layouts_of variants) ≡ Several
       → Answers dl law repr (discriminants_of all) variants none long whole Several (Ok l) → With l l.variants
   taken_several l way h =
       let fields = each_lawful dl variants whole in
       let found =
       several_holds layout_of (λ i. i) (λ i. i) (λ i. i) (λ i. i) dl repr (IsTagIntegerAnswer dl repr) variants
       (λ items m. IsMadeOfLists (λ i. i) (λ i. i) (λ i. i) dl repr (IsTagIntegerAnswer dl repr)
-      (counting_of (λ i. i) repr (layouts_of variants) items) (layouts_of variants) m)
+      (counted_discriminants (λ i. i) repr (layouts_of variants) items) (layouts_of variants) m)
       (tagged_made layout_of (λ i. i) (λ i. i) (λ i. i) (λ i. i) dl repr (IsTagIntegerAnswer dl repr) variants fields)
       (niche_made layout_of (λ i. i) (λ i. i) (λ i. i) (λ i. i) dl repr (IsTagIntegerAnswer dl repr) variants fields
       (length variants) (λ i small. refl) (omega arith))
       (λ items. items ≡ numbered_from 0 (discriminants_of all)) l h in
       let made = subst (λ items. IsMadeOfLists (λ i. i) (λ i. i) (λ i. i) dl repr (IsTagIntegerAnswer dl repr)
-      (counting_of (λ i. i) repr (layouts_of variants) items) (layouts_of variants) l) found.1 found.2 in
-      let told =
+      (counted_discriminants (λ i. i) repr (layouts_of variants) items) (layouts_of variants) l) found.1 found.2 in
+      let tag_distinguishes =
       enum_told layout_of dl law repr (IsTagIntegerAnswer dl repr) variants (numbered_from 0 (discriminants_of all))
       (aligns_of dl law repr (discriminants_of all) variants none long) fields
       (several_some layout_of repr variants true way)
       (each_of dl law repr (discriminants_of all) variants none long)
       (tags_of dl law repr (discriminants_of all) variants none long) l h in
-      by_arms dl law repr (discriminants_of all) variants none long whole
+      by_tagged_variants dl law repr (discriminants_of all) variants none long whole
       (λ vs. AreTakenOf dl repr (discriminants_of all) variants l vs → IsLeft dl l vs → With l vs) l way h
-      (λ tag encoding field layouts apart of_lists left. taken_arms l tag encoding field layouts apart of_lists left)
-      (taken_lists l made) (left_by l told)
+      (λ tag encoding field layouts apart of_lists left. taken_tagged_variants l tag encoding field layouts apart of_lists left)
+      (taken_lists l made) (left_by l tag_distinguishes)
 
-  taken_by : (path : Path) → path_of true repr (layouts_of variants) ≡ path → (l : Layout)
-      → Answers dl law repr (discriminants_of all) variants none long whole path (Ok l) → With l l.variants
+  taken_by : (strategy : EnumStrategy) → strategy_of true repr (layouts_of variants) ≡ strategy → (l : Layout)
+      → Answers dl law repr (discriminants_of all) variants none long whole strategy (Ok l) → With l l.variants
   taken_by NoValue way l h =
       let same : never_layout dl ≡ l = cc in
       subst (λ (m : Layout). With m m.variants) same (tt, refl, (refl, never_marks dl))
@@ -265,7 +265,7 @@ module _ (dl : TargetDataLayout) (law : IsLawfulDataLayout dl) (repr : ReprOptio
 
   taken_enum : (l : Layout) → IsEnumed dl repr (discriminants_of all) variants (Ok l)
       → IsTaken dl (enum repr all) (placed_enum dl repr (discriminants_of all) variants l)
-  taken_enum l h = taken_by (path_of true repr (layouts_of variants)) refl l h
+  taken_enum l h = taken_by (strategy_of true repr (layouts_of variants)) refl l h
 
 -- ---- a coroutine
 
@@ -330,16 +330,16 @@ module _ (dl : TargetDataLayout) (law : IsLawfulDataLayout dl) where
 
   taken_ordered : (repr : ReprOptions) (always_sized : Bool) (order : List ℕ) (all : Trees) (ps : List Placed)
       (layout : Layout) → AreLaying dl all (Ok ps)
-      → IsListedInOrder dl (randomized repr) (kind_of always_sized ps) order (map layout_of ps) (Ok layout)
+      → IsListedInOrder dl (with_randomize_flag repr) (kind_of always_sized ps) order (map layout_of ps) (Ok layout)
       → IsTaken dl (struct repr always_sized (Some order) all) (placed_fields repr ps layout)
   taken_ordered repr always_sized order all ps layout there listed =
-      let free : ReprOptions = randomized repr in
+      let free : ReprOptions = with_randomize_flag repr in
       let kind = kind_of always_sized ps in
       let lies = in_this_order dl free kind order ps layout listed in
       let at : listed.0 ≡ listed_offsets layout.fields = sym (ap listed_offsets listed.1.shape) in
-      let own = ordered_of_part layout_of dl (list_repr dl free kind) ps order listed.0 layout.size layout.align.abi
+      let own = ordered_of_part layout_of dl (fields_repr dl free kind) ps order listed.0 layout.size layout.align.abi
       layout.largest_niche lies in
-      let most = ordered_largest layout_of dl (list_repr dl free kind) ps order listed.0 layout.size layout.align.abi
+      let most = ordered_largest layout_of dl (fields_repr dl free kind) ps order listed.0 layout.size layout.align.abi
       layout.largest_niche (whole_lawful dl ps (all_whole dl law all ps there)) lies in
       let taken = taken_there dl free (kind_of always_sized) ps layout (ordered_count dl free kind order ps layout listed) (
         record {
@@ -449,7 +449,7 @@ module _ (dl : TargetDataLayout) (law : IsLawfulDataLayout dl) where
       (taken_struct repr always_sized all ps found.0 there found.1)
   laid_taken (struct repr always_sized (Some order) all) p (inr (ps, there, answer)) =
       let found = laid_by (ordered_fault repr ps)
-      (IsListedInOrder dl (randomized repr) (kind_of always_sized ps) order (map layout_of ps))
+      (IsListedInOrder dl (with_randomize_flag repr) (kind_of always_sized ps) order (map layout_of ps))
       (placed_fields repr ps) p answer in
       subst (IsTaken dl (struct repr always_sized (Some order) all)) found.2
       (taken_ordered repr always_sized order all ps found.0 there found.1)

@@ -9,12 +9,12 @@ use Rattle.abi_base.specs.declared.endian.Endian.{Endian}
 use Rattle.abi_tree.specs.Bytes.{bytes_at, picked_bytes}
 use Rattle.abi_tree.specs.Value.{number, two, list, variant, state, bytes}
 use Rattle.abi_tree.specs.declared.mark.Mark.{Mark}
-use Rattle.abi_tree.specs.Placed.{Placed, scalar, pair, never, elements, vector, fields, union, single, tagged, states, Parts, no_parts, part, Arms, no_arms, arm, size_of}
+use Rattle.abi_tree.specs.Placed.{Placed, scalar, pair, never, elements, vector, fields, union, single, tagged, states, Parts, no_parts, part, TaggedVariants, no_tagged_variants, tagged_variant, size_of}
 use Rattle.abi_scalar.specs.Layout.{Layout}
 use Rattle.abi_tree.specs.Places.{is_data_place, is_place_of_part}
-use Rattle.abi_tree.specs.Room.{has_room, have_room, arms_have_room}
+use Rattle.abi_tree.specs.Room.{has_room, have_room, tagged_variants_have_room}
 use Rattle.abi_tree.specs.Faithful.{PaddingDecidesNothing}
-use Rattle.abi_tree.specs.Unions.{Begins, IsCommon, EachPart, InUnions, InUnionsOf, InUnionsOfArms}
+use Rattle.abi_tree.specs.Unions.{Begins, IsCommon, EachPart, InUnions, InUnionsOf, InUnionsOfTaggedVariants}
 use Rattle.abi_tree.proofs.Bytes.HoldLemmas.{length-Holds, length-bytes_at, AgreeOn-bytes_at}
 use Rattle.abi_tree.proofs.Bytes.PickedLemmas.{picked-agree}
 
@@ -46,15 +46,15 @@ module _ (order : Endian) where
     begins_room (fields layout mark parts) room = begins_have layout.size parts room
     begins_room (union layout mark parts) room = (each_begins layout mark parts parts room, begins_have layout.size parts room)
     begins_room (single layout mark index parts) room = begins_have layout.size parts room
-    begins_room (tagged layout mark offset tag encoding arms) room =
-        let both = and_parts (nat_le (offset + size_of tag) layout.size && has_room tag) (arms_have_room layout.size arms) room in
+    begins_room (tagged layout mark offset tag encoding tagged_variants) room =
+        let both = and_parts (nat_le (offset + size_of tag) layout.size && has_room tag) (tagged_variants_have_room layout.size tagged_variants) room in
         let of_tag = and_parts (nat_le (offset + size_of tag) layout.size) (has_room tag) both.0 in
-        (begins_room tag of_tag.1, begins_arms layout.size arms both.1)
-    begins_room (states layout prefix offset tag arms) room =
-        let first = and_parts (have_room layout.size prefix) ((nat_le (offset + size_of tag) layout.size && has_room tag) && arms_have_room layout.size arms) room in
-        let both = and_parts (nat_le (offset + size_of tag) layout.size && has_room tag) (arms_have_room layout.size arms) first.1 in
+        (begins_room tag of_tag.1, begins_tagged_variants layout.size tagged_variants both.1)
+    begins_room (states layout prefix offset tag tagged_variants) room =
+        let first = and_parts (have_room layout.size prefix) ((nat_le (offset + size_of tag) layout.size && has_room tag) && tagged_variants_have_room layout.size tagged_variants) room in
+        let both = and_parts (nat_le (offset + size_of tag) layout.size && has_room tag) (tagged_variants_have_room layout.size tagged_variants) first.1 in
         let of_tag = and_parts (nat_le (offset + size_of tag) layout.size) (has_room tag) both.0 in
-        (begins_have layout.size prefix first.0, begins_room tag of_tag.1, begins_arms layout.size arms both.1)
+        (begins_have layout.size prefix first.0, begins_room tag of_tag.1, begins_tagged_variants layout.size tagged_variants both.1)
 
     begins_have : (size : ℕ) (parts : Parts) → have_room size parts ≡ true → InUnionsOf (Begins order) parts
     begins_have size no_parts room = tt
@@ -63,11 +63,11 @@ module _ (order : Endian) where
         let here = and_parts (nat_le (offset + size_of placed) size) (has_room placed) both.0 in
         (begins_room placed here.1, begins_have size parts both.1)
 
-    begins_arms : (size : ℕ) (arms : Arms) → arms_have_room size arms ≡ true → InUnionsOfArms (Begins order) arms
-    begins_arms size no_arms room = tt
-    begins_arms size (arm code layout mark parts arms) room =
-        let both = and_parts (have_room size parts) (arms_have_room size arms) room in
-        (begins_have size parts both.0, begins_arms size arms both.1)
+    begins_tagged_variants : (size : ℕ) (tagged_variants : TaggedVariants) → tagged_variants_have_room size tagged_variants ≡ true → InUnionsOfTaggedVariants (Begins order) tagged_variants
+    begins_tagged_variants size no_tagged_variants room = tt
+    begins_tagged_variants size (tagged_variant code layout mark parts tagged_variants) room =
+        let both = and_parts (have_room size parts) (tagged_variants_have_room size tagged_variants) room in
+        (begins_have size parts both.0, begins_tagged_variants size tagged_variants both.1)
 
 -- ---- bytes that hold one value of the union hold the same values of a field
 

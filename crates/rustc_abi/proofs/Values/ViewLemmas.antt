@@ -106,7 +106,7 @@ module _ (dl : TargetDataLayout) (b : List ℕ) where
   two_true size align o n (Memory sized) p m y lx ly hx hy = tt
 
   module _ (offsets : List ℕ) (ps : List Placed) (lawful : All (λ p. IsLawfulLayout dl (layout_of p)) ps)
-      (told : (i : ℕ) → i < length ps → IsTrueOf dl (layout_of (get_or ps i nothing)).backend_repr (bytes_at b (get_or offsets i 0) (size_of (get_or ps i nothing)))) where
+      (tag_distinguishes : (i : ℕ) → i < length ps → IsTrueOf dl (layout_of (get_or ps i nothing)).backend_repr (bytes_at b (get_or offsets i 0) (size_of (get_or ps i nothing)))) where
     abbrev parts : List Part
     parts = parts_of dl (map layout_of ps)
 
@@ -127,7 +127,7 @@ module _ (dl : TargetDataLayout) (b : List ℕ) where
     told_at i = ⊎_elim
         (λ lt. record {
           law = subst (λ q. IsLawfulView dl q.size q.view) (sym (part_is i lt)) (lawful i nothing lt).view;
-          true_there = subst (λ q. IsTrueOf dl q.view (bytes_at b (slice_index offsets i) q.size)) (sym (part_is i lt)) (told i lt);
+          true_there = subst (λ q. IsTrueOf dl q.view (bytes_at b (slice_index offsets i) q.size)) (sym (part_is i lt)) (tag_distinguishes i lt);
         })
         (λ le. record {
           law = subst (λ q. IsLawfulView dl q.size q.view) (sym (part_past i le)) tt;

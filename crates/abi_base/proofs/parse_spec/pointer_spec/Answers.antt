@@ -16,5 +16,5 @@ returns-then-begins_alphabetic c =
 
 pub returns : goal.returns
 returns c =
-    let parts : spec_parts_left 58 (option_copied c.args.parts) ≡ c.cut.result.0.now ∷ spec_parts_left 58 (option_copied c.cut.result.1) = left_next 58 c.args.parts c.in-Some.parts c.cut.result.0.now (spec_parts_left 58 (option_copied c.cut.result.1)) c.in-Some.is c.cut.ensures.parts in
-    same_reading (pointer_setting c.args.rest.now (spec_parts_left 58 (option_copied c.args.parts))) (pointers_in c.begins.result c.space_text-space.result.now c.cut.result.0.now (spec_parts_left 58 (option_copied c.cut.result.1))) c.pointers.result (pointer_first c.args.rest.now c.space_text-space.result.now c.cut.result.0.now (spec_parts_left 58 (option_copied c.args.parts)) (spec_parts_left 58 (option_copied c.cut.result.1)) c.begins.result parts c.space_text-space.ensures c.begins.ensures (sym c.if-begins_alphabetic.ensures)) c.pointers.ensures
+    let parts : spec_parts_left 58 (option_copied c.args.parts) ≡ c.split_at_mark.result.0.now ∷ spec_parts_left 58 (option_copied c.split_at_mark.result.1) = left_next 58 c.args.parts c.in-Some.parts c.split_at_mark.result.0.now (spec_parts_left 58 (option_copied c.split_at_mark.result.1)) c.in-Some.is c.split_at_mark.ensures.parts in
+    same_reading (pointer_setting c.args.rest.now (spec_parts_left 58 (option_copied c.args.parts))) (pointers_in c.begins.result c.space_text-space.result.now c.split_at_mark.result.0.now (spec_parts_left 58 (option_copied c.split_at_mark.result.1))) c.pointers.result (pointer_first c.args.rest.now c.space_text-space.result.now c.split_at_mark.result.0.now (spec_parts_left 58 (option_copied c.args.parts)) (spec_parts_left 58 (option_copied c.split_at_mark.result.1)) c.begins.result parts c.space_text-space.ensures c.begins.ensures (sym c.if-begins_alphabetic.ensures)) c.pointers.ensures

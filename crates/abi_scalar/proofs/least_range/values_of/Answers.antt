@@ -5,12 +5,12 @@ use Rattle.abi_scalar.proofs.least_range.values_of.Goals as goal
 
 pub loop-value-preserved : goal.loop-value-preserved
 loop-value-preserved g c =
-    let least : c.min-least.result ≡ min c.loop-value.least c.low-value.result = search rules in
-    let greatest : c.max-greatest.result ≡ max c.loop-value.greatest c.low-value.result = search rules in
-    let grown = ends_next c.loop-value.list.items c.loop-value.least c.loop-value.greatest c.low-value.result c.low-value.ensures.narrow c.loop-value.invariant.1 in
+    let least : c.min-least.result ≡ min c.loop-value.least c.low_half-value.result = search rules in
+    let greatest : c.max-greatest.result ≡ max c.loop-value.greatest c.low_half-value.result = search rules in
+    let grown = ends_next c.loop-value.list.items c.loop-value.least c.loop-value.greatest c.low_half-value.result c.low_half-value.ensures.narrow c.loop-value.invariant.1 in
     rw (c.in_ok-push.ensures.items, least, greatest) (
-      ap (λ (ys : List ℕ). ys ++ c.low-value.result ∷ []) c.loop-value.invariant.0
-          ∙ ap (λ (v : ℕ). map (λ w. w % 2 ^ 64) c.loop-value.yielded ++ v ∷ []) c.low-value.ensures.rest ∙ sym (low_more c.loop-value.yielded c.in-Some.value),
+      ap (λ (ys : List ℕ). ys ++ c.low_half-value.result ∷ []) c.loop-value.invariant.0
+          ∙ ap (λ (v : ℕ). map (λ w. w % 2 ^ 64) c.loop-value.yielded ++ v ∷ []) c.low_half-value.ensures.rest ∙ sym (low_more c.loop-value.yielded c.in-Some.value),
       grown,
     )
 

@@ -18,7 +18,7 @@ mark-requires-in-States c =
     let first : List ℕ = placed_nodes c.args.node.layout.now c.in-States.prefix.items in
     let rest : List ℕ = c.in-States.tag ∷ map (λ v. v.1) c.in-States.states.items in
     let all : All P (first ++ rest) = subst (λ s. All P (named_by c.args.node.layout.now s)) c.in-States.is c.requires in
-    rw (c.placed-in-States.ensures, c.deref-in-States.ensures.value) (All-left P first rest all)
+    rw (c.placed_children-in-States.ensures, c.deref-in-States.ensures.value) (All-left P first rest all)
 
 pub mark-requires-in-States-2 : goal.mark-requires-in-States-2
 mark-requires-in-States-2 c =
@@ -47,7 +47,7 @@ returns-in-States c =
     let new = c.mark_variants-in-States.new.needed in
     let first : List ℕ = placed_nodes c.args.node.layout.now c.in-States.prefix.items in
     let later : List ℕ = map (λ v. v.1) c.in-States.states.items in
-    let prefix : MarksPlaces old one first = subst (MarksPlaces old one) (c.placed-in-States.ensures ∙ ap (placed_nodes c.args.node.layout.now) c.deref-in-States.ensures.value) c.mark-in-States.ensures in
+    let prefix : MarksPlaces old one first = subst (MarksPlaces old one) (c.placed_children-in-States.ensures ∙ ap (placed_nodes c.args.node.layout.now) c.deref-in-States.ensures.value) c.mark-in-States.ensures in
     let states : MarksPlaces two new later = subst (λ vs. MarksPlaces two new (map (λ v. v.1) vs)) c.deref-in-States-2.ensures.value c.mark_variants-in-States.ensures in
     subst (λ s. MarksPlaces old new (named_by c.args.node.layout.now s)) (sym c.in-States.is)
     (marks_both old one new first (c.in-States.tag ∷ later) prefix (marks_both one two new (c.in-States.tag ∷ []) later c.mark-in-States-2.ensures states))

@@ -20,8 +20,8 @@ mark_named-requires c = λ k d lt.
     let ns : List Node = c.args.nodes.nodes.now in
     let i : ℕ = c.loop-at.at - 1 in
     let there : i < length ns = omega (arith, c.loop-at.auto.at, c.loop-at-test.true, c.requires.there) in
-    let at : lent_node c.read-node.result ≡ get_or ns i (lent_node c.read-node.result) = c.read-node.ensures.node ∙ ap (λ nodes. get_or nodes.now i (lent_node c.read-node.result)) c.loop-at.invariant.same in
-    omega (arith, named_first ns c.requires.well c.requires.laws i (lent_node c.read-node.result) there at k d lt, ap length c.deref_mut.ensures.value, c.loop-at.invariant.read.marks, c.loop-at.auto.at)
+    let at : lent_node c.visit-node.result ≡ get_or ns i (lent_node c.visit-node.result) = c.visit-node.ensures.node ∙ ap (λ nodes. get_or nodes.now i (lent_node c.visit-node.result)) c.loop-at.invariant.same in
+    omega (arith, named_first ns c.requires.well c.requires.laws i (lent_node c.visit-node.result) there at k d lt, ap length c.deref_mut.ensures.value, c.loop-at.invariant.read.marks, c.loop-at.auto.at)
 
 pub loop-at-preserved-then-index : goal.loop-at-preserved-then-index
 loop-at-preserved-then-index c =
@@ -33,12 +33,12 @@ loop-at-preserved-then-index c =
     let below : i < c.args.root + 1 = omega (arith, c.loop-at.auto.at, c.loop-at-test.true) in
     let marked : get_or c.loop-at.needed.items i false ≡ true =
     get_or_default c.loop-at.needed.items i false c.index.result.now (omega (arith, below, c.loop-at.invariant.read.marks)) ∙ sym c.index.ensures ∙ c.if-index.true in
-    let now = c.read-node.new.self.visits in
-    let node = c.read-node.result in
-    let at : lent_node node ≡ get_or ns i (lent_node node) = c.read-node.ensures.node ∙ ap (λ nodes. get_or nodes.now i (lent_node node)) c.loop-at.invariant.same in
+    let now = c.visit-node.new.self.visits in
+    let node = c.visit-node.result in
+    let at : lent_node node ≡ get_or ns i (lent_node node) = c.visit-node.ensures.node ∙ ap (λ nodes. get_or nodes.now i (lent_node node)) c.loop-at.invariant.same in
     let kept = set c.loop-at.kept.items i (Some node) in
     record {
-      same = c.read-node.ensures.same ∙ c.loop-at.invariant.same;
+      same = c.visit-node.ensures.same ∙ c.loop-at.invariant.same;
       read =
           elim c.if-bytes-gt0.branch as (λ _. AreRead ns c.args.root i c.if-bytes-gt0.needed.items kept now) [
             | then-bytes-gt0 w ↦
@@ -49,12 +49,12 @@ loop-at-preserved-then-index c =
                 let long : length new ≡ c.loop-at.needed.len = w.mark_named.ensures.0 ∙ w.deref_mut.ensures.len in
                 subst (λ new. AreRead ns c.args.root i new kept now) (sym (ap (λ v. v.items) w.needed-is ∙ take_at new (drop (length new) c.loop-at.needed.items) c.loop-at.needed.len long))
                 (read_more ns c.args.root i c.loop-at.needed.items c.loop-at.kept.items c.loop-at.nodes.visits read c.requires.well c.requires.laws c.requires.there marked node at below
-                w.mark_named.new.needed now c.read-node.ensures.visits some marks)
+                w.mark_named.new.needed now c.visit-node.ensures.visits some marks)
             | else-bytes-gt0 w ↦
                 let bare : (0 < node.layout.now.size → ⊥) = λ some. omega (arith, some, c.bytes.ensures, w.if-bytes-gt0.false) in
                 subst (λ new. AreRead ns c.args.root i new kept now) (sym (ap (λ v. v.items) w.needed-is))
                 (read_bare ns c.args.root i c.loop-at.needed.items c.loop-at.kept.items c.loop-at.nodes.visits read c.requires.well c.requires.laws c.requires.there marked node at below
-                now c.read-node.ensures.visits bare)
+                now c.visit-node.ensures.visits bare)
           ];
     }
 
@@ -66,11 +66,11 @@ loop-at-preserved c =
     let read : AreRead ns c.args.root (i + 1) c.loop-at.needed.items c.loop-at.kept.items c.loop-at.nodes.visits =
     subst (λ at. AreRead ns c.args.root at c.loop-at.needed.items c.loop-at.kept.items c.loop-at.nodes.visits) next c.loop-at.invariant.read in
     let below : i < c.args.root + 1 = omega (arith, c.loop-at.auto.at, c.loop-at-test.true) in
-    let unmarked : get_or c.loop-at.needed.items i false ≡ false =
+    let unmarked_bytes : get_or c.loop-at.needed.items i false ≡ false =
     get_or_default c.loop-at.needed.items i false c.index.result.now (omega (arith, below, c.loop-at.invariant.read.marks)) ∙ sym c.index.ensures ∙ c.if-index.false in
     record {
       same = c.loop-at.invariant.same;
-      read = read_skip ns c.args.root i c.loop-at.needed.items c.loop-at.kept.items c.loop-at.nodes.visits c.requires.there below read unmarked;
+      read = read_skip ns c.args.root i c.loop-at.needed.items c.loop-at.kept.items c.loop-at.nodes.visits c.requires.there below read unmarked_bytes;
     }
 
 pub returns-clause-needed : goal.returns-clause-needed

@@ -1,8 +1,8 @@
 use Rattle.std.proofs.Common.{◌≡◌, ◌<◌, ◌++◌, ℕ, zero, suc, false, [], All, ap, arith, map, rules, subst, sym, ◌∙◌}
 use Rattle.std.specs.Prelude.{◌==◌}
 use Rattle.abi_tree.specs.Needed.{IsKept, numbered_nodes}
-use Rattle.abi_tree.specs.Nodes.{arms_in, placed_at, types_in}
-use Rattle.abi_tree.specs.Parts.{common_parts, kept_part, parts_of_arms}
+use Rattle.abi_tree.specs.Nodes.{tagged_variants_in, placed_at, types_in}
+use Rattle.abi_tree.specs.Parts.{common_parts, kept_part, parts_of_tagged_variants}
 use Rattle.abi_tree.proofs.Places.PartsLemmas.{all_are, none_are, variants_kept, variants_meant}
 use Rattle.abi_tree.proofs.parts.parts_of.Goals as goal
 
@@ -27,7 +27,7 @@ returns c = λ ns have.
     let types = types_in ns in
     let kept = variants_kept ns c.args.sets.kept.now c.args.sets.done.now have c.args.place c.args.node c.requires.here some in
     c.in_ok-put_variants.ensures ns have (rw c.numbered_nodes.ensures kept)
-    ∙ ap (λ xs. xs ++ parts_of_arms 0 (arms_in types c.numbered_nodes.result.now)) (c.in_ok-put_common.ensures ns have ∙ ap (λ xs. map kept_part xs ++ common_parts (placed_at ns c.args.place)) c.new-parts.ensures.items)
-    ∙ ap (λ vs. common_parts (placed_at ns c.args.place) ++ parts_of_arms 0 (arms_in types vs)) c.numbered_nodes.ensures
+    ∙ ap (λ xs. xs ++ parts_of_tagged_variants 0 (tagged_variants_in types c.numbered_nodes.result.now)) (c.in_ok-put_common.ensures ns have ∙ ap (λ xs. map kept_part xs ++ common_parts (placed_at ns c.args.place)) c.new-parts.ensures.items)
+    ∙ ap (λ vs. common_parts (placed_at ns c.args.place) ++ parts_of_tagged_variants 0 (tagged_variants_in types vs)) c.numbered_nodes.ensures
     ∙ ap (λ xs. common_parts (placed_at ns c.args.place) ++ xs) (sym (variants_meant ns c.args.sets.kept.now c.args.sets.done.now have c.args.place c.args.node c.requires.here))
     ∙ all_are ns c.args.sets.kept.now c.args.sets.done.now have c.args.place c.args.node c.requires.here some

@@ -16,7 +16,7 @@ put_parts-requires-clause-made c =
     let t = c.requires.made.0 in
     let m = c.requires.made.1 in
     let fits : n.layout.size < 2 ^ 64 = omega (arith, c.bytes-size.ensures, c.bytes-size.type_inv) in
-    (listed_fit t n c.args.done.now m c.requires.some (c.in-Pair.first ∷ c.in-Pair.second ∷ []) c.offsets.result.now c.placed.result.now (listed_pair t n c.args.done.now m c.requires.some c.in-Pair.first c.in-Pair.second c.in-Pair.is) c.offsets.ensures (c.placed.ensures) fits).0
+    (listed_fit t n c.args.done.now m c.requires.some (c.in-Pair.first ∷ c.in-Pair.second ∷ []) c.offsets.result.now c.placed_children.result.now (listed_pair t n c.args.done.now m c.requires.some c.in-Pair.first c.in-Pair.second c.in-Pair.is) c.offsets.ensures (c.placed_children.ensures) fits).0
 
 pub put_parts-requires-clause-fits : goal.put_parts-requires-clause-fits
 put_parts-requires-clause-fits c =
@@ -24,7 +24,7 @@ put_parts-requires-clause-fits c =
     let t = c.requires.made.0 in
     let m = c.requires.made.1 in
     let fits : n.layout.size < 2 ^ 64 = omega (arith, c.bytes-size.ensures, c.bytes-size.type_inv) in
-    (listed_fit t n c.args.done.now m c.requires.some (c.in-Pair.first ∷ c.in-Pair.second ∷ []) c.offsets.result.now c.placed.result.now (listed_pair t n c.args.done.now m c.requires.some c.in-Pair.first c.in-Pair.second c.in-Pair.is) c.offsets.ensures (c.placed.ensures) fits).1
+    (listed_fit t n c.args.done.now m c.requires.some (c.in-Pair.first ∷ c.in-Pair.second ∷ []) c.offsets.result.now c.placed_children.result.now (listed_pair t n c.args.done.now m c.requires.some c.in-Pair.first c.in-Pair.second c.in-Pair.is) c.offsets.ensures (c.placed_children.ensures) fits).1
 
 pub put_parts-requires-in-Fields-clause-made : goal.put_parts-requires-in-Fields-clause-made
 put_parts-requires-in-Fields-clause-made c =
@@ -32,7 +32,7 @@ put_parts-requires-in-Fields-clause-made c =
     let t = c.requires.made.0 in
     let m = c.requires.made.1 in
     let fits : n.layout.size < 2 ^ 64 = omega (arith, c.bytes-size.ensures, c.bytes-size.type_inv) in
-    (listed_fit t n c.args.done.now m c.requires.some c.in-Fields.children.items c.offsets-in-Fields.result.now c.placed-in-Fields.result.now (listed_fields t n c.args.done.now m c.requires.some c.in-Fields.field-0 c.in-Fields.children c.in-Fields.is) c.offsets-in-Fields.ensures (c.placed-in-Fields.ensures ∙ ap (placed_nodes n.layout) c.deref.ensures.value) fits).0
+    (listed_fit t n c.args.done.now m c.requires.some c.in-Fields.children.items c.offsets-in-Fields.result.now c.placed_children-in-Fields.result.now (listed_fields t n c.args.done.now m c.requires.some c.in-Fields.field-0 c.in-Fields.children c.in-Fields.is) c.offsets-in-Fields.ensures (c.placed_children-in-Fields.ensures ∙ ap (placed_nodes n.layout) c.deref.ensures.value) fits).0
 
 pub put_parts-requires-in-Fields-clause-fits : goal.put_parts-requires-in-Fields-clause-fits
 put_parts-requires-in-Fields-clause-fits c =
@@ -40,7 +40,7 @@ put_parts-requires-in-Fields-clause-fits c =
     let t = c.requires.made.0 in
     let m = c.requires.made.1 in
     let fits : n.layout.size < 2 ^ 64 = omega (arith, c.bytes-size.ensures, c.bytes-size.type_inv) in
-    (listed_fit t n c.args.done.now m c.requires.some c.in-Fields.children.items c.offsets-in-Fields.result.now c.placed-in-Fields.result.now (listed_fields t n c.args.done.now m c.requires.some c.in-Fields.field-0 c.in-Fields.children c.in-Fields.is) c.offsets-in-Fields.ensures (c.placed-in-Fields.ensures ∙ ap (placed_nodes n.layout) c.deref.ensures.value) fits).1
+    (listed_fit t n c.args.done.now m c.requires.some c.in-Fields.children.items c.offsets-in-Fields.result.now c.placed_children-in-Fields.result.now (listed_fields t n c.args.done.now m c.requires.some c.in-Fields.field-0 c.in-Fields.children c.in-Fields.is) c.offsets-in-Fields.ensures (c.placed_children-in-Fields.ensures ∙ ap (placed_nodes n.layout) c.deref.ensures.value) fits).1
 
 pub put_parts-requires-in-Single-clause-made : goal.put_parts-requires-in-Single-clause-made
 put_parts-requires-in-Single-clause-made c =
@@ -48,7 +48,7 @@ put_parts-requires-in-Single-clause-made c =
     let t = c.requires.made.0 in
     let m = c.requires.made.1 in
     let fits : n.layout.size < 2 ^ 64 = omega (arith, c.bytes-size.ensures, c.bytes-size.type_inv) in
-    (listed_fit t n c.args.done.now m c.requires.some c.in-Single.children.items c.offsets-in-Single.result.now c.placed-in-Single.result.now (listed_single t n c.args.done.now m c.requires.some c.in-Single.field-0 c.in-Single.children c.in-Single.is) c.offsets-in-Single.ensures (c.placed-in-Single.ensures ∙ ap (placed_nodes n.layout) c.deref-in-Single.ensures.value) fits).0
+    (listed_fit t n c.args.done.now m c.requires.some c.in-Single.children.items c.offsets-in-Single.result.now c.placed_children-in-Single.result.now (listed_single t n c.args.done.now m c.requires.some c.in-Single.field-0 c.in-Single.children c.in-Single.is) c.offsets-in-Single.ensures (c.placed_children-in-Single.ensures ∙ ap (placed_nodes n.layout) c.deref-in-Single.ensures.value) fits).0
 
 pub put_parts-requires-in-Single-clause-fits : goal.put_parts-requires-in-Single-clause-fits
 put_parts-requires-in-Single-clause-fits c =
@@ -56,7 +56,7 @@ put_parts-requires-in-Single-clause-fits c =
     let t = c.requires.made.0 in
     let m = c.requires.made.1 in
     let fits : n.layout.size < 2 ^ 64 = omega (arith, c.bytes-size.ensures, c.bytes-size.type_inv) in
-    (listed_fit t n c.args.done.now m c.requires.some c.in-Single.children.items c.offsets-in-Single.result.now c.placed-in-Single.result.now (listed_single t n c.args.done.now m c.requires.some c.in-Single.field-0 c.in-Single.children c.in-Single.is) c.offsets-in-Single.ensures (c.placed-in-Single.ensures ∙ ap (placed_nodes n.layout) c.deref-in-Single.ensures.value) fits).1
+    (listed_fit t n c.args.done.now m c.requires.some c.in-Single.children.items c.offsets-in-Single.result.now c.placed_children-in-Single.result.now (listed_single t n c.args.done.now m c.requires.some c.in-Single.field-0 c.in-Single.children c.in-Single.is) c.offsets-in-Single.ensures (c.placed_children-in-Single.ensures ∙ ap (placed_nodes n.layout) c.deref-in-Single.ensures.value) fits).1
 
 pub put_parts-requires-in-States-clause-made : goal.put_parts-requires-in-States-clause-made
 put_parts-requires-in-States-clause-made c =
@@ -64,7 +64,7 @@ put_parts-requires-in-States-clause-made c =
     let t = c.requires.made.0 in
     let m = c.requires.made.1 in
     let fits : n.layout.size < 2 ^ 64 = omega (arith, c.bytes-size.ensures, c.bytes-size.type_inv) in
-    (listed_fit t n c.args.done.now m c.requires.some c.in-States.prefix.items c.offsets-in-States.result.now c.placed-in-States.result.now (states_parts t n c.args.done.now m c.requires.some c.in-States.prefix c.in-States.tag c.in-States.states c.in-States.is).0 c.offsets-in-States.ensures (c.placed-in-States.ensures ∙ ap (placed_nodes n.layout) c.deref-in-States.ensures.value) fits).0
+    (listed_fit t n c.args.done.now m c.requires.some c.in-States.prefix.items c.offsets-in-States.result.now c.placed_children-in-States.result.now (states_parts t n c.args.done.now m c.requires.some c.in-States.prefix c.in-States.tag c.in-States.states c.in-States.is).0 c.offsets-in-States.ensures (c.placed_children-in-States.ensures ∙ ap (placed_nodes n.layout) c.deref-in-States.ensures.value) fits).0
 
 pub put_parts-requires-in-States-clause-fits : goal.put_parts-requires-in-States-clause-fits
 put_parts-requires-in-States-clause-fits c =
@@ -72,29 +72,29 @@ put_parts-requires-in-States-clause-fits c =
     let t = c.requires.made.0 in
     let m = c.requires.made.1 in
     let fits : n.layout.size < 2 ^ 64 = omega (arith, c.bytes-size.ensures, c.bytes-size.type_inv) in
-    (listed_fit t n c.args.done.now m c.requires.some c.in-States.prefix.items c.offsets-in-States.result.now c.placed-in-States.result.now (states_parts t n c.args.done.now m c.requires.some c.in-States.prefix c.in-States.tag c.in-States.states c.in-States.is).0 c.offsets-in-States.ensures (c.placed-in-States.ensures ∙ ap (placed_nodes n.layout) c.deref-in-States.ensures.value) fits).1
+    (listed_fit t n c.args.done.now m c.requires.some c.in-States.prefix.items c.offsets-in-States.result.now c.placed_children-in-States.result.now (states_parts t n c.args.done.now m c.requires.some c.in-States.prefix c.in-States.tag c.in-States.states c.in-States.is).0 c.offsets-in-States.ensures (c.placed_children-in-States.ensures ∙ ap (placed_nodes n.layout) c.deref-in-States.ensures.value) fits).1
 
 pub returns-in-Pair : goal.returns-in-Pair
 returns-in-Pair c =
     on_ok_weaker c.put_parts.result
-    (λ put types made. put_pair types (lent_node c.args.node) c.args.done.now made c.requires.some c.in-Pair.first c.in-Pair.second c.offsets.result.now c.placed.result.now c.args.runs.now c.put_parts.new.runs c.in-Pair.is
-    c.offsets.ensures c.placed.ensures put)
+    (λ put types made. put_pair types (lent_node c.args.node) c.args.done.now made c.requires.some c.in-Pair.first c.in-Pair.second c.offsets.result.now c.placed_children.result.now c.args.runs.now c.put_parts.new.runs c.in-Pair.is
+    c.offsets.ensures c.placed_children.ensures put)
     c.put_parts.ensures
 
 pub returns-in-Fields : goal.returns-in-Fields
 returns-in-Fields c =
     let n : Node = lent_node c.args.node in
     on_ok_weaker c.put_parts-in-Fields.result
-    (λ put types made. put_fields types n c.args.done.now made c.requires.some c.in-Fields.field-0 c.in-Fields.children c.offsets-in-Fields.result.now c.placed-in-Fields.result.now c.args.runs.now c.put_parts-in-Fields.new.runs
-    c.in-Fields.is c.offsets-in-Fields.ensures (c.placed-in-Fields.ensures ∙ ap (placed_nodes n.layout) c.deref.ensures.value) put)
+    (λ put types made. put_fields types n c.args.done.now made c.requires.some c.in-Fields.field-0 c.in-Fields.children c.offsets-in-Fields.result.now c.placed_children-in-Fields.result.now c.args.runs.now c.put_parts-in-Fields.new.runs
+    c.in-Fields.is c.offsets-in-Fields.ensures (c.placed_children-in-Fields.ensures ∙ ap (placed_nodes n.layout) c.deref.ensures.value) put)
     c.put_parts-in-Fields.ensures
 
 pub returns-in-Single : goal.returns-in-Single
 returns-in-Single c =
     let n : Node = lent_node c.args.node in
     on_ok_weaker c.put_parts-in-Single.result
-    (λ put types made. put_single types n c.args.done.now made c.requires.some c.in-Single.field-0 c.in-Single.children c.offsets-in-Single.result.now c.placed-in-Single.result.now c.args.runs.now c.put_parts-in-Single.new.runs
-    c.in-Single.is c.offsets-in-Single.ensures (c.placed-in-Single.ensures ∙ ap (placed_nodes n.layout) c.deref-in-Single.ensures.value) put)
+    (λ put types made. put_single types n c.args.done.now made c.requires.some c.in-Single.field-0 c.in-Single.children c.offsets-in-Single.result.now c.placed_children-in-Single.result.now c.args.runs.now c.put_parts-in-Single.new.runs
+    c.in-Single.is c.offsets-in-Single.ensures (c.placed_children-in-Single.ensures ∙ ap (placed_nodes n.layout) c.deref-in-Single.ensures.value) put)
     c.put_parts-in-Single.ensures
 
 pub set_at-requires : goal.set_at-requires
@@ -208,7 +208,7 @@ pub returns-in_ok-put_parts-in-States : goal.returns-in_ok-put_parts-in-States
 returns-in_ok-put_parts-in-States c =
     let n : Node = lent_node c.args.node in
     on_ok_weaker c.put_tagged-in-States.result
-    (λ put types made. put_states types n c.args.done.now made c.requires.some c.in-States.prefix c.in-States.tag c.in-States.states c.offsets-in-States.result.now c.placed-in-States.result.now c.state_tag_offset-offset.result
+    (λ put types made. put_states types n c.args.done.now made c.requires.some c.in-States.prefix c.in-States.tag c.in-States.states c.offsets-in-States.result.now c.placed_children-in-States.result.now c.state_tag_offset-offset.result
     c.deref-in-States-2.result.now c.args.runs.now c.put_parts-in-States.new.runs c.put_tagged-in-States.new.runs c.in-States.is c.offsets-in-States.ensures
-    (c.placed-in-States.ensures ∙ ap (placed_nodes n.layout) c.deref-in-States.ensures.value) (c.state_tag_offset-offset.ensures ∙ ap (state_tag_offset n.layout) (c.len.ensures ∙ sym c.deref-in-States.ensures.len ∙ ap length c.deref-in-States.ensures.value)) c.deref-in-States-2.ensures.value c.in_ok-put_parts-in-States.ensures put)
+    (c.placed_children-in-States.ensures ∙ ap (placed_nodes n.layout) c.deref-in-States.ensures.value) (c.state_tag_offset-offset.ensures ∙ ap (state_tag_offset n.layout) (c.len.ensures ∙ sym c.deref-in-States.ensures.len ∙ ap length c.deref-in-States.ensures.value)) c.deref-in-States-2.ensures.value c.in_ok-put_parts-in-States.ensures put)
     c.put_tagged-in-States.ensures

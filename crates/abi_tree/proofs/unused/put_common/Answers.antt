@@ -34,7 +34,7 @@ put_parts-requires-clause-made c =
     let t = c.requires.made.0 in
     let m = c.requires.made.1 in
     let fits : n.layout.size < 2 ^ 64 = omega (arith, c.bytes-size.ensures, c.bytes-size.type_inv) in
-    (listed_fit t n c.args.done.now m c.requires.some c.in-States.prefix.items c.offsets.result.now c.placed.result.now (states_parts t n c.args.done.now m c.requires.some c.in-States.prefix c.in-States.tag c.in-States.states c.in-States.is).0 c.offsets.ensures (c.placed.ensures ∙ ap (placed_nodes n.layout) c.deref.ensures.value) fits).0
+    (listed_fit t n c.args.done.now m c.requires.some c.in-States.prefix.items c.offsets.result.now c.placed_children.result.now (states_parts t n c.args.done.now m c.requires.some c.in-States.prefix c.in-States.tag c.in-States.states c.in-States.is).0 c.offsets.ensures (c.placed_children.ensures ∙ ap (placed_nodes n.layout) c.deref.ensures.value) fits).0
 
 pub put_parts-requires-clause-fits : goal.put_parts-requires-clause-fits
 put_parts-requires-clause-fits c =
@@ -42,7 +42,7 @@ put_parts-requires-clause-fits c =
     let t = c.requires.made.0 in
     let m = c.requires.made.1 in
     let fits : n.layout.size < 2 ^ 64 = omega (arith, c.bytes-size.ensures, c.bytes-size.type_inv) in
-    (listed_fit t n c.args.done.now m c.requires.some c.in-States.prefix.items c.offsets.result.now c.placed.result.now (states_parts t n c.args.done.now m c.requires.some c.in-States.prefix c.in-States.tag c.in-States.states c.in-States.is).0 c.offsets.ensures (c.placed.ensures ∙ ap (placed_nodes n.layout) c.deref.ensures.value) fits).1
+    (listed_fit t n c.args.done.now m c.requires.some c.in-States.prefix.items c.offsets.result.now c.placed_children.result.now (states_parts t n c.args.done.now m c.requires.some c.in-States.prefix c.in-States.tag c.in-States.states c.in-States.is).0 c.offsets.ensures (c.placed_children.ensures ∙ ap (placed_nodes n.layout) c.deref.ensures.value) fits).1
 
 pub set_at-requires-in-States : goal.set_at-requires-in-States
 set_at-requires-in-States c =
@@ -75,8 +75,8 @@ pub returns-in_ok-put_parts-in-States : goal.returns-in_ok-put_parts-in-States
 returns-in_ok-put_parts-in-States c =
     let n : Node = lent_node c.args.node in
     on_ok_weaker c.add_set-in-States.result
-    (λ put types made. common_states types n c.args.done.now made c.requires.some c.in-States.prefix c.in-States.tag c.in-States.states c.offsets.result.now c.placed.result.now c.state_tag_offset.result
-    c.args.runs.now c.put_parts.new.runs c.add_set-in-States.new.self c.in-States.is c.offsets.ensures (c.placed.ensures ∙ ap (placed_nodes n.layout) c.deref.ensures.value)
+    (λ put types made. common_states types n c.args.done.now made c.requires.some c.in-States.prefix c.in-States.tag c.in-States.states c.offsets.result.now c.placed_children.result.now c.state_tag_offset.result
+    c.args.runs.now c.put_parts.new.runs c.add_set-in-States.new.self c.in-States.is c.offsets.ensures (c.placed_children.ensures ∙ ap (placed_nodes n.layout) c.deref.ensures.value)
     (c.state_tag_offset.ensures ∙ ap (state_tag_offset n.layout) (c.len.ensures ∙ sym c.deref.ensures.len ∙ ap length c.deref.ensures.value)) c.in_ok-put_parts-in-States.ensures
     (subst (λ s. Adds c.put_parts.new.runs c.add_set-in-States.new.self (moved_to c.state_tag_offset.result (is_in_ranges s))) c.set_at-in-States.ensures put))
     c.add_set-in-States.ensures.bytes

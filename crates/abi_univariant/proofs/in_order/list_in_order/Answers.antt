@@ -3,14 +3,14 @@ use Rattle.std.specs.Prelude.{IsPermutation}
 use Rattle.std.proofs.lemmas.List.{length-map}
 use Rattle.abi_base.specs.DataLayout.{size_bound}
 use Rattle.abi_scalar.specs.declared.fields_shape.FieldsShape.TheVariants.{Arbitrary}
-use Rattle.abi_univariant.specs.declared.list_repr.ListRepr.{ListRepr}
+use Rattle.abi_univariant.specs.declared.fields_repr.FieldsRepr.{FieldsRepr}
 use Rattle.abi_univariant.specs.declared.order.NicheBias.TheVariants.{Start}
 use Rattle.abi_univariant.specs.declared.part.Part.{Part}
 use Rattle.abi_base.specs.declared.data_layout.TargetDataLayout.{TargetDataLayout}
 use Rattle.abi_scalar.specs.declared.layout_data.LayoutData.{LayoutData}
 use Rattle.abi_scalar.specs.declared.niche.Niche.{Niche}
 use Rattle.abi_univariant.specs.Part.{parts_of}
-use Rattle.abi_univariant.specs.Placement.{IsAllowed, IsLawfulRepr, source_order}
+use Rattle.abi_univariant.specs.Placement.{IsAllowed, IsWellFormedRepr, source_order}
 use Rattle.abi_univariant.specs.Run.{IsInOrder, IsPlacedIn}
 use Rattle.abi_univariant.proofs.Promised.InOrderLemmas.{error_in_order, fault_placed}
 use Rattle.abi_univariant.proofs.Sorted.Least.{allowed_permutes}
@@ -18,7 +18,7 @@ use Rattle.abi_univariant.proofs.Layouts.ListLemmas.{length-parts, parts_lawful,
 use Rattle.abi_univariant.proofs.in_order.list_in_order.Goals as goal
 
 -- a list that was laid out in an allowed order lies in it
-laid_in_order : {F V H : Type 0} (layout_of : H → LayoutData F V) (dl : TargetDataLayout) (list : ListRepr) (hs : List H) (parts : List Part) (asked order offsets : List ℕ) (size align : ℕ) (niche : Option Niche)
+laid_in_order : {F V H : Type 0} (layout_of : H → LayoutData F V) (dl : TargetDataLayout) (list : FieldsRepr) (hs : List H) (parts : List Part) (asked order offsets : List ℕ) (size align : ℕ) (niche : Option Niche)
     → parts ≡ parts_of dl (map layout_of hs) → IsAllowed list (length hs) asked → order ≡ asked → IsPlacedIn dl list Start parts asked offsets size align niche
     → IsInOrder dl list (parts_of dl (map layout_of hs)) order offsets size align niche
 laid_in_order layout_of dl list hs parts asked order offsets size align niche read allowed same placed =
@@ -36,8 +36,8 @@ pub placed_in-requires-clause-repr : goal.placed_in-requires-clause-repr
 placed_in-requires-clause-repr g c =
     let many : length c.new-parts.result ≡ length c.args.fields.now = ap length (c.new-parts.ensures) ∙ length-parts g.F.LayoutHandle.layout_of c.args.dl.now c.args.fields.now in
     let all = repr_lawful c.args.dl.now c.args.repr.now c.args.list.now.kind (length c.args.fields.now) c.requires.data_layout c.requires.repr c.requires.prefix c.requires.tail in
-    subst (λ (n : ℕ). IsLawfulRepr c.args.list.now n (size_bound c.args.dl.now)) (sym many)
-    (subst (λ (r : ListRepr). IsLawfulRepr r (length c.args.fields.now) (size_bound c.args.dl.now)) (sym c.requires.list) all)
+    subst (λ (n : ℕ). IsWellFormedRepr c.args.list.now n (size_bound c.args.dl.now)) (sym many)
+    (subst (λ (r : FieldsRepr). IsWellFormedRepr r (length c.args.fields.now) (size_bound c.args.dl.now)) (sym c.requires.list) all)
 
 pub placed_in-requires-clause-order : goal.placed_in-requires-clause-order
 placed_in-requires-clause-order g c =
@@ -61,9 +61,9 @@ list_of_placed-requires-clause-placed g c = laid_in_order g.F.LayoutHandle.layou
 pub returns-clause-exact : goal.returns-clause-exact
 returns-clause-exact g c =
     let made = c.list_of_placed.ensures in
-    let placed = subst (λ (r : ListRepr). IsPlacedIn c.args.dl.now r Start (parts_of c.args.dl.now (map g.F.LayoutHandle.layout_of c.args.fields.now)) c.args.order c.in-Ok.placed.offsets.items c.in-Ok.placed.size c.in-Ok.placed.align c.in-Ok.placed.largest_niche) c.requires.list
+    let placed = subst (λ (r : FieldsRepr). IsPlacedIn c.args.dl.now r Start (parts_of c.args.dl.now (map g.F.LayoutHandle.layout_of c.args.fields.now)) c.args.order c.in-Ok.placed.offsets.items c.in-Ok.placed.size c.in-Ok.placed.align c.in-Ok.placed.largest_niche) c.requires.list
     (subst (λ (ps : List Part). IsPlacedIn c.args.dl.now c.args.list.now Start ps c.args.order c.in-Ok.placed.offsets.items c.in-Ok.placed.size c.in-Ok.placed.align c.in-Ok.placed.largest_niche) c.new-parts.ensures c.in-Ok.ensures.placed) in
-    let allowed = subst (λ (r : ListRepr). IsAllowed r (length c.args.fields.now) c.args.order) c.requires.list c.requires.order in (
+    let allowed = subst (λ (r : FieldsRepr). IsAllowed r (length c.args.fields.now) c.args.order) c.requires.list c.requires.order in (
       c.in-Ok.placed.offsets.items,
       record {
         named = (rw (length-map c.args.fields.now g.F.LayoutHandle.layout_of) allowed, rw (made.size, made.align, made.niche) placed);

@@ -4,7 +4,7 @@ pub list_of_slice-requires-clause-fields : goal.list_of_slice-requires-clause-fi
 list_of_slice-requires-clause-fields g c = rw c.as_raw.ensures.items c.requires.fields
 
 pub returns-clause-exact : goal.returns-clause-exact
-returns-clause-exact g c = rw (c.as_raw.ensures.items, c.list_repr-list.ensures) at c.list_of_slice.ensures.exact
+returns-clause-exact g c = rw (c.as_raw.ensures.items, c.fields_repr-list.ensures) at c.list_of_slice.ensures.exact
 
 pub returns-clause-within : goal.returns-clause-within
 returns-clause-within g c = rw c.as_raw.ensures.items at c.as_raw.ensures.within

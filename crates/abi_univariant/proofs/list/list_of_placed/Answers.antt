@@ -2,10 +2,10 @@ use Rattle.std.proofs.Common.{arith, ◌≡◌, ◌^◌, ◌≤◌, length, map,
 use Rattle.std.specs.Int.{next_multiple_of}
 use Rattle.abi_base.specs.DataLayout.{size_bound}
 use Rattle.abi_scalar.specs.declared.fields_shape.FieldsShape.TheVariants.{Arbitrary}
-use Rattle.abi_univariant.specs.declared.list_repr.ListRepr.{ListRepr}
+use Rattle.abi_univariant.specs.declared.fields_repr.FieldsRepr.{FieldsRepr}
 use Rattle.abi_univariant.specs.List.{unadjusted_of}
 use Rattle.abi_univariant.specs.Part.{parts_of}
-use Rattle.abi_univariant.specs.Placement.{IsLawfulRepr, IsNonEmptyIfUnsized, align_of, end_from, in_order, start_of}
+use Rattle.abi_univariant.specs.Placement.{IsWellFormedRepr, IsNonEmptyIfUnsized, align_of, end_from, in_order, start_of}
 use Rattle.abi_univariant.proofs.Views.LawfulList.{made_lawful}
 use Rattle.abi_univariant.proofs.Sorted.Least.{align_small}
 use Rattle.abi_univariant.proofs.Layouts.ListLemmas.{seed_same, view_same, length-parts, parts_lawful, repr_lawful}
@@ -40,7 +40,7 @@ returns-clause-unadjusted g c =
     ∙ (λ i. unadjusted_of c.args.dl.now c.args.repr.now c.args.list.now.kind c.args.placed.size c.args.placed.align (c.new-parts.ensures i))
 
 pub returns-clause-seed : goal.returns-clause-seed
-returns-clause-seed g c = c.seed_with.ensures ∙ seed_same g.F.LayoutHandle.layout_of c.args.repr.now c.args.list.now.kind c.args.fields.now c.movable.result.now c.movable.ensures
+returns-clause-seed g c = c.seed_with.ensures ∙ seed_same g.F.LayoutHandle.layout_of c.args.repr.now c.args.list.now.kind c.args.fields.now c.movable_front.result.now c.movable_front.ensures
 
 pub returns-clause-lawful : goal.returns-clause-lawful
 returns-clause-lawful g c =
@@ -49,7 +49,7 @@ returns-clause-lawful g c =
     let b = c.requires.placed in
     let law = parts_lawful g.F.LayoutHandle.layout_of c.args.dl.now c.args.fields.now c.requires.fields in
     let all = repr_lawful c.args.dl.now c.args.repr.now c.args.list.now.kind (length (parts_of c.args.dl.now (map g.F.LayoutHandle.layout_of c.args.fields.now))) c.requires.data_layout c.requires.repr c.requires.prefix tail in
-    let listed = subst (λ (r : ListRepr). IsLawfulRepr r (length (parts_of c.args.dl.now (map g.F.LayoutHandle.layout_of c.args.fields.now))) (size_bound c.args.dl.now)) (sym c.requires.list) all in
+    let listed = subst (λ (r : FieldsRepr). IsWellFormedRepr r (length (parts_of c.args.dl.now (map g.F.LayoutHandle.layout_of c.args.fields.now))) (size_bound c.args.dl.now)) (sym c.requires.list) all in
     let small : align_of c.args.list.now (parts_of c.args.dl.now (map g.F.LayoutHandle.layout_of c.args.fields.now)) ≤ 29 = align_small c.args.list.now (parts_of c.args.dl.now (map g.F.LayoutHandle.layout_of c.args.fields.now)) (length (parts_of c.args.dl.now (map g.F.LayoutHandle.layout_of c.args.fields.now))) (size_bound c.args.dl.now) (aligned_parts c.args.dl.now (parts_of c.args.dl.now (map g.F.LayoutHandle.layout_of c.args.fields.now)) law) listed in
     let least : c.args.placed.align ≤ 29 = omega (arith, b.placed.alignment, small) in
     let size : c.args.placed.size ≡ next_multiple_of (end_from c.args.list.now.pack (start_of c.args.list.now.pack c.args.list.now.kind) (in_order (parts_of c.args.dl.now (map g.F.LayoutHandle.layout_of c.args.fields.now)) c.args.placed.order)) (2 ^ c.args.placed.align)

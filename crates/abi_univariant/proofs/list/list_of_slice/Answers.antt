@@ -1,13 +1,13 @@
 use Rattle.std.proofs.Common.{◌≡◌, arith, ℕ, List, Option, length, map, sym, ap, subst, ◌∙◌}
 use Rattle.abi_base.specs.DataLayout.{size_bound}
-use Rattle.abi_univariant.specs.declared.list_repr.ListRepr.{ListRepr}
+use Rattle.abi_univariant.specs.declared.fields_repr.FieldsRepr.{FieldsRepr}
 use Rattle.abi_univariant.specs.declared.order.NicheBias.TheVariants.{Start}
 use Rattle.abi_univariant.specs.declared.part.Part.{Part}
 use Rattle.abi_base.specs.declared.data_layout.TargetDataLayout.{TargetDataLayout}
 use Rattle.abi_scalar.specs.declared.layout_data.LayoutData.{LayoutData}
 use Rattle.abi_scalar.specs.declared.niche.Niche.{Niche}
 use Rattle.abi_univariant.specs.Part.{parts_of}
-use Rattle.abi_univariant.specs.Placement.{IsLawfulRepr, IsNonEmptyIfUnsized}
+use Rattle.abi_univariant.specs.Placement.{IsWellFormedRepr, IsNonEmptyIfUnsized}
 use Rattle.abi_univariant.specs.Run.{IsFaultOf, IsInOrder, IsNamedLayout}
 use Rattle.abi_univariant.proofs.Promised.DeepLemmas.{in_order_of}
 use Rattle.abi_univariant.proofs.Layouts.ListLemmas.{error_exact, fault_named, length-parts, parts_lawful, repr_lawful}
@@ -15,7 +15,7 @@ use Rattle.abi_univariant.proofs.Placed.RunLemmas.{biased_of}
 use Rattle.abi_univariant.proofs.list.list_of_slice.Goals as goal
 
 -- a list that was laid out in a named order lies in an allowed one
-laid_in_order : {F V H : Type 0} (layout_of : H → LayoutData F V) (dl : TargetDataLayout) (list : ListRepr) (hs : List H) (parts : List Part) (order offsets : List ℕ) (size align : ℕ) (niche : Option Niche)
+laid_in_order : {F V H : Type 0} (layout_of : H → LayoutData F V) (dl : TargetDataLayout) (list : FieldsRepr) (hs : List H) (parts : List Part) (order offsets : List ℕ) (size align : ℕ) (niche : Option Niche)
     → parts ≡ parts_of dl (map layout_of hs) → IsNonEmptyIfUnsized list.kind (length hs) → IsNamedLayout dl list parts order offsets size align niche
     → IsInOrder dl list (parts_of dl (map layout_of hs)) order offsets size align niche
 laid_in_order layout_of dl list hs parts order offsets size align niche read some named =
@@ -32,8 +32,8 @@ pub layout_of_parts-requires-clause-repr : goal.layout_of_parts-requires-clause-
 layout_of_parts-requires-clause-repr g c =
     let many : length c.new-parts.result ≡ length c.args.fields.now = ap length (c.new-parts.ensures) ∙ length-parts g.F.LayoutHandle.layout_of c.args.dl.now c.args.fields.now in
     let all = repr_lawful c.args.dl.now c.args.repr.now c.args.list.now.kind (length c.args.fields.now) c.requires.data_layout c.requires.repr c.requires.prefix c.requires.tail in
-    subst (λ (n : ℕ). IsLawfulRepr c.args.list.now n (size_bound c.args.dl.now)) (sym many)
-    (subst (λ (r : ListRepr). IsLawfulRepr r (length c.args.fields.now) (size_bound c.args.dl.now)) (sym c.requires.list) all)
+    subst (λ (n : ℕ). IsWellFormedRepr c.args.list.now n (size_bound c.args.dl.now)) (sym many)
+    (subst (λ (r : FieldsRepr). IsWellFormedRepr r (length c.args.fields.now) (size_bound c.args.dl.now)) (sym c.requires.list) all)
 
 pub error_of-requires : goal.error_of-requires
 error_of-requires g c =
@@ -59,7 +59,7 @@ layout_of_parts-requires-clause-count g c =
 
 pub returns-clause-exact : goal.returns-clause-exact
 returns-clause-exact g c =
-    let named = subst (λ (r : ListRepr). IsNamedLayout c.args.dl.now r (parts_of c.args.dl.now (map g.F.LayoutHandle.layout_of c.args.fields.now)) c.in-Ok.placed.order c.in-Ok.placed.offsets.items c.in-Ok.placed.size c.in-Ok.placed.align c.in-Ok.placed.largest_niche) c.requires.list
+    let named = subst (λ (r : FieldsRepr). IsNamedLayout c.args.dl.now r (parts_of c.args.dl.now (map g.F.LayoutHandle.layout_of c.args.fields.now)) c.in-Ok.placed.order c.in-Ok.placed.offsets.items c.in-Ok.placed.size c.in-Ok.placed.align c.in-Ok.placed.largest_niche) c.requires.list
     (subst (λ (ps : List Part). IsNamedLayout c.args.dl.now c.args.list.now ps c.in-Ok.placed.order c.in-Ok.placed.offsets.items c.in-Ok.placed.size c.in-Ok.placed.align c.in-Ok.placed.largest_niche) c.new-parts.ensures c.in-Ok.ensures.named) in
     let made = c.list_of_placed.ensures in (
       c.in-Ok.placed.order,

@@ -3,7 +3,7 @@ use Rattle.std.proofs.Common.{◌≡◌, ◌<◌, ◌≤◌, ℕ, ◌*◌, ◌^�
 use Rattle.std.proofs.lemmas.List.Elements.{All-weaker}
 use Rattle.abi_base.specs.Integer.{integer_size}
 use Rattle.abi_univariant.specs.Placement.{source_order}
-use Rattle.abi_calc.specs.Enums.Path.{has_no_value, variant_at}
+use Rattle.abi_calc.specs.Enums.EnumStrategy.{has_no_value, variant_at}
 use Rattle.abi_index.specs.declared.idx.VariantIdx.{VariantIdx}
 use Rattle.abi_scalar.specs.Range.{numbers_of}
 use Rattle.bench.proofs.Apart.{apart}

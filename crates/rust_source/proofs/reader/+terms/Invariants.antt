@@ -4,23 +4,38 @@ use Rattle.rust_source.specs.Names.{texts}
 use Rattle.rust_source.specs.Operators.{operands_of}
 use Rattle.rust_source.specs.Simple.{most_nested}
 use Rattle.rust_source.specs.Syntax.{argument_of, expr_of, segment_of, type_of}
-use Rattle.rust_source.specs.Terms.{arguments_from, arguments_read, cast_from, expr_from, expr_with, readers, path_from, path_read, tuple_behind, tuple_read, expressions_in, values_from}
+use Rattle.rust_source.specs.Terms.{arguments_from, arguments_read, cast_from, expr_from, expr_with, readers, parameter_types, parameter_types_from, path_from, path_read, tuple_behind, tuple_read, expressions_in, values_from}
 use Rattle.rust_source.proofs.reader.+terms.Given as goal
 
 abbrev pub decreases-types::read_type : goal.decreases-types::read_type
-decreases-types::read_type l = 32 * l.room + 0
+decreases-types::read_type l = 32 * l.depth_left + 0
 
 abbrev pub decreases-types::read_pointed : goal.decreases-types::read_pointed
-decreases-types::read_pointed l = 32 * l.room + 9
+decreases-types::read_pointed l = 32 * l.depth_left + 9
 
 abbrev pub decreases-types::read_target : goal.decreases-types::read_target
-decreases-types::read_target l = 32 * l.room + 8
+decreases-types::read_target l = 32 * l.depth_left + 8
 
 abbrev pub decreases-types::read_tuple : goal.decreases-types::read_tuple
-decreases-types::read_tuple l = 32 * l.room + 1
+decreases-types::read_tuple l = 32 * l.depth_left + 1
 
 abbrev pub decreases-types::read_list : goal.decreases-types::read_list
-decreases-types::read_list l = 32 * l.room + 2
+decreases-types::read_list l = 32 * l.depth_left + 2
+
+abbrev pub decreases-signatures::add_parameter_type : goal.decreases-signatures::add_parameter_type
+decreases-signatures::add_parameter_type l = 32 * l.depth_left + 1
+
+abbrev pub decreases-signatures::read_parameter_types : goal.decreases-signatures::read_parameter_types
+decreases-signatures::read_parameter_types l = 32 * l.depth_left + 2
+
+abbrev pub decreases-signatures::add_result : goal.decreases-signatures::add_result
+decreases-signatures::add_result l = 32 * l.depth_left + 1
+
+abbrev pub decreases-signatures::read_signature : goal.decreases-signatures::read_signature
+decreases-signatures::read_signature l = 32 * l.depth_left + 3
+
+abbrev pub decreases-signatures::read_function_pointer : goal.decreases-signatures::read_function_pointer
+decreases-signatures::read_function_pointer l = 32 * l.depth_left + 4
 
 abbrev pub decreases-paths::read_path : goal.decreases-paths::read_path
 decreases-paths::read_path l = 32 * l.depth_left + 7
@@ -81,7 +96,12 @@ decreases-expressions::read_values l = 32 * l.depth_left + 1
 
 abbrev pub invariant-types::read_tuple-loop-turn : goal.invariant-types::read_tuple-loop-turn
 invariant-types::read_tuple-loop-turn l =
-    tuple_behind (readers l.room) (l.turns - l.turn) (map type_of l.all.items) l.inside (texts l.names) ≡ tuple_read (readers l.room) l.fn.inside (texts l.fn.names)
+    tuple_behind (readers l.depth_left) (l.turns - l.turn) (map type_of l.all.items) l.inside (texts l.names) ≡ tuple_read (readers l.depth_left) l.fn.inside (texts l.fn.names)
+
+abbrev pub invariant-signatures::read_parameter_types-loop-turn : goal.invariant-signatures::read_parameter_types-loop-turn
+invariant-signatures::read_parameter_types-loop-turn l =
+    parameter_types_from (readers l.depth_left) (l.turns - l.turn) (map type_of l.all.items) l.inside (texts l.names)
+    ≡ parameter_types (readers l.depth_left) l.fn.inside (texts l.fn.names)
 
 abbrev pub invariant-paths::read_path-loop-turn : goal.invariant-paths::read_path-loop-turn
 invariant-paths::read_path-loop-turn l =

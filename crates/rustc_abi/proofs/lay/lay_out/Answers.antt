@@ -193,8 +193,8 @@ returns-clause-decides c = λ all k place.
 pub returns-clause-places : goal.returns-clause-places
 returns-clause-places c k =
     let law = c.in_ok-refuse_unlawful.ensures.lawful in
-    let told = laid_told c.args.dl.now law (tree_of c.args.tree.now) _ (laid_root _ _ _ _ _ _ c.in_ok-_root.ensures.ok c.new.ensures.placed) in
-    told.places (typed_of c.new.result) (seen_root c.new.result) k
+    let tag_distinguishes = laid_told c.args.dl.now law (tree_of c.args.tree.now) _ (laid_root _ _ _ _ _ _ c.in_ok-_root.ensures.ok c.new.ensures.placed) in
+    tag_distinguishes.places (typed_of c.new.result) (seen_root c.new.result) k
 
 pub returns-clause-too_large : goal.returns-clause-too_large
 returns-clause-too_large c law large =

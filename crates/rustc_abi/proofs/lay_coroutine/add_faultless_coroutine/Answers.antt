@@ -24,83 +24,83 @@ pub returns-in_err-layout-clause-err : goal.returns-in_err-layout-clause-err
 returns-in_err-layout-clause-err c =
     let ns = c.args.nodes.now in
     let pres = all_at ns c.args.prefix.items in
-    let ps = all_at ns c.args.locals.now in
-    let all = map (λ (state : Vec ℕ Global). state.items) c.args.states.now in
+    let ps = all_at ns c.args.state_nodes.locals.now in
+    let all = map (λ (state : Vec ℕ Global). state.items) c.args.state_nodes.states.now in
     let tag = c.state_tag-tag.result in
-    let none = fault_of_nodes ns c.args.prefix.items c.args.locals.now all c.args.pairs.now ∙ c.requires.faultless in
-    let tells : IsStateTag (length all) tag = subst (λ n. IsStateTag n tag) (sym (length-map c.args.states.now (λ (state : Vec ℕ Global). state.items))) c.state_tag-tag.ensures in
+    let none = fault_of_nodes ns c.args.prefix.items c.args.state_nodes.locals.now all c.args.state_nodes.pairs.now ∙ c.requires.faultless in
+    let tells : IsStateTag (length all) tag = subst (λ n. IsStateTag n tag) (sym (length-map c.args.state_nodes.states.now (λ (state : Vec ℕ Global). state.items))) c.state_tag-tag.ensures in
     let refused = rw c.deref.ensures.value at c.in_err-layout.ensures.err in
-    passed_on _ _ _ c.from_residual.ensures.1 (coroutine_refused c.args.dl.now c.requires.data_layout pres ps all c.args.pairs.now tag none tells c.requires.prefix c.requires.locals _ refused)
+    passed_on _ _ _ c.from_residual.ensures.1 (coroutine_refused c.args.cx.dl.now c.requires.data_layout pres ps all c.args.state_nodes.pairs.now tag none tells c.requires.prefix c.requires.locals _ refused)
 
 pub add_states-requires-clause-tag : goal.add_states-requires-clause-tag
 add_states-requires-clause-tag c =
-    lawful_readable c.args.dl.now c.state_tag-tag.result (state_tag_lawful c.args.dl.now (length c.args.states.now) c.state_tag-tag.result c.state_tag-tag.ensures)
+    lawful_readable c.args.cx.dl.now c.state_tag-tag.result (state_tag_lawful c.args.cx.dl.now (length c.args.state_nodes.states.now) c.state_tag-tag.result c.state_tag-tag.ensures)
 
 pub add_states-requires-clause-each : goal.add_states-requires-clause-each
 add_states-requires-clause-each c =
     let ns = c.args.nodes.now in
     let pres = all_at ns c.args.prefix.items in
-    let ps = all_at ns c.args.locals.now in
-    let all = map (λ (state : Vec ℕ Global). state.items) c.args.states.now in
+    let ps = all_at ns c.args.state_nodes.locals.now in
+    let all = map (λ (state : Vec ℕ Global). state.items) c.args.state_nodes.states.now in
     let tag = c.state_tag-tag.result in
-    let none = fault_of_nodes ns c.args.prefix.items c.args.locals.now all c.args.pairs.now ∙ c.requires.faultless in
-    let tells : IsStateTag (length all) tag = subst (λ n. IsStateTag n tag) (sym (length-map c.args.states.now (λ (state : Vec ℕ Global). state.items))) c.state_tag-tag.ensures in
+    let none = fault_of_nodes ns c.args.prefix.items c.args.state_nodes.locals.now all c.args.state_nodes.pairs.now ∙ c.requires.faultless in
+    let tells : IsStateTag (length all) tag = subst (λ n. IsStateTag n tag) (sym (length-map c.args.state_nodes.states.now (λ (state : Vec ℕ Global). state.items))) c.state_tag-tag.ensures in
     let laid = rw c.deref.ensures.value at c.in_ok-layout.ensures.ok in
-    coroutine_variants c.args.dl.now c.requires.data_layout pres ps all c.args.pairs.now tag none tells c.requires.prefix c.requires.locals c.in_ok-layout.layout laid
-    ∙ length-map c.args.states.now (λ (state : Vec ℕ Global). state.items)
+    coroutine_variants c.args.cx.dl.now c.requires.data_layout pres ps all c.args.state_nodes.pairs.now tag none tells c.requires.prefix c.requires.locals c.in_ok-layout.layout laid
+    ∙ length-map c.args.state_nodes.states.now (λ (state : Vec ℕ Global). state.items)
 
 pub add_states-requires-clause-few : goal.add_states-requires-clause-few
 add_states-requires-clause-few c =
-    let all = map (λ (state : Vec ℕ Global). state.items) c.args.states.now in
-    let few = few_states (length c.args.prefix.items) (length c.args.locals.now) all c.args.pairs.now c.requires.faultless in
-    omega (arith, few, length-map c.args.states.now (λ (state : Vec ℕ Global). state.items))
+    let all = map (λ (state : Vec ℕ Global). state.items) c.args.state_nodes.states.now in
+    let few = few_states (length c.args.prefix.items) (length c.args.state_nodes.locals.now) all c.args.state_nodes.pairs.now c.requires.faultless in
+    omega (arith, few, length-map c.args.state_nodes.states.now (λ (state : Vec ℕ Global). state.items))
 
 pub add_states-requires-clause-few_each : goal.add_states-requires-clause-few_each
 add_states-requires-clause-few_each c =
-    All-from_map (λ (ks : List ℕ). length ks ≤ most_fields) (λ (state : Vec ℕ Global). state.items) c.args.states.now
-    (few_each_state (length c.args.prefix.items) (length c.args.locals.now) (map (λ state. state.items) c.args.states.now) c.args.pairs.now c.requires.faultless)
+    All-from_map (λ (ks : List ℕ). length ks ≤ most_fields) (λ (state : Vec ℕ Global). state.items) c.args.state_nodes.states.now
+    (few_each_state (length c.args.prefix.items) (length c.args.state_nodes.locals.now) (map (λ state. state.items) c.args.state_nodes.states.now) c.args.state_nodes.pairs.now c.requires.faultless)
 
 pub add_states-requires-clause-places : goal.add_states-requires-clause-places
 add_states-requires-clause-places c =
     let ns = c.args.nodes.now in
     let pres = all_at ns c.args.prefix.items in
-    let ps = all_at ns c.args.locals.now in
-    let all = map (λ (state : Vec ℕ Global). state.items) c.args.states.now in
+    let ps = all_at ns c.args.state_nodes.locals.now in
+    let all = map (λ (state : Vec ℕ Global). state.items) c.args.state_nodes.states.now in
     let tag = c.state_tag-tag.result in
-    let none = fault_of_nodes ns c.args.prefix.items c.args.locals.now all c.args.pairs.now ∙ c.requires.faultless in
-    let tells : IsStateTag (length all) tag = subst (λ n. IsStateTag n tag) (sym (length-map c.args.states.now (λ (state : Vec ℕ Global). state.items))) c.state_tag-tag.ensures in
+    let none = fault_of_nodes ns c.args.prefix.items c.args.state_nodes.locals.now all c.args.state_nodes.pairs.now ∙ c.requires.faultless in
+    let tells : IsStateTag (length all) tag = subst (λ n. IsStateTag n tag) (sym (length-map c.args.state_nodes.states.now (λ (state : Vec ℕ Global). state.items))) c.state_tag-tag.ensures in
     let laid = rw c.deref.ensures.value at c.in_ok-layout.ensures.ok in
-    state_places c.args.dl.now c.requires.data_layout pres ps all c.args.pairs.now c.requires.prefix c.requires.locals none tag tells c.in_ok-layout.layout laid
+    state_places c.args.cx.dl.now c.requires.data_layout pres ps all c.args.state_nodes.pairs.now c.requires.prefix c.requires.locals none tag tells c.in_ok-layout.layout laid
 
 pub add_states-requires-clause-inside : goal.add_states-requires-clause-inside
 add_states-requires-clause-inside c =
     let ns = c.args.nodes.now in
     let pres = all_at ns c.args.prefix.items in
-    let ps = all_at ns c.args.locals.now in
-    let all = map (λ (state : Vec ℕ Global). state.items) c.args.states.now in
+    let ps = all_at ns c.args.state_nodes.locals.now in
+    let all = map (λ (state : Vec ℕ Global). state.items) c.args.state_nodes.states.now in
     let tag = c.state_tag-tag.result in
-    let none = fault_of_nodes ns c.args.prefix.items c.args.locals.now all c.args.pairs.now ∙ c.requires.faultless in
-    let tells : IsStateTag (length all) tag = subst (λ n. IsStateTag n tag) (sym (length-map c.args.states.now (λ (state : Vec ℕ Global). state.items))) c.state_tag-tag.ensures in
+    let none = fault_of_nodes ns c.args.prefix.items c.args.state_nodes.locals.now all c.args.state_nodes.pairs.now ∙ c.requires.faultless in
+    let tells : IsStateTag (length all) tag = subst (λ n. IsStateTag n tag) (sym (length-map c.args.state_nodes.states.now (λ (state : Vec ℕ Global). state.items))) c.state_tag-tag.ensures in
     let laid = rw c.deref.ensures.value at c.in_ok-layout.ensures.ok in
-    subst (VariantsInside c.in_ok-layout.layout.size (variants_of c.in_ok-layout.layout.variants)) (map-map (map (placed_in ps)) (λ (state : Vec ℕ Global). state.items) c.args.states.now)
-    (inside_coroutine c.args.dl.now c.requires.data_layout pres ps all c.args.pairs.now c.requires.prefix c.requires.locals none tag tells c.in_ok-layout.layout laid)
+    subst (VariantsInside c.in_ok-layout.layout.size (variants_of c.in_ok-layout.layout.variants)) (map-map (map (placed_in ps)) (λ (state : Vec ℕ Global). state.items) c.args.state_nodes.states.now)
+    (inside_coroutine c.args.cx.dl.now c.requires.data_layout pres ps all c.args.state_nodes.pairs.now c.requires.prefix c.requires.locals none tag tells c.in_ok-layout.layout laid)
 
 pub add_states-requires-clause-known : goal.add_states-requires-clause-known
 add_states-requires-clause-known c =
-    All-from_map (All (λ k. k < length c.args.locals.now)) (λ (state : Vec ℕ Global). state.items) c.args.states.now
-    (states_within (length c.args.prefix.items) (length c.args.locals.now) (map (λ state. state.items) c.args.states.now) c.args.pairs.now c.requires.faultless)
+    All-from_map (All (λ k. k < length c.args.state_nodes.locals.now)) (λ (state : Vec ℕ Global). state.items) c.args.state_nodes.states.now
+    (states_within (length c.args.prefix.items) (length c.args.state_nodes.locals.now) (map (λ state. state.items) c.args.state_nodes.states.now) c.args.state_nodes.pairs.now c.requires.faultless)
 
 pub returns-clause-ok : goal.returns-clause-ok
 returns-clause-ok c =
     let ns = c.args.nodes.now in
     let pres = all_at ns c.args.prefix.items in
-    let ps = all_at ns c.args.locals.now in
-    let all = map (λ (state : Vec ℕ Global). state.items) c.args.states.now in
+    let ps = all_at ns c.args.state_nodes.locals.now in
+    let all = map (λ (state : Vec ℕ Global). state.items) c.args.state_nodes.states.now in
     let tag = c.state_tag-tag.result in
-    let none = fault_of_nodes ns c.args.prefix.items c.args.locals.now all c.args.pairs.now ∙ c.requires.faultless in
-    let tells : IsStateTag (length all) tag = subst (λ n. IsStateTag n tag) (sym (length-map c.args.states.now (λ (state : Vec ℕ Global). state.items))) c.state_tag-tag.ensures in
+    let none = fault_of_nodes ns c.args.prefix.items c.args.state_nodes.locals.now all c.args.state_nodes.pairs.now ∙ c.requires.faultless in
+    let tells : IsStateTag (length all) tag = subst (λ n. IsStateTag n tag) (sym (length-map c.args.state_nodes.states.now (λ (state : Vec ℕ Global). state.items))) c.state_tag-tag.ensures in
     let laid = rw c.deref.ensures.value at c.in_ok-layout.ensures.ok in
     IfOk-weaker c.add_states.result _ _
-    (λ i put first own told tell fits fit. IsAdded-coroutine c.args.dl.now c.requires.data_layout pres ps all c.args.pairs.now tag none tells c.requires.prefix c.requires.locals c.in_ok-layout.layout laid
-    ns c.add_states.new.nodes i first own put told tell fits fit)
+    (λ i put first own tag_distinguishes tell fits fit. IsAdded-coroutine c.args.cx.dl.now c.requires.data_layout pres ps all c.args.state_nodes.pairs.now tag none tells c.requires.prefix c.requires.locals c.in_ok-layout.layout laid
+    ns c.add_states.new.nodes i first own put tag_distinguishes tell fits fit)
     c.add_states.ensures.ok

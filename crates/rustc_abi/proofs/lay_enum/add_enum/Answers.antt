@@ -11,5 +11,5 @@ add_faultless_enum-requires-clause-faultless c =
 pub returns-in-Some-clause-err : goal.returns-in-Some-clause-err
 returns-in-Some-clause-err c =
     let ns = c.args.nodes.now in
-    own_fault c.args.dl.now c.args.repr.now c.args.numbers.now (variants_in ns c.args.children.items) c.in-Some.fault
+    own_fault c.args.cx.dl.now c.args.repr.now c.args.numbers.now (variants_in ns c.args.children.items) c.in-Some.fault
     (sym (c.in_ok-fault.ensures (variants_in ns c.args.children.items) (lengths_in ns c.args.children.items ∙ ap (map (λ fields. length fields.items)) (sym c.deref.ensures.value))) ∙ c.in-Some.is)

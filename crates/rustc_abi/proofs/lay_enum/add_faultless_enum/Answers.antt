@@ -19,7 +19,7 @@ add_placed-requires-clause-tag c =
     let variants : List (List Placed) = variants_in ns c.args.children.items in
     let long : length c.args.numbers.now ≡ length variants = omega (arith, c.requires.each, length-map c.args.children.items (λ fields. all_at ns fields.items)) in
     let enumed = rw c.deref.ensures.value at c.in_ok-layout.ensures.ok in
-    (enumed_nodes c.args.dl.now c.requires.data_layout c.args.repr.now c.args.numbers.now variants c.in_ok-layout.layout c.requires.faultless long c.requires.lawful enumed).1
+    (enumed_nodes c.args.cx.dl.now c.requires.data_layout c.args.repr.now c.args.numbers.now variants c.in_ok-layout.layout c.requires.faultless long c.requires.lawful enumed).1
 
 pub add_placed-requires-clause-variants : goal.add_placed-requires-clause-variants
 add_placed-requires-clause-variants c =
@@ -29,18 +29,18 @@ add_placed-requires-clause-variants c =
     let long : length c.args.numbers.now ≡ length variants = omega (arith, c.requires.each, count) in
     let enumed = rw c.deref.ensures.value at c.in_ok-layout.ensures.ok in
     subst (λ n. HasVariants n c.in_ok-layout.layout.variants) count
-    (enumed_nodes c.args.dl.now c.requires.data_layout c.args.repr.now c.args.numbers.now variants c.in_ok-layout.layout c.requires.faultless long c.requires.lawful enumed).0
+    (enumed_nodes c.args.cx.dl.now c.requires.data_layout c.args.repr.now c.args.numbers.now variants c.in_ok-layout.layout c.requires.faultless long c.requires.lawful enumed).0
 
 pub add_placed-requires-clause-few : goal.add_placed-requires-clause-few
 add_placed-requires-clause-few c =
     let ns = c.args.nodes.now in
-    let few = few_variants c.args.dl.now c.args.repr.now c.args.numbers.now (variants_in ns c.args.children.items) c.requires.faultless in
+    let few = few_variants c.args.cx.dl.now c.args.repr.now c.args.numbers.now (variants_in ns c.args.children.items) c.requires.faultless in
     omega (arith, few, length-map c.args.children.items (λ fields. all_at ns fields.items))
 
 pub add_placed-requires-clause-few_each : goal.add_placed-requires-clause-few_each
 add_placed-requires-clause-few_each c =
     let ns = c.args.nodes.now in
-    few_nodes ns c.args.children.items (few_fields c.args.dl.now c.args.repr.now c.args.numbers.now (variants_in ns c.args.children.items) c.requires.faultless)
+    few_nodes ns c.args.children.items (few_fields c.args.cx.dl.now c.args.repr.now c.args.numbers.now (variants_in ns c.args.children.items) c.requires.faultless)
 
 pub add_placed-requires-clause-places : goal.add_placed-requires-clause-places
 add_placed-requires-clause-places c =
@@ -48,7 +48,7 @@ add_placed-requires-clause-places c =
     let variants : List (List Placed) = variants_in ns c.args.children.items in
     let long : length c.args.numbers.now ≡ length variants = omega (arith, c.requires.each, length-map c.args.children.items (λ fields. all_at ns fields.items)) in
     let enumed = rw c.deref.ensures.value at c.in_ok-layout.ensures.ok in
-    enum_places c.args.dl.now c.requires.data_layout c.args.repr.now c.args.numbers.now variants c.requires.faultless long c.requires.lawful c.in_ok-layout.layout enumed
+    enum_places c.args.cx.dl.now c.requires.data_layout c.args.repr.now c.args.numbers.now variants c.requires.faultless long c.requires.lawful c.in_ok-layout.layout enumed
 
 pub returns-clause-ok : goal.returns-clause-ok
 returns-clause-ok c =
@@ -56,10 +56,10 @@ returns-clause-ok c =
     let variants : List (List Placed) = variants_in ns c.args.children.items in
     let enumed = rw c.deref.ensures.value at c.in_ok-layout.ensures.ok in
     IfOk-weaker c.add_placed.result _ _
-    (λ i put all is exact fits. IsAdded-enum-as c.args.dl.now c.requires.data_layout _ _ i c.args.repr.now c.args.numbers.now variants c.in_ok-layout.layout all is c.requires.faultless enumed put exact fits)
+    (λ i put all is exact fits. IsAdded-enum-as c.args.cx.dl.now c.requires.data_layout _ _ i c.args.repr.now c.args.numbers.now variants c.in_ok-layout.layout all is c.requires.faultless enumed put exact fits)
     c.add_placed.ensures.ok
 
 pub returns-in_err-layout-clause-err : goal.returns-in_err-layout-clause-err
 returns-in_err-layout-clause-err c =
     let refused = rw c.deref.ensures.value at c.in_err-layout.ensures.err in
-    passed_on _ _ _ c.from_residual.ensures.1 (enum_refused c.args.dl.now c.args.repr.now c.args.numbers.now _ _ c.requires.faultless refused)
+    passed_on _ _ _ c.from_residual.ensures.1 (enum_refused c.args.cx.dl.now c.args.repr.now c.args.numbers.now _ _ c.requires.faultless refused)

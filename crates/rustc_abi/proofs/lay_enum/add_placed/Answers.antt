@@ -1,7 +1,7 @@
 use Rattle.std.proofs.Common.{ap, arith, length, refl, sym, ◌∙◌}
 use Rattle.abi_scalar.specs.declared.variants.Variants.TheVariants.{Single as OneVariant}
 use Rattle.rustc_abi.proofs.Enums.EnumPlacesLemmas.{single_keeps}
-use Rattle.rustc_abi.proofs.Enums.ArmNodesLemmas.{one_before}
+use Rattle.rustc_abi.proofs.Enums.TaggedVariantNodesLemmas.{one_before}
 use Rattle.rustc_abi.proofs.Sizes.CountLemmas.{both_ok, own_put}
 use Rattle.rustc_abi.proofs.lay_enum.add_placed.Goals as goal
 
@@ -9,13 +9,13 @@ pub add-requires-in-Single-clause-laws : goal.add-requires-in-Single-clause-laws
 add-requires-in-Single-clause-laws c =
     let there = rw c.in-Single.is at c.requires.variants in
     let places = rw c.in-Single.is at c.requires.places in
-    single_keeps c.args.nodes.now c.args.layout c.of-mark.result c.args.children.items c.as_usize.result c.swap_remove-fields.result c.swap_remove-fields.result
+    single_keeps c.args.nodes.now c.args.layout c.of-mark.result c.args.variant_nodes.children.items c.as_usize.result c.swap_remove-fields.result c.swap_remove-fields.result
     (c.in-Single.is ∙ ap OneVariant (sym c.as_usize.ensures)) (rw c.as_usize.ensures places) (omega arith) c.swap_remove-fields.ensures.value refl
 
 pub add-requires-in-Single-clause-earlier : goal.add-requires-in-Single-clause-earlier
 add-requires-in-Single-clause-earlier c =
     let there = rw c.in-Single.is at c.requires.variants in
-    one_before (length c.args.nodes.now) _ c.args.children.items c.as_usize.result c.swap_remove-fields.result c.swap_remove-fields.result.items
+    one_before (length c.args.nodes.now) _ c.args.variant_nodes.children.items c.as_usize.result c.swap_remove-fields.result c.swap_remove-fields.result.items
     (omega arith) (omega arith) c.swap_remove-fields.ensures.value refl c.requires.there
 
 pub returns-in-Empty-clause-own : goal.returns-in-Empty-clause-own

@@ -5,7 +5,7 @@ use Rattle.std.proofs.lemmas.List.{length-append, length-map, take_all}
 use Rattle.abi_scalar.specs.Variant.{variants_of}
 use Rattle.abi_tree.specs.Well.{all_at}
 use Rattle.rustc_abi.specs.Adding.{variants_in}
-use Rattle.rustc_abi.proofs.Enums.ArmNodesLemmas.{AreArms-more, fields_before, own_flag, own_keeps}
+use Rattle.rustc_abi.proofs.Enums.TaggedVariantNodesLemmas.{AreTaggedVariants-more, fields_before, own_flag, own_keeps}
 use Rattle.rustc_abi.proofs.Sizes.CountLemmas.{more_absorbed, more_as, more_both}
 use Rattle.rustc_abi.proofs.Trees.MovedLemmas.{moved_from, moved_within, none_moved}
 use Rattle.rustc_abi.proofs.Trees.StillLemmas.{still_after}
@@ -53,7 +53,7 @@ loop-fields-preserved c =
     let put = rw c.in_ok-own.ensures.shape at c.in_ok-node.ensures.ok in
     let number = ap (λ k. get_or c.args.numbers.now k 0) at_is in
     let more =
-    AreArms-more first at.nodes c.add.new.nodes parent (variants_of parent.variants)
+    AreTaggedVariants-more first at.nodes c.add.new.nodes parent (variants_of parent.variants)
     c.args.numbers.now c.args.children.items at.variants.items (length at.variants.items) _ c.in_ok-node.node
     c.in_ok-own.own.layout c.args.mark x within c.requires.variants c.requires.each c.requires.there
     made number x from refl at.invariant.3 put in

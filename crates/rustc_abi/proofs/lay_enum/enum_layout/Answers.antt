@@ -18,41 +18,41 @@ variant_layouts-requires-clause-count c =
     All-weaker (λ fields. length (all_at ns fields.items) ≤ most_fields) (λ fields. length fields.items ≤ most_fields)
     (λ fields few. omega (arith, few, length-map fields.items (placed_in (types_in ns)))) c.args.children.now
     (All-from_map (λ ps. length ps ≤ most_fields) (λ fields. all_at ns fields.items) c.args.children.now
-    (few_fields c.args.dl.now c.args.repr.now c.args.numbers.now (variants_in ns c.args.children.now) c.requires.faultless))
+    (few_fields c.args.cx.dl.now c.args.repr.now c.args.numbers.now (variants_in ns c.args.children.now) c.requires.faultless))
 
-pub calculated-requires-clause-aligns : goal.calculated-requires-clause-aligns
-calculated-requires-clause-aligns c = lawful_aligns c.args.dl.now c.args.repr.now c.args.numbers.now (variants_in c.args.nodes.now c.args.children.now) c.requires.faultless
+pub calculator_answer-requires-clause-aligns : goal.calculator_answer-requires-clause-aligns
+calculator_answer-requires-clause-aligns c = lawful_aligns c.args.cx.dl.now c.args.repr.now c.args.numbers.now (variants_in c.args.nodes.now c.args.children.now) c.requires.faultless
 
-pub calculated-requires-clause-few : goal.calculated-requires-clause-few
-calculated-requires-clause-few c =
+pub calculator_answer-requires-clause-few : goal.calculator_answer-requires-clause-few
+calculator_answer-requires-clause-few c =
     let variants = variants_in c.args.nodes.now c.args.children.now in
-    let few = few_variants c.args.dl.now c.args.repr.now c.args.numbers.now variants c.requires.faultless in
+    let few = few_variants c.args.cx.dl.now c.args.repr.now c.args.numbers.now variants c.requires.faultless in
     let lent = ap (map (map (λ r. r.now))) c.deref.ensures.value ∙ c.in_ok-variants.ensures in
     omega (arith, few, ap length lent, length-map c.deref.result.now (map (λ r. r.now)), length-map variants (map layout_of))
 
-pub calculated-requires-clause-each : goal.calculated-requires-clause-each
-calculated-requires-clause-each c =
+pub calculator_answer-requires-clause-each : goal.calculator_answer-requires-clause-each
+calculator_answer-requires-clause-each c =
     let variants = variants_in c.args.nodes.now c.args.children.now in
     let lent = ap (map (map (λ r. r.now))) c.deref.ensures.value ∙ c.in_ok-variants.ensures in
     omega (arith, c.requires.each, ap length lent, length-map c.deref.result.now (map (λ r. r.now)), length-map variants (map layout_of), length-map c.args.children.now (λ fields. all_at c.args.nodes.now fields.items))
 
-pub calculated-requires-clause-lawful : goal.calculated-requires-clause-lawful
-calculated-requires-clause-lawful c =
+pub calculator_answer-requires-clause-lawful : goal.calculator_answer-requires-clause-lawful
+calculator_answer-requires-clause-lawful c =
     let lent = ap (map (map (λ r. r.now))) c.deref.ensures.value ∙ c.in_ok-variants.ensures in
-    lent_lawful (λ r. r.now) c.args.dl.now c.deref.result.now (variants_in c.args.nodes.now c.args.children.now) lent c.requires.lawful
+    lent_lawful (λ r. r.now) c.args.cx.dl.now c.deref.result.now (variants_in c.args.nodes.now c.args.children.now) lent c.requires.lawful
 
-pub calculated-requires-clause-differ : goal.calculated-requires-clause-differ
-calculated-requires-clause-differ c = none_equal c.args.dl.now c.args.repr.now c.args.numbers.now (variants_in c.args.nodes.now c.args.children.now) c.requires.faultless
+pub calculator_answer-requires-clause-differ : goal.calculator_answer-requires-clause-differ
+calculator_answer-requires-clause-differ c = none_equal c.args.cx.dl.now c.args.repr.now c.args.numbers.now (variants_in c.args.nodes.now c.args.children.now) c.requires.faultless
 
-pub calculated-requires-clause-narrow : goal.calculated-requires-clause-narrow
-calculated-requires-clause-narrow c = all_discriminants c.args.dl.now c.args.repr.now c.args.numbers.now (variants_in c.args.nodes.now c.args.children.now) c.requires.faultless
+pub calculator_answer-requires-clause-narrow : goal.calculator_answer-requires-clause-narrow
+calculator_answer-requires-clause-narrow c = all_discriminants c.args.cx.dl.now c.args.repr.now c.args.numbers.now (variants_in c.args.nodes.now c.args.children.now) c.requires.faultless
 
 pub returns-clause-ok : goal.returns-clause-ok
 returns-clause-ok c =
     let lent = ap (map (map (λ r. r.now))) c.deref.ensures.value ∙ c.in_ok-variants.ensures in
-    IfOk-weaker c.calculated.result _ _ (λ l h. h (variants_in c.args.nodes.now c.args.children.now) lent) c.calculated.ensures.ok
+    IfOk-weaker c.calculator_answer.result _ _ (λ l h. h (variants_in c.args.nodes.now c.args.children.now) lent) c.calculator_answer.ensures.ok
 
 pub returns-clause-err : goal.returns-clause-err
 returns-clause-err c =
     let lent = ap (map (map (λ r. r.now))) c.deref.ensures.value ∙ c.in_ok-variants.ensures in
-    IfErr-weaker c.calculated.result _ _ (λ e h. h (variants_in c.args.nodes.now c.args.children.now) lent) c.calculated.ensures.err
+    IfErr-weaker c.calculator_answer.result _ _ (λ e h. h (variants_in c.args.nodes.now c.args.children.now) lent) c.calculator_answer.ensures.err

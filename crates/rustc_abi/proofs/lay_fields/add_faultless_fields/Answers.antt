@@ -33,25 +33,25 @@ fields_layout-requires-clause-lawful c = rw c.deref-2.ensures.value c.requires.l
 
 pub add-requires-clause-laws : goal.add-requires-clause-laws
 add-requires-clause-laws c =
-    let dl = c.args.dl.now in
+    let dl = c.args.cx.dl.now in
     let ns = c.args.nodes.now in
     let ps = all_at ns c.args.children.items in
     let as_many : length ps ≡ length c.args.children.items = length-map c.args.children.items (placed_in (types_in ns)) in
-    let told = rw c.deref-2.ensures.value at c.in_ok-layout.ensures.ok in
+    let tag_distinguishes = rw c.deref-2.ensures.value at c.in_ok-layout.ensures.ok in
     let apart = rw c.deref-2.ensures.value at c.in_ok-layout.ensures.apart in
-    list_places dl c.args.repr.now _ (types_in ns) _ _ c.in_ok-layout.layout c.args.children.items told.2 apart (omega (arith, faultless_few c.args.repr.now ps c.requires.faultless, as_many))
+    list_places dl c.args.repr.now _ (types_in ns) _ _ c.in_ok-layout.layout c.args.children.items tag_distinguishes.2 apart (omega (arith, faultless_few c.args.repr.now ps c.requires.faultless, as_many))
 
 pub add-requires-clause-earlier : goal.add-requires-clause-earlier
 add-requires-clause-earlier c = all_below _ c.args.children.items c.requires.there
 
 pub returns-clause-ok : goal.returns-clause-ok
 returns-clause-ok c =
-    let dl = c.args.dl.now in
+    let dl = c.args.cx.dl.now in
     let ps = all_at c.args.nodes.now c.args.children.items in
     let as_many : length ps ≡ length c.args.children.items = length-map c.args.children.items (placed_in (types_in c.args.nodes.now)) in
     let kind = c.kind_of-kind.ensures ps (rw c.deref.ensures.value as_many) in
-    let told = rw c.deref-2.ensures.value at c.in_ok-layout.ensures.ok in
-    let listed = subst (λ k. IsLaidList dl c.args.repr.now k (map layout_of ps) (Ok c.in_ok-layout.layout)) kind told in
+    let tag_distinguishes = rw c.deref-2.ensures.value at c.in_ok-layout.ensures.ok in
+    let listed = subst (λ k. IsLaidList dl c.args.repr.now k (map layout_of ps) (Ok c.in_ok-layout.layout)) kind tag_distinguishes in
     let apart = rw c.deref-2.ensures.value at c.in_ok-layout.ensures.apart in
     let niche = rw c.deref-2.ensures.value at c.in_ok-layout.ensures.niche in
     IfOk-weaker c.add.result _ _
@@ -60,12 +60,12 @@ returns-clause-ok c =
 
 pub returns-in_err-layout-clause-err : goal.returns-in_err-layout-clause-err
 returns-in_err-layout-clause-err c =
-    let dl = c.args.dl.now in
+    let dl = c.args.cx.dl.now in
     let ps = all_at c.args.nodes.now c.args.children.items in
     let as_many : length ps ≡ length c.args.children.items = length-map c.args.children.items (placed_in (types_in c.args.nodes.now)) in
     let kind = c.kind_of-kind.ensures ps (rw c.deref.ensures.value as_many) in
-    let told = rw c.deref-2.ensures.value at c.in_err-layout.ensures.err in
-    let refused = subst (λ k. IsRefused (IsLaidList dl c.args.repr.now k (map layout_of ps)) c.in_err-layout.field-0.0) kind told in
+    let tag_distinguishes = rw c.deref-2.ensures.value at c.in_err-layout.ensures.err in
+    let refused = subst (λ k. IsRefused (IsLaidList dl c.args.repr.now k (map layout_of ps)) c.in_err-layout.field-0.0) kind tag_distinguishes in
     passed_on _ _ _ c.from_residual.ensures.1 (fields_refused dl c.args.repr.now c.args.always_sized ps _ c.requires.faultless refused)
 
 pub returns-clause-own : goal.returns-clause-own

@@ -17,20 +17,20 @@ layout_of_univariant-answer-requires-clause-fields c =
     let lent : map (λ r. r.now) (items_of c.as_slice.result) ≡ map layout_of ps =
     ap (map (λ r. r.now)) c.as_slice.ensures ∙ c.in_ok-layouts.ensures in
     rw c.new.ensures
-    (All-from_map (IsLawfulLayout c.args.dl.now) (λ r. r.now) (items_of c.as_slice.result)
-    (subst (All (IsLawfulLayout c.args.dl.now)) (sym lent) (All-map (IsLawfulLayout c.args.dl.now) layout_of ps c.requires.lawful)))
+    (All-from_map (IsLawfulLayout c.args.cx.dl.now) (λ r. r.now) (items_of c.as_slice.result)
+    (subst (All (IsLawfulLayout c.args.cx.dl.now)) (sym lent) (All-map (IsLawfulLayout c.args.cx.dl.now) layout_of ps c.requires.lawful)))
 
 pub returns-clause-ok : goal.returns-clause-ok
 returns-clause-ok c =
     let lent = ap (map (λ r. r.now)) c.as_slice.ensures ∙ c.in_ok-layouts.ensures in
     let exact = rw c.new.ensures at c.in_ok-answer.ensures.exact in
-    listed_ok (λ r. r.now) c.args.dl.now c.args.repr.now c.args.kind (items_of c.as_slice.result) _ _ lent exact
+    listed_ok (λ r. r.now) c.args.cx.dl.now c.args.repr.now c.args.kind (items_of c.as_slice.result) _ _ lent exact
 
 pub returns-in_err-answer-clause-err : goal.returns-in_err-answer-clause-err
 returns-in_err-answer-clause-err c =
     let lent = ap (map (λ r. r.now)) c.as_slice.ensures ∙ c.in_ok-layouts.ensures in
     let exact = rw c.new.ensures at c.in_err-answer.ensures.exact in
-    passed_on _ _ _ c.from_residual-in_err-answer.ensures.1 (listed_err (λ r. r.now) c.args.dl.now c.args.repr.now c.args.kind (items_of c.as_slice.result) _ _ lent exact)
+    passed_on _ _ _ c.from_residual-in_err-answer.ensures.1 (listed_err (λ r. r.now) c.args.cx.dl.now c.args.repr.now c.args.kind (items_of c.as_slice.result) _ _ lent exact)
 
 pub returns-clause-apart : goal.returns-clause-apart
 returns-clause-apart c =

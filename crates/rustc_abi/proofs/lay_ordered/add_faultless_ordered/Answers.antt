@@ -22,10 +22,10 @@ ordered_layout-requires-clause-kind c =
 
 pub ordered_layout-requires-clause-aligns : goal.ordered_layout-requires-clause-aligns
 ordered_layout-requires-clause-aligns c =
-    rw c.randomized.ensures (randomized_aligns c.args.repr.now (faultless_aligns c.args.repr.now _ (ordered_faultless c.args.repr.now _ c.requires.faultless).0))
+    rw c.with_randomize_flag.ensures (randomized_aligns c.args.repr.now (faultless_aligns c.args.repr.now _ (ordered_faultless c.args.repr.now _ c.requires.faultless).0))
 
 pub ordered_layout-requires-clause-free : goal.ordered_layout-requires-clause-free
-ordered_layout-requires-clause-free c = rw c.randomized.ensures (free_order c.args.repr.now (ordered_faultless c.args.repr.now _ c.requires.faultless).1)
+ordered_layout-requires-clause-free c = rw c.with_randomize_flag.ensures (free_order c.args.repr.now (ordered_faultless c.args.repr.now _ c.requires.faultless).1)
 
 pub ordered_layout-requires-clause-count : goal.ordered_layout-requires-clause-count
 ordered_layout-requires-clause-count c =
@@ -38,13 +38,13 @@ ordered_layout-requires-clause-lawful c = rw c.deref-2.ensures.value c.requires.
 
 pub add-requires-clause-laws : goal.add-requires-clause-laws
 add-requires-clause-laws c =
-    let dl = c.args.dl.now in
+    let dl = c.args.cx.dl.now in
     let ns = c.args.nodes.now in
     let ps = all_at ns c.args.children.items in
     let as_many : length ps ≡ length c.args.children.items = length-map c.args.children.items (placed_in (types_in ns)) in
-    let told = rw c.deref-2.ensures.value at c.in_ok-layout.ensures.ok in
+    let tag_distinguishes = rw c.deref-2.ensures.value at c.in_ok-layout.ensures.ok in
     let apart = rw c.deref-2.ensures.value at c.in_ok-layout.ensures.apart in
-    list_places dl c.randomized.result _ (types_in ns) _ _ c.in_ok-layout.layout c.args.children.items told.1 apart
+    list_places dl c.with_randomize_flag.result _ (types_in ns) _ _ c.in_ok-layout.layout c.args.children.items tag_distinguishes.1 apart
     (omega (arith, faultless_few c.args.repr.now ps (ordered_faultless c.args.repr.now ps c.requires.faultless).0, as_many))
 
 pub add-requires-clause-earlier : goal.add-requires-clause-earlier
@@ -52,13 +52,13 @@ add-requires-clause-earlier c = all_below _ c.args.children.items c.requires.the
 
 pub returns-clause-ok : goal.returns-clause-ok
 returns-clause-ok c =
-    let dl = c.args.dl.now in
+    let dl = c.args.cx.dl.now in
     let ps = all_at c.args.nodes.now c.args.children.items in
     let as_many : length ps ≡ length c.args.children.items = length-map c.args.children.items (placed_in (types_in c.args.nodes.now)) in
     let kind = c.kind_of-kind.ensures ps (rw c.deref.ensures.value as_many) in
-    let told = rw c.deref-2.ensures.value at c.in_ok-layout.ensures.ok in
-    let listed = subst (λ k. IsListedInOrder dl c.randomized.result k c.args.order.now (map layout_of ps) (Ok c.in_ok-layout.layout)) kind told in
-    let listed_so = subst (λ r. IsListedInOrder dl r (kind_of c.args.always_sized ps) c.args.order.now (map layout_of ps) (Ok c.in_ok-layout.layout)) c.randomized.ensures listed in
+    let tag_distinguishes = rw c.deref-2.ensures.value at c.in_ok-layout.ensures.ok in
+    let listed = subst (λ k. IsListedInOrder dl c.with_randomize_flag.result k c.args.order.now (map layout_of ps) (Ok c.in_ok-layout.layout)) kind tag_distinguishes in
+    let listed_so = subst (λ r. IsListedInOrder dl r (kind_of c.args.always_sized ps) c.args.order.now (map layout_of ps) (Ok c.in_ok-layout.layout)) c.with_randomize_flag.ensures listed in
     let apart = rw c.deref-2.ensures.value at c.in_ok-layout.ensures.apart in
     let niche = rw c.deref-2.ensures.value at c.in_ok-layout.ensures.niche in
     IfOk-weaker c.add.result _ _
@@ -67,13 +67,13 @@ returns-clause-ok c =
 
 pub returns-in_err-layout-clause-err : goal.returns-in_err-layout-clause-err
 returns-in_err-layout-clause-err c =
-    let dl = c.args.dl.now in
+    let dl = c.args.cx.dl.now in
     let ps = all_at c.args.nodes.now c.args.children.items in
     let as_many : length ps ≡ length c.args.children.items = length-map c.args.children.items (placed_in (types_in c.args.nodes.now)) in
     let kind = c.kind_of-kind.ensures ps (rw c.deref.ensures.value as_many) in
-    let told = rw c.deref-2.ensures.value at c.in_err-layout.ensures.err in
-    let refused = subst (λ k. IsRefused (IsListedInOrder dl c.randomized.result k c.args.order.now (map layout_of ps)) c.in_err-layout.field-0.0) kind told in
-    let refused_so = subst (λ r. IsRefused (IsListedInOrder dl r (kind_of c.args.always_sized ps) c.args.order.now (map layout_of ps)) c.in_err-layout.field-0.0) c.randomized.ensures refused in
+    let tag_distinguishes = rw c.deref-2.ensures.value at c.in_err-layout.ensures.err in
+    let refused = subst (λ k. IsRefused (IsListedInOrder dl c.with_randomize_flag.result k c.args.order.now (map layout_of ps)) c.in_err-layout.field-0.0) kind tag_distinguishes in
+    let refused_so = subst (λ r. IsRefused (IsListedInOrder dl r (kind_of c.args.always_sized ps) c.args.order.now (map layout_of ps)) c.in_err-layout.field-0.0) c.with_randomize_flag.ensures refused in
     passed_on _ _ _ c.from_residual.ensures.1 (ordered_refused dl c.args.repr.now c.args.always_sized c.args.order.now ps _ c.requires.faultless refused_so)
 
 pub returns-clause-own : goal.returns-clause-own

@@ -19,10 +19,10 @@ pub returns-in_err-order-clause-err : goal.returns-in_err-order-clause-err
 returns-in_err-order-clause-err c =
     let ps = all_at c.args.nodes.now c.args.children.now in
     let as_many : length (map layout_of ps) ≡ length c.args.children.now = length-map ps layout_of ∙ length-map c.args.children.now (placed_in (types_in c.args.nodes.now)) in
-    let P = IsRefused (IsListedInOrder c.args.dl.now c.args.repr.now c.args.kind c.args.order.now (map layout_of ps)) in
+    let P = IsRefused (IsListedInOrder c.args.cx.dl.now c.args.repr.now c.args.kind c.args.order.now (map layout_of ps)) in
     passed_on P _ _ c.from_residual.ensures.1
     (⊎_elim (λ memory. inl memory)
-    (λ bad. subst P (sym bad.0) (inr (unknown_field c.args.dl.now c.args.repr.now c.args.kind c.args.order.now (length c.args.children.now) (map layout_of ps) as_many bad.1)))
+    (λ bad. subst P (sym bad.0) (inr (unknown_field c.args.cx.dl.now c.args.repr.now c.args.kind c.args.order.now (length c.args.children.now) (map layout_of ps) as_many bad.1)))
     c.in_err-order.ensures.err)
 
 pub layout_of_univariant_in_order-answer-requires-clause-fields : goal.layout_of_univariant_in_order-answer-requires-clause-fields
@@ -31,8 +31,8 @@ layout_of_univariant_in_order-answer-requires-clause-fields c =
     let lent : map (λ r. r.now) (items_of c.as_slice.result) ≡ map layout_of ps =
     ap (map (λ r. r.now)) c.as_slice.ensures ∙ c.in_ok-layouts.ensures in
     rw c.new.ensures
-    (All-from_map (IsLawfulLayout c.args.dl.now) (λ r. r.now) (items_of c.as_slice.result)
-    (subst (All (IsLawfulLayout c.args.dl.now)) (sym lent) (All-map (IsLawfulLayout c.args.dl.now) layout_of ps c.requires.lawful)))
+    (All-from_map (IsLawfulLayout c.args.cx.dl.now) (λ r. r.now) (items_of c.as_slice.result)
+    (subst (All (IsLawfulLayout c.args.cx.dl.now)) (sym lent) (All-map (IsLawfulLayout c.args.cx.dl.now) layout_of ps c.requires.lawful)))
 
 pub layout_of_univariant_in_order-answer-requires-clause-tail : goal.layout_of_univariant_in_order-answer-requires-clause-tail
 layout_of_univariant_in_order-answer-requires-clause-tail c =
@@ -47,14 +47,14 @@ pub returns-clause-ok : goal.returns-clause-ok
 returns-clause-ok c =
     let lent = ap (map (λ r. r.now)) c.as_slice.ensures ∙ c.in_ok-layouts.ensures in
     let exact = rw (c.new.ensures, c.deref.ensures.value, map-id, c.in_ok-order.ensures.ok) at c.in_ok-answer.ensures.exact in
-    ordered_ok (λ r. r.now) c.args.dl.now c.args.repr.now c.args.kind c.args.order.now (items_of c.as_slice.result) _ _ lent exact
+    ordered_ok (λ r. r.now) c.args.cx.dl.now c.args.repr.now c.args.kind c.args.order.now (items_of c.as_slice.result) _ _ lent exact
 
 pub returns-in_err-answer-clause-err : goal.returns-in_err-answer-clause-err
 returns-in_err-answer-clause-err c =
     let lent = ap (map (λ r. r.now)) c.as_slice.ensures ∙ c.in_ok-layouts.ensures in
     let exact = rw (c.new.ensures, c.deref.ensures.value, map-id, c.in_ok-order.ensures.ok) at c.in_err-answer.ensures.exact in
     passed_on _ _ _ c.from_residual-in_err-answer.ensures.1
-    (ordered_err (λ r. r.now) c.args.dl.now c.args.repr.now c.args.kind c.args.order.now (items_of c.as_slice.result) _ _ lent exact)
+    (ordered_err (λ r. r.now) c.args.cx.dl.now c.args.repr.now c.args.kind c.args.order.now (items_of c.as_slice.result) _ _ lent exact)
 
 pub returns-clause-apart : goal.returns-clause-apart
 returns-clause-apart c =

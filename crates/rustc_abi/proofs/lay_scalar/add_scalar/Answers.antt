@@ -11,12 +11,12 @@ pub returns-in-None-clause-ok : goal.returns-in-None-clause-ok
 returns-in-None-clause-ok c =
     let dl = c.args.dl.now in
     let none = sym c.scalar_fault.ensures ∙ c.in-None.is in
-    IfOk-weaker c.add_lawful.result _ _
+    IfOk-weaker c.add_faultless_scalar.result _ _
     (λ i put. IsAdded-put dl _ _ i _ _ put (sym (ap (λ fault. unless fault (Ok (one_scalar dl c.args.value))) none))
-    (Fits-scalar dl c.args.value (faultless dl c.args.value none) c.add_lawful.ensures.lawful))
-    c.add_lawful.ensures.ok
+    (Fits-scalar dl c.args.value (faultless dl c.args.value none) c.add_faultless_scalar.ensures.lawful))
+    c.add_faultless_scalar.ensures.ok
 
 pub returns-in-None-clause-own : goal.returns-in-None-clause-own
 returns-in-None-clause-own c =
-    both_ok c.add_lawful.result _ _ _ c.add_lawful.ensures.ok c.add_lawful.ensures.count
-    (λ i put count. own_put c.args.nodes.now c.args.nodes.now c.add_lawful.new.nodes i _ put count)
+    both_ok c.add_faultless_scalar.result _ _ _ c.add_faultless_scalar.ensures.ok c.add_faultless_scalar.ensures.count
+    (λ i put count. own_put c.args.nodes.now c.args.nodes.now c.add_faultless_scalar.new.nodes i _ put count)

@@ -20,14 +20,14 @@ add-requires-clause-laws c =
     let b = c.args.b in
     let first = c.in_ok-first.ensures.ok in
     let second = c.in_ok-second.ensures.ok in
-    let one = second.kept.same c.in_ok-first.first (omega (arith, first.last, length-types_in c.add_lawful.new.nodes)) ∙ first.meant in
-    pair_laws dl (types_in c.add_lawful-2.new.nodes) c.in_ok-first.first c.in_ok-second.second a b c.args.layout one second.meant c.requires.exact c.requires.lawful
+    let one = second.kept.same c.in_ok-first.first (omega (arith, first.last, length-types_in c.add_faultless_scalar.new.nodes)) ∙ first.meant in
+    pair_laws dl (types_in c.add_faultless_scalar-2.new.nodes) c.in_ok-first.first c.in_ok-second.second a b c.args.layout one second.meant c.requires.exact c.requires.lawful
 
 pub add-requires-clause-earlier : goal.add-requires-clause-earlier
 add-requires-clause-earlier c =
     let first = c.in_ok-first.ensures.ok in
     let second = c.in_ok-second.ensures.ok in
-    both_true (lt-ltb c.in_ok-first.first _ (omega (arith, first.last, second.last, second.kept.longer, length-types_in c.add_lawful.new.nodes, length-types_in c.add_lawful-2.new.nodes)))
+    both_true (lt-ltb c.in_ok-first.first _ (omega (arith, first.last, second.last, second.kept.longer, length-types_in c.add_faultless_scalar.new.nodes, length-types_in c.add_faultless_scalar-2.new.nodes)))
     (lt-ltb c.in_ok-second.second _ (omega (arith, second.last)))
 
 pub returns-clause-ok : goal.returns-clause-ok
@@ -37,15 +37,15 @@ returns-clause-ok c =
     let b = c.args.b in
     let lawful = subst (IsLawfulLayout dl) c.requires.exact c.requires.lawful in
     IfOk-weaker c.add.result _ _
-    (λ i put. IsAdded-pair dl _ _ _ _ c.in_ok-first.first c.in_ok-second.second i a b c.requires.first c.requires.second c.requires.below c.add_lawful.ensures.lawful c.add_lawful-2.ensures.lawful lawful
+    (λ i put. IsAdded-pair dl _ _ _ _ c.in_ok-first.first c.in_ok-second.second i a b c.requires.first c.requires.second c.requires.below c.add_faultless_scalar.ensures.lawful c.add_faultless_scalar-2.ensures.lawful lawful
     c.in_ok-first.ensures.ok c.in_ok-second.ensures.ok
-    (subst (λ l. IsPut c.add_lawful-2.new.nodes c.add.new.nodes i (meaning (types_in c.add_lawful-2.new.nodes) l (Pair c.in_ok-first.first c.in_ok-second.second))) c.requires.exact put))
+    (subst (λ l. IsPut c.add_faultless_scalar-2.new.nodes c.add.new.nodes i (meaning (types_in c.add_faultless_scalar-2.new.nodes) l (Pair c.in_ok-first.first c.in_ok-second.second))) c.requires.exact put))
     c.add.ensures.ok
 
 pub returns-clause-own : goal.returns-clause-own
 returns-clause-own c =
     both_ok c.add.result _ _ _ c.add.ensures.ok c.add.ensures.count
-    (λ i put count. own_put c.args.nodes.now c.add_lawful-2.new.nodes c.add.new.nodes i _ put (more_both 2 1 false _ _ _ _ (more_both 1 1 false false _ _ _ c.in_ok-first.ensures.count c.in_ok-second.ensures.count) count))
+    (λ i put count. own_put c.args.nodes.now c.add_faultless_scalar-2.new.nodes c.add.new.nodes i _ put (more_both 2 1 false _ _ _ _ (more_both 1 1 false false _ _ _ c.in_ok-first.ensures.count c.in_ok-second.ensures.count) count))
 
 pub returns-in_err-second-clause-behind : goal.returns-in_err-second-clause-behind
 returns-in_err-second-clause-behind c = still_after _ _ _ c.in_ok-first.ensures.behind c.in_err-second.ensures.behind

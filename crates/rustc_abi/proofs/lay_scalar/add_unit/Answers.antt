@@ -13,7 +13,7 @@ use Rattle.rustc_abi.proofs.lay_scalar.add_unit.Goals as goal
 
 pub returns-clause-ok : goal.returns-clause-ok
 returns-clause-ok c =
-    let dl = c.args.dl.now in
+    let dl = c.args.cx.dl.now in
     let lawful = subst (IsLawfulLayout dl) c.unit.ensures.exact (c.unit.ensures.lawful c.requires) in
     IfOk-weaker c.add.result _ _
     (λ i put. IsAdded-put dl _ _ i _ _

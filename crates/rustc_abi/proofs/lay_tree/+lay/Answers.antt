@@ -27,7 +27,7 @@ pub lay_each-returns-in_err-child-clause-err : goal.lay_each-returns-in_err-chil
 lay_each-returns-in_err-child-clause-err t c =
     let item : c.field-item.result ≡ get_or c.args.fields.now c.loop-field.field-index c.field-item.result = c.field-item.is in
     passed_on _ _ _ c.from_residual-in_err-child.ensures.1
-    (each_refused c.args.dl.now c.args.fields.now c.loop-field.field-index c.field-item.result _ _ (omega arith) item c.loop-field.invariant.0.exact c.in_err-child.ensures.err)
+    (each_refused c.args.cx.dl.now c.args.fields.now c.loop-field.field-index c.field-item.result _ _ (omega arith) item c.loop-field.invariant.0.exact c.in_err-child.ensures.err)
 
 pub lay_each-loop-field-preserved : goal.lay_each-loop-field-preserved
 lay_each-loop-field-preserved t c =
@@ -37,7 +37,7 @@ lay_each-loop-field-preserved t c =
     let mapped : map tree_of (take (c.loop-field.field-index + 1) c.args.fields.now) ≡ map tree_of (take c.loop-field.field-index c.args.fields.now) ++ tree_of c.field-item.result ∷ [] =
     ap (map tree_of) more ∙ map-append tree_of (take c.loop-field.field-index c.args.fields.now) (c.field-item.result ∷ []) in (
       rw (mapped, c.in_ok-push.ensures.items) (AreAdded-more _ _ _ _ _ _ _ _ c.loop-field.invariant.0 c.in_ok-child.ensures.ok),
-      rw mapped (counted_more c.args.dl.now _ _ _ (map tree_of (take c.loop-field.field-index c.args.fields.now)) _ c.loop-field.invariant.1 c.in_ok-child.ensures.counted),
+      rw mapped (counted_more c.args.cx.dl.now _ _ _ (map tree_of (take c.loop-field.field-index c.args.fields.now)) _ c.loop-field.invariant.1 c.in_ok-child.ensures.counted),
       still_after _ _ _ c.loop-field.invariant.2 c.in_ok-child.ensures.behind,
     )
 
@@ -65,7 +65,7 @@ lay_tree-returns-in_ok-children-in-Union-clause-err t c =
     let before = c.in_ok-children-in-Union.ensures.ok in
     let same = ap tree_of c.in-Union.is ∙ tree_of-Union c.in-Union.repr c.in-Union.fields in
     let exact = rw c.deref-in-Union.ensures.value at before.exact in
-    rw same (IfErr-weaker c.add_union.result _ _ (λ e refused. union_tree_refused c.args.dl.now c.in-Union.repr _ _ e exact refused) c.add_union.ensures.err)
+    rw same (IfErr-weaker c.add_union.result _ _ (λ e refused. union_tree_refused c.args.cx.dl.now c.in-Union.repr _ _ e exact refused) c.add_union.ensures.err)
 
 pub lay_variants-lay_each-requires : goal.lay_variants-lay_each-requires
 lay_variants-lay_each-requires t c =
@@ -86,9 +86,9 @@ pub lay_variants-returns-in_err-fields-clause-err : goal.lay_variants-returns-in
 lay_variants-returns-in_err-fields-clause-err t c =
     let item : c.variant-item.result ≡ get_or c.args.all.now c.loop-variant.variant-index c.variant-item.result = c.variant-item.is in
     let lent : c.deref.result.now ≡ c.variant-item.result.1.items = c.deref.ensures.value in
-    let refused = subst (λ ts. IsRefused (AreLaying c.args.dl.now (trees (map tree_of ts))) c.in_err-fields.field-0.0) lent c.in_err-fields.ensures.err in
+    let refused = subst (λ ts. IsRefused (AreLaying c.args.cx.dl.now (trees (map tree_of ts))) c.in_err-fields.field-0.0) lent c.in_err-fields.ensures.err in
     passed_on _ _ _ c.from_residual-in_err-fields.ensures.1
-    (variants_refused c.args.dl.now c.args.all.now c.loop-variant.variant-index c.variant-item.result _ _ (omega arith) item c.loop-variant.invariant.0.exact refused)
+    (variants_refused c.args.cx.dl.now c.args.all.now c.loop-variant.variant-index c.variant-item.result _ _ (omega arith) item c.loop-variant.invariant.0.exact refused)
 
 pub lay_variants-loop-variant-preserved : goal.lay_variants-loop-variant-preserved
 lay_variants-loop-variant-preserved t c =
@@ -98,9 +98,9 @@ lay_variants-loop-variant-preserved t c =
     take_more c.args.all.now c.loop-variant.variant-index c.variant-item.result (omega arith)
     ∙ ap (λ x. take c.loop-variant.variant-index c.args.all.now ++ x ∷ []) (sym c.variant-item.is) in (
       rw c.in_ok-push.ensures.items
-          (AreVariantsAdded-more c.args.dl.now _ _ _ _ _ c.args.all.now c.loop-variant.variant-index c.variant-item.result _ (omega arith) item lent c.loop-variant.invariant.0 c.in_ok-fields.ensures.ok),
+          (AreVariantsAdded-more c.args.cx.dl.now _ _ _ _ _ c.args.all.now c.loop-variant.variant-index c.variant-item.result _ (omega arith) item lent c.loop-variant.invariant.0 c.in_ok-fields.ensures.ok),
       rw more
-          (variants_counted_more c.args.dl.now _ _ _ (take c.loop-variant.variant-index c.args.all.now) c.variant-item.result c.loop-variant.invariant.1
+          (variants_counted_more c.args.cx.dl.now _ _ _ (take c.loop-variant.variant-index c.args.all.now) c.variant-item.result c.loop-variant.invariant.1
           (rw lent at c.in_ok-fields.ensures.counted)),
       still_after _ _ _ c.loop-variant.invariant.2 c.in_ok-fields.ensures.behind,
     )
@@ -117,25 +117,25 @@ pub lay_tree-returns-in-Scalar-clause-counted : goal.lay_tree-returns-in-Scalar-
 lay_tree-returns-in-Scalar-clause-counted t c =
     rw (ap tree_of c.in-Scalar.is ∙ tree_of-Scalar c.in-Scalar.value)
     (both_ok c.add_scalar.result _ _ _ c.add_scalar.ensures.ok c.add_scalar.ensures.own
-    (λ i added own. alone_counted c.args.dl.now _ _ i _ added own))
+    (λ i added own. alone_counted c.args.cx.dl.now _ _ i _ added own))
 
 pub lay_tree-returns-in-Pair-clause-counted : goal.lay_tree-returns-in-Pair-clause-counted
 lay_tree-returns-in-Pair-clause-counted t c =
     rw (ap tree_of c.in-Pair.is ∙ tree_of-Pair c.in-Pair.a c.in-Pair.b)
     (both_ok c.add_pair.result _ _ _ c.add_pair.ensures.ok c.add_pair.ensures.own
-    (λ i added own. alone_counted c.args.dl.now _ _ i _ added own))
+    (λ i added own. alone_counted c.args.cx.dl.now _ _ i _ added own))
 
 pub lay_tree-returns-in-Never-clause-counted : goal.lay_tree-returns-in-Never-clause-counted
 lay_tree-returns-in-Never-clause-counted t c =
     rw (ap tree_of c.in-Never.is ∙ tree_of-Never)
     (both_ok c.add_never.result _ _ _ c.add_never.ensures.ok c.add_never.ensures.own
-    (λ i added own. alone_counted c.args.dl.now _ _ i _ added own))
+    (λ i added own. alone_counted c.args.cx.dl.now _ _ i _ added own))
 
 pub lay_tree-returns-in-Unit-clause-counted : goal.lay_tree-returns-in-Unit-clause-counted
 lay_tree-returns-in-Unit-clause-counted t c =
     rw (ap tree_of c.in-Unit.is ∙ tree_of-Unit)
     (both_ok c.add_unit.result _ _ _ c.add_unit.ensures.ok c.add_unit.ensures.own
-    (λ i added own. alone_counted c.args.dl.now _ _ i _ added own))
+    (λ i added own. alone_counted c.args.cx.dl.now _ _ i _ added own))
 
 pub lay_tree-returns-in_ok-element-in-Array-clause-counted : goal.lay_tree-returns-in_ok-element-in-Array-clause-counted
 lay_tree-returns-in_ok-element-in-Array-clause-counted t c =
@@ -143,7 +143,7 @@ lay_tree-returns-in_ok-element-in-Array-clause-counted t c =
     let same = ap tree_of c.in-Array.is ∙ tree_of-Array c.in-Array.count c.in-Array.element in
     rw same
     (both_ok c.add_elements.result _ _ _ c.add_elements.ensures.ok c.add_elements.ensures.own
-    (λ i h own. rw c.deref.ensures at (array_counted c.args.dl.now _ _ _ i _ _ c.in_ok-element-in-Array.ensures.counted (h _ before.exact before.fits) own)))
+    (λ i h own. rw c.deref.ensures at (array_counted c.args.cx.dl.now _ _ _ i _ _ c.in_ok-element-in-Array.ensures.counted (h _ before.exact before.fits) own)))
 
 pub lay_tree-returns-in_ok-element-in-Vector-clause-counted : goal.lay_tree-returns-in_ok-element-in-Vector-clause-counted
 lay_tree-returns-in_ok-element-in-Vector-clause-counted t c =
@@ -151,7 +151,7 @@ lay_tree-returns-in_ok-element-in-Vector-clause-counted t c =
     let same = ap tree_of c.in-Vector.is ∙ tree_of-Vector c.in-Vector.lanes c.in-Vector.packed c.in-Vector.element in
     rw same
     (both_ok c.add_vector.result _ _ _ c.add_vector.ensures.ok c.add_vector.ensures.own
-    (λ i h own. rw c.deref-in-Vector.ensures at (vector_counted c.args.dl.now _ _ _ i _ _ _ c.in_ok-element-in-Vector.ensures.counted (h _ before.exact before.fits) own)))
+    (λ i h own. rw c.deref-in-Vector.ensures at (vector_counted c.args.cx.dl.now _ _ _ i _ _ _ c.in_ok-element-in-Vector.ensures.counted (h _ before.exact before.fits) own)))
 
 pub lay_tree-returns-in_ok-children-in-Union-clause-counted : goal.lay_tree-returns-in_ok-children-in-Union-clause-counted
 lay_tree-returns-in_ok-children-in-Union-clause-counted t c =
@@ -159,7 +159,7 @@ lay_tree-returns-in_ok-children-in-Union-clause-counted t c =
     let same = ap tree_of c.in-Union.is ∙ tree_of-Union c.in-Union.repr c.in-Union.fields in
     rw same
     (both_ok c.add_union.result _ _ _ c.add_union.ensures.ok c.add_union.ensures.own
-    (λ i h own. rw c.deref-in-Union.ensures.value at (union_counted c.args.dl.now _ _ _ i _ _ c.in_ok-children-in-Union.ensures.counted (h _ before.exact before.fits) own)))
+    (λ i h own. rw c.deref-in-Union.ensures.value at (union_counted c.args.cx.dl.now _ _ _ i _ _ c.in_ok-children-in-Union.ensures.counted (h _ before.exact before.fits) own)))
 
 pub lay_each-returns-in_err-child-clause-behind : goal.lay_each-returns-in_err-child-clause-behind
 lay_each-returns-in_err-child-clause-behind t c = still_after _ _ _ c.loop-field.invariant.2 c.in_err-child.ensures.behind
@@ -228,13 +228,13 @@ lay_struct-returns-in-None-clause-counted t c =
     let before = c.in_ok-children.ensures.ok in
     rw c.in-None.is
     (both_ok c.add_fields.result _ _ _ c.add_fields.ensures.ok c.add_fields.ensures.own
-    (λ i h own. struct_counted c.args.dl.now _ _ _ i _ _ _ _ c.in_ok-children.ensures.counted (h _ before.exact before.fits) own))
+    (λ i h own. struct_counted c.args.cx.dl.now _ _ _ i _ _ _ _ c.in_ok-children.ensures.counted (h _ before.exact before.fits) own))
 
 pub lay_struct-returns-in-None-clause-err : goal.lay_struct-returns-in-None-clause-err
 lay_struct-returns-in-None-clause-err t c =
     let before = c.in_ok-children.ensures.ok in
     rw c.in-None.is
-    (IfErr-weaker c.add_fields.result _ _ (λ e refused. struct_refused c.args.dl.now c.args.repr.now c.args.always_sized _ _ e before.exact refused) c.add_fields.ensures.err)
+    (IfErr-weaker c.add_fields.result _ _ (λ e refused. struct_refused c.args.cx.dl.now c.args.repr.now c.args.always_sized _ _ e before.exact refused) c.add_fields.ensures.err)
 
 pub lay_struct-returns-in-None-clause-behind : goal.lay_struct-returns-in-None-clause-behind
 lay_struct-returns-in-None-clause-behind t c = still_after _ _ _ c.in_ok-children.ensures.behind c.add_fields.ensures.behind
@@ -242,25 +242,25 @@ lay_struct-returns-in-None-clause-behind t c = still_after _ _ _ c.in_ok-childre
 pub lay_struct-returns-in-Some-clause-ok : goal.lay_struct-returns-in-Some-clause-ok
 lay_struct-returns-in-Some-clause-ok t c =
     let before = c.in_ok-children.ensures.ok in
-    let told = rw c.deref.ensures.value at c.add_ordered.ensures.ok in
+    let tag_distinguishes = rw c.deref.ensures.value at c.add_ordered.ensures.ok in
     rw c.in-Some.is
     (IfOk-weaker c.add_ordered.result _ _
-    (λ i h. AreAdded-after _ _ _ _ _ _ i _ before (h _ before.exact before.fits)) told)
+    (λ i h. AreAdded-after _ _ _ _ _ _ i _ before (h _ before.exact before.fits)) tag_distinguishes)
 
 pub lay_struct-returns-in-Some-clause-counted : goal.lay_struct-returns-in-Some-clause-counted
 lay_struct-returns-in-Some-clause-counted t c =
     let before = c.in_ok-children.ensures.ok in
-    let told = rw c.deref.ensures.value at c.add_ordered.ensures.ok in
+    let tag_distinguishes = rw c.deref.ensures.value at c.add_ordered.ensures.ok in
     rw c.in-Some.is
-    (both_ok c.add_ordered.result _ _ _ told c.add_ordered.ensures.own
-    (λ i h own. struct_counted c.args.dl.now _ _ _ i _ _ _ _ c.in_ok-children.ensures.counted (h _ before.exact before.fits) own))
+    (both_ok c.add_ordered.result _ _ _ tag_distinguishes c.add_ordered.ensures.own
+    (λ i h own. struct_counted c.args.cx.dl.now _ _ _ i _ _ _ _ c.in_ok-children.ensures.counted (h _ before.exact before.fits) own))
 
 pub lay_struct-returns-in-Some-clause-err : goal.lay_struct-returns-in-Some-clause-err
 lay_struct-returns-in-Some-clause-err t c =
     let before = c.in_ok-children.ensures.ok in
-    let told = rw c.deref.ensures.value at c.add_ordered.ensures.err in
+    let tag_distinguishes = rw c.deref.ensures.value at c.add_ordered.ensures.err in
     rw c.in-Some.is
-    (IfErr-weaker c.add_ordered.result _ _ (λ e refused. ordered_tree_refused c.args.dl.now c.args.repr.now c.args.always_sized _ _ _ e before.exact refused) told)
+    (IfErr-weaker c.add_ordered.result _ _ (λ e refused. ordered_tree_refused c.args.cx.dl.now c.args.repr.now c.args.always_sized _ _ _ e before.exact refused) tag_distinguishes)
 
 pub lay_struct-returns-in-Some-clause-behind : goal.lay_struct-returns-in-Some-clause-behind
 lay_struct-returns-in-Some-clause-behind t c = still_after _ _ _ c.in_ok-children.ensures.behind c.add_ordered.ensures.behind
@@ -286,35 +286,35 @@ lay_tree-returns-in-Enum-clause-err t c =
 
 pub lay_enum-returns-in_err-children-clause-err : goal.lay_enum-returns-in_err-children-clause-err
 lay_enum-returns-in_err-children-clause-err t c =
-    passed_on _ _ _ c.from_residual-in_err-children.ensures.1 (enum_refused c.args.dl.now c.args.repr.now _ _ c.in_err-children.ensures.err)
+    passed_on _ _ _ c.from_residual-in_err-children.ensures.1 (enum_refused c.args.cx.dl.now c.args.repr.now _ _ c.in_err-children.ensures.err)
 
 pub lay_enum-add_enum-requires-clause-each : goal.lay_enum-add_enum-requires-clause-each
 lay_enum-add_enum-requires-clause-each t c =
-    ap length (c.deref.ensures.value ∙ c.in_ok-numbers.ensures) ∙ numbers_of_nodes c.args.dl.now c.requires _ _ _ _ c.in_ok-children.ensures.ok
+    ap length (c.deref.ensures.value ∙ c.in_ok-numbers.ensures) ∙ numbers_of_nodes c.args.cx.dl.now c.requires _ _ _ _ c.in_ok-children.ensures.ok
 
 pub lay_enum-add_enum-requires-clause-lawful : goal.lay_enum-add_enum-requires-clause-lawful
-lay_enum-add_enum-requires-clause-lawful t c = VariantsFit-lawful c.args.dl.now _ _ c.in_ok-children.ensures.ok.fits
+lay_enum-add_enum-requires-clause-lawful t c = VariantsFit-lawful c.args.cx.dl.now _ _ c.in_ok-children.ensures.ok.fits
 
 pub lay_enum-returns-clause-ok : goal.lay_enum-returns-clause-ok
 lay_enum-returns-clause-ok t c =
     let before = c.in_ok-children.ensures.ok in
-    let told = c.add_enum.ensures.ok in
+    let tag_distinguishes = c.add_enum.ensures.ok in
     IfOk-weaker c.add_enum.result _ _
-    (λ i h. AreVariantsAdded-after c.args.dl.now _ _ _ _ _ i _ before (h _ (c.deref.ensures.value ∙ c.in_ok-numbers.ensures) before.exact before.fits)) told
+    (λ i h. AreVariantsAdded-after c.args.cx.dl.now _ _ _ _ _ i _ before (h _ (c.deref.ensures.value ∙ c.in_ok-numbers.ensures) before.exact before.fits)) tag_distinguishes
 
 pub lay_enum-returns-clause-counted : goal.lay_enum-returns-clause-counted
 lay_enum-returns-clause-counted t c =
     let before = c.in_ok-children.ensures.ok in
-    let told = c.add_enum.ensures.ok in
-    both_ok c.add_enum.result _ _ _ told c.add_enum.ensures.own
-    (λ i h own. enum_counted c.args.dl.now _ _ _ i _ _ c.in_ok-children.ensures.counted
+    let tag_distinguishes = c.add_enum.ensures.ok in
+    both_ok c.add_enum.result _ _ _ tag_distinguishes c.add_enum.ensures.own
+    (λ i h own. enum_counted c.args.cx.dl.now _ _ _ i _ _ c.in_ok-children.ensures.counted
     (h _ (c.deref.ensures.value ∙ c.in_ok-numbers.ensures) before.exact before.fits) own)
 
 pub lay_enum-returns-clause-err : goal.lay_enum-returns-clause-err
 lay_enum-returns-clause-err t c =
     let before = c.in_ok-children.ensures.ok in
-    let told = rw (c.deref.ensures.value ∙ c.in_ok-numbers.ensures) at c.add_enum.ensures.err in
-    IfErr-weaker c.add_enum.result _ _ (λ e refused. enum_tree_refused c.args.dl.now c.args.repr.now _ _ e before.exact refused) told
+    let tag_distinguishes = rw (c.deref.ensures.value ∙ c.in_ok-numbers.ensures) at c.add_enum.ensures.err in
+    IfErr-weaker c.add_enum.result _ _ (λ e refused. enum_tree_refused c.args.cx.dl.now c.args.repr.now _ _ e before.exact refused) tag_distinguishes
 
 pub lay_enum-returns-clause-behind : goal.lay_enum-returns-clause-behind
 lay_enum-returns-clause-behind t c = still_after _ _ _ c.in_ok-children.ensures.behind c.add_enum.ensures.behind
@@ -335,12 +335,12 @@ lay_tree-returns-in-Coroutine-clause-err t c =
 
 pub lay_coroutine-add_coroutine-requires-clause-before : goal.lay_coroutine-add_coroutine-requires-clause-before
 lay_coroutine-add_coroutine-requires-clause-before t c =
-    let first = AreAdded-later c.args.dl.now _ _ _ _ _ _ _ c.in_ok-prefix.ensures.ok c.in_ok-locals.ensures.ok in
+    let first = AreAdded-later c.args.cx.dl.now _ _ _ _ _ _ _ c.in_ok-prefix.ensures.ok c.in_ok-locals.ensures.ok in
     first.there
 
 pub lay_coroutine-add_coroutine-requires-clause-prefix : goal.lay_coroutine-add_coroutine-requires-clause-prefix
 lay_coroutine-add_coroutine-requires-clause-prefix t c =
-    let first = AreAdded-later c.args.dl.now _ _ _ _ _ _ _ c.in_ok-prefix.ensures.ok c.in_ok-locals.ensures.ok in
+    let first = AreAdded-later c.args.cx.dl.now _ _ _ _ _ _ _ c.in_ok-prefix.ensures.ok c.in_ok-locals.ensures.ok in
     EachFits-lawful _ _ _ first.fits
 
 pub lay_coroutine-add_coroutine-requires-clause-locals : goal.lay_coroutine-add_coroutine-requires-clause-locals
@@ -348,25 +348,25 @@ lay_coroutine-add_coroutine-requires-clause-locals t c = rw c.deref.ensures.valu
 
 pub lay_coroutine-returns-clause-ok : goal.lay_coroutine-returns-clause-ok
 lay_coroutine-returns-clause-ok t c =
-    let first = AreAdded-later c.args.dl.now _ _ _ _ _ _ _ c.in_ok-prefix.ensures.ok c.in_ok-locals.ensures.ok in
+    let first = AreAdded-later c.args.cx.dl.now _ _ _ _ _ _ _ c.in_ok-prefix.ensures.ok c.in_ok-locals.ensures.ok in
     let own = c.in_ok-locals.ensures.ok in
-    let told = rw c.deref.ensures.value at c.add_coroutine.ensures.ok in
-    IfOk-weaker c.add_coroutine.result _ _ (λ i h. AreAdded-after _ _ _ _ _ _ i _ first (h _ _ first.exact own.exact first.fits own.fits)) told
+    let tag_distinguishes = rw c.deref.ensures.value at c.add_coroutine.ensures.ok in
+    IfOk-weaker c.add_coroutine.result _ _ (λ i h. AreAdded-after _ _ _ _ _ _ i _ first (h _ _ first.exact own.exact first.fits own.fits)) tag_distinguishes
 
 pub lay_coroutine-returns-clause-counted : goal.lay_coroutine-returns-clause-counted
 lay_coroutine-returns-clause-counted t c =
-    let first = AreAdded-later c.args.dl.now _ _ _ _ _ _ _ c.in_ok-prefix.ensures.ok c.in_ok-locals.ensures.ok in
+    let first = AreAdded-later c.args.cx.dl.now _ _ _ _ _ _ _ c.in_ok-prefix.ensures.ok c.in_ok-locals.ensures.ok in
     let own = c.in_ok-locals.ensures.ok in
-    let told = rw c.deref.ensures.value at c.add_coroutine.ensures.ok in
-    both_ok c.add_coroutine.result _ _ _ told c.add_coroutine.ensures.own
-    (λ i h put. coroutine_counted c.args.dl.now _ _ _ _ i _ _ _ _ c.in_ok-prefix.ensures.counted c.in_ok-locals.ensures.counted (h _ _ first.exact own.exact first.fits own.fits) put)
+    let tag_distinguishes = rw c.deref.ensures.value at c.add_coroutine.ensures.ok in
+    both_ok c.add_coroutine.result _ _ _ tag_distinguishes c.add_coroutine.ensures.own
+    (λ i h put. coroutine_counted c.args.cx.dl.now _ _ _ _ i _ _ _ _ c.in_ok-prefix.ensures.counted c.in_ok-locals.ensures.counted (h _ _ first.exact own.exact first.fits own.fits) put)
 
 pub lay_coroutine-returns-clause-err : goal.lay_coroutine-returns-clause-err
 lay_coroutine-returns-clause-err t c =
-    let first = AreAdded-later c.args.dl.now _ _ _ _ _ _ _ c.in_ok-prefix.ensures.ok c.in_ok-locals.ensures.ok in
-    let told = rw c.deref.ensures.value at c.add_coroutine.ensures.err in
+    let first = AreAdded-later c.args.cx.dl.now _ _ _ _ _ _ _ c.in_ok-prefix.ensures.ok c.in_ok-locals.ensures.ok in
+    let tag_distinguishes = rw c.deref.ensures.value at c.add_coroutine.ensures.err in
     IfErr-weaker c.add_coroutine.result _ _
-    (λ e refused. coroutine_tree_refused c.args.dl.now _ _ (map (λ state. state.items) c.args.states.now) c.args.conflicts.now _ _ e first.exact c.in_ok-locals.ensures.ok.exact refused) told
+    (λ e refused. coroutine_tree_refused c.args.cx.dl.now _ _ (map (λ state. state.items) c.args.states.now) c.args.conflicts.now _ _ e first.exact c.in_ok-locals.ensures.ok.exact refused) tag_distinguishes
 
 pub lay_coroutine-returns-clause-behind : goal.lay_coroutine-returns-clause-behind
 lay_coroutine-returns-clause-behind t c =

@@ -28,7 +28,7 @@ add-requires-clause-laws c =
     let ps = all_at ns c.args.children.items in
     let as_many : length ps ≡ length c.args.children.items = length-map c.args.children.items (placed_in (types_in ns)) in
     let united = rw c.deref.ensures.value at c.in_ok-layout.ensures.ok in
-    union_places c.args.dl.now c.args.repr.now (types_in ns) c.in_ok-layout.layout c.args.children.items united (omega (arith, faultless_few c.args.repr.now ps c.requires.faultless, as_many))
+    union_places c.args.cx.dl.now c.args.repr.now (types_in ns) c.in_ok-layout.layout c.args.children.items united (omega (arith, faultless_few c.args.repr.now ps c.requires.faultless, as_many))
 
 pub add-requires-clause-earlier : goal.add-requires-clause-earlier
 add-requires-clause-earlier c = all_below _ c.args.children.items c.requires.there
@@ -37,13 +37,13 @@ pub returns-clause-ok : goal.returns-clause-ok
 returns-clause-ok c =
     let united = rw c.deref.ensures.value at c.in_ok-layout.ensures.ok in
     IfOk-weaker c.add.result _ _
-    (λ i put ts laid fits. IsAdded-union c.args.dl.now _ _ i c.args.repr.now _ _ ts c.requires.faultless united c.in_ok-layout.ensures.lawful put laid fits)
+    (λ i put ts laid fits. IsAdded-union c.args.cx.dl.now _ _ i c.args.repr.now _ _ ts c.requires.faultless united c.in_ok-layout.ensures.lawful put laid fits)
     (rw c.of.ensures at c.add.ensures.ok)
 
 pub returns-in_err-layout-clause-err : goal.returns-in_err-layout-clause-err
 returns-in_err-layout-clause-err c =
     let refused = rw c.deref.ensures.value at c.in_err-layout.ensures.err in
-    passed_on _ _ _ c.from_residual.ensures.1 (union_refused c.args.dl.now c.args.repr.now _ _ c.requires.faultless refused)
+    passed_on _ _ _ c.from_residual.ensures.1 (union_refused c.args.cx.dl.now c.args.repr.now _ _ c.requires.faultless refused)
 
 pub returns-clause-own : goal.returns-clause-own
 returns-clause-own c =

@@ -15,8 +15,8 @@ layout_of_union-answer-requires-clause-fields c =
     let hs = only_of (items_of c.new-2.result) in
     let lent : map (λ r. r.now) hs ≡ map layout_of ps = ap (λ v. map (λ r. r.now) (only_of v)) c.new-2.ensures ∙ c.in_ok-layouts_at.ensures in
     rw c.new.ensures
-    (All-from_map (IsLawfulLayout c.args.dl.now) (λ r. r.now) hs
-    (subst (All (IsLawfulLayout c.args.dl.now)) (sym lent) (All-map (IsLawfulLayout c.args.dl.now) layout_of ps c.requires.lawful)))
+    (All-from_map (IsLawfulLayout c.args.cx.dl.now) (λ r. r.now) hs
+    (subst (All (IsLawfulLayout c.args.cx.dl.now)) (sym lent) (All-map (IsLawfulLayout c.args.cx.dl.now) layout_of ps c.requires.lawful)))
 
 pub layout_of_union-answer-requires-clause-align : goal.layout_of_union-answer-requires-clause-align
 layout_of_union-answer-requires-clause-align c = c.requires.aligns.align
@@ -26,11 +26,11 @@ returns-clause-ok c =
     let hs = only_of (items_of c.new-2.result) in
     let lent = ap (λ v. map (λ r. r.now) (only_of v)) c.new-2.ensures ∙ c.in_ok-layouts_at.ensures in
     let exact = rw c.new.ensures at c.in_ok-answer.ensures.exact in
-    united_ok (λ r. r.now) c.args.dl.now c.args.repr.now hs _ _ lent exact
+    united_ok (λ r. r.now) c.args.cx.dl.now c.args.repr.now hs _ _ lent exact
 
 pub returns-in_err-answer-clause-err : goal.returns-in_err-answer-clause-err
 returns-in_err-answer-clause-err c =
     let hs = only_of (items_of c.new-2.result) in
     let lent = ap (λ v. map (λ r. r.now) (only_of v)) c.new-2.ensures ∙ c.in_ok-layouts_at.ensures in
     let exact = rw c.new.ensures at c.in_err-answer.ensures.exact in
-    passed_on _ _ _ c.from_residual-in_err-answer.ensures.1 (united_err (λ r. r.now) c.args.dl.now c.args.repr.now hs _ _ lent exact)
+    passed_on _ _ _ c.from_residual-in_err-answer.ensures.1 (united_err (λ r. r.now) c.args.cx.dl.now c.args.repr.now hs _ _ lent exact)

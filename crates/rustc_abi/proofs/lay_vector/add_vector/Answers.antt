@@ -20,11 +20,11 @@ use Rattle.rustc_abi.proofs.lay_vector.add_vector.Goals as goal
 pub add-requires-clause-laws : goal.add-requires-clause-laws
 add-requires-clause-laws c =
     let listed = c.in_ok-array.ensures.exact in
-    elements_laws c.args.dl.now (types_in c.args.nodes.now) c.args.element c.args.lanes c.in_ok-array.array (sym listed)
+    elements_laws c.args.cx.dl.now (types_in c.args.nodes.now) c.args.element c.args.lanes c.in_ok-array.array (sym listed)
 
 pub add-requires-2-clause-laws : goal.add-requires-2-clause-laws
 add-requires-2-clause-laws c =
-    let dl = c.args.dl.now in
+    let dl = c.args.cx.dl.now in
     let answer = c.in_ok-layout.ensures.ok in
     let listed = c.in_ok-array.ensures.exact in
     vector_laws dl (types_in c.add.new.nodes) c.in_ok-node.node (layout_of (placed_at c.args.nodes.now c.args.element)) c.args.lanes c.args.packed c.in_ok-array.array c.in_ok-layout.layout
@@ -32,21 +32,21 @@ add-requires-2-clause-laws c =
 
 -- where all lanes are below the bound, their array has a layout
 never_refused : (dl : TargetDataLayout) (element : Layout) (lanes : ℕ) (e : LayError) (below : Bool) → below ≡ true → Err e ≡ named {H = ℕ} (if below then Ok (elements_layout 0 true lanes element) else Err SizeOverflow) → ⊥
-never_refused dl element lanes e true is told = cc
-never_refused dl element lanes e false is told = cc
+never_refused dl element lanes e true is tag_distinguishes = cc
+never_refused dl element lanes e false is tag_distinguishes = cc
 
 pub returns-in_err-array-clause-err : goal.returns-in_err-array-clause-err
 returns-in_err-array-clause-err c =
-    let dl = c.args.dl.now in
+    let dl = c.args.cx.dl.now in
     let element = layout_of (placed_at c.args.nodes.now c.args.element) in
     let answer = c.in_ok-layout.ensures.ok in
     let below = (vector_made dl element c.args.lanes c.args.packed c.in_ok-layout.layout answer).below in
-    let told = c.in_err-array.ensures.exact in
-    absurd (never_refused dl element c.args.lanes _ (nat_lt (element.size * c.args.lanes) (size_bound dl)) below told)
+    let tag_distinguishes = c.in_err-array.ensures.exact in
+    absurd (never_refused dl element c.args.lanes _ (nat_lt (element.size * c.args.lanes) (size_bound dl)) below tag_distinguishes)
 
 pub returns-clause-ok : goal.returns-clause-ok
 returns-clause-ok c =
-    let dl = c.args.dl.now in
+    let dl = c.args.cx.dl.now in
     let answer = c.in_ok-layout.ensures.ok in
     let listed = c.in_ok-array.ensures.exact in
     let element = placed_at c.args.nodes.now c.args.element in
@@ -60,7 +60,7 @@ returns-clause-own c =
     let listed = c.in_ok-array.ensures.exact in
     let here : c.args.element < length old = omega arith in
     let array = more_absorbed 1 c.in_ok-array.array.uninhabited old c.add.new.nodes
-    (λ flag. flagged_there old c.args.element here (array_flagged c.args.dl.now (layout_of (placed_at old c.args.element)) c.in_ok-array.array c.args.lanes listed flag)) c.in_ok-node.ensures.count in
+    (λ flag. flagged_there old c.args.element here (array_flagged c.args.cx.dl.now (layout_of (placed_at old c.args.element)) c.in_ok-array.array c.args.lanes listed flag)) c.in_ok-node.ensures.count in
     both_ok c.add-2.result _ _ _ c.add-2.ensures.ok c.add-2.ensures.count
     (λ i put count. own_put old c.add.new.nodes c.add-2.new.nodes i _ put (more_both 1 1 false _ _ _ _ array count))
 

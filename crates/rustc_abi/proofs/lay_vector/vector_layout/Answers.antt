@@ -6,14 +6,14 @@ use Rattle.rustc_abi.proofs.lay_vector.vector_layout.Goals as goal
 
 pub layout_of_simd_type-answer-requires-clause-element : goal.layout_of_simd_type-answer-requires-clause-element
 layout_of_simd_type-answer-requires-clause-element c =
-    rw c.new.ensures (subst (IsLawfulLayout c.args.dl.now) (sym c.layout.ensures) c.requires.lawful)
+    rw c.new.ensures (subst (IsLawfulLayout c.args.cx.dl.now) (sym c.layout.ensures) c.requires.lawful)
 
 pub returns-clause-ok : goal.returns-clause-ok
 returns-clause-ok c =
     let exact = rw c.new.ensures at c.in_ok-answer.ensures.exact in
-    simd_ok (λ r. r.now) c.args.dl.now c.layout.result _ c.args.lanes c.args.packed _ c.layout.ensures exact
+    simd_ok (λ r. r.now) c.args.cx.dl.now c.layout.result _ c.args.lanes c.args.packed _ c.layout.ensures exact
 
 pub returns-in_err-answer-clause-err : goal.returns-in_err-answer-clause-err
 returns-in_err-answer-clause-err c =
     let exact = rw c.new.ensures at c.in_err-answer.ensures.exact in
-    passed_on _ _ _ c.from_residual.ensures.1 (simd_err (λ r. r.now) c.args.dl.now c.layout.result _ c.args.lanes c.args.packed _ c.layout.ensures exact)
+    passed_on _ _ _ c.from_residual.ensures.1 (simd_err (λ r. r.now) c.args.cx.dl.now c.layout.result _ c.args.lanes c.args.packed _ c.layout.ensures exact)

@@ -22,4 +22,4 @@ pub returns-in-Pointer-clause-one_more : goal.returns-in-Pointer-clause-one_more
 returns-in-Pointer-clause-one_more c = named_ok c.args.self.now.dl c.args.self.now.widest c.set_pointers.result c.set_pointers.new.self.dl c.set_pointers.new.self.widest c.args.setting (Pointer c.in-Pointer.space c.in-Pointer.spec) c.in-Pointer.is c.set_pointers.ensures.one_more
 
 pub returns-in-Vector-clause-one_more : goal.returns-in-Vector-clause-one_more
-returns-in-Vector-clause-one_more c = named_ok c.args.self.now.dl c.args.self.now.widest c.put.result (record c.args.self.now.dl { vector_align = c.put.new.self }) c.args.self.now.widest c.args.setting (Vector c.in-Vector.size c.in-Vector.align) c.in-Vector.is (then_ok c.put.result _ _ (vector_put c.args.self.now.dl c.args.self.now.widest c.in-Vector.size c.in-Vector.align c.put.new.self) c.put.ensures.ok)
+returns-in-Vector-clause-one_more c = named_ok c.args.self.now.dl c.args.self.now.widest c.insert.result (record c.args.self.now.dl { vector_align = c.insert.new.self }) c.args.self.now.widest c.args.setting (Vector c.in-Vector.size c.in-Vector.align) c.in-Vector.is (then_ok c.insert.result _ _ (vector_put c.args.self.now.dl c.args.self.now.widest c.in-Vector.size c.in-Vector.align c.insert.new.self) c.insert.ensures.ok)

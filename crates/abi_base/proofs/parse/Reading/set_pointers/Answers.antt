@@ -11,4 +11,4 @@ returns-then-space-self-clause-one_more c =
 pub returns-else-space-self-clause-one_more : goal.returns-else-space-self-clause-one_more
 returns-else-space-self-clause-one_more c =
     let other : same_space c.args.space c.args.self.now.dl.default_address_space ≡ false = (search rules) in
-    then_ok c.put.result _ _ (space_put c.args.self.now.dl c.args.self.now.widest c.args.space c.args.spec c.put.new.self other) c.put.ensures.ok
+    then_ok c.insert.result _ _ (space_put c.args.self.now.dl c.args.self.now.widest c.args.space c.args.spec c.insert.new.self other) c.insert.ensures.ok

@@ -1,4 +1,4 @@
--- The slices have the views' items, the promoted locals are those that the states and the conflicts tell, and the tag is the one of
+-- The slices have the views' items, the promoted locals are those that the states and the conflicts demand, and the tag is the one of
 -- the count of states.
 use Rattle.std.proofs.Common.{◌≡◌, ◌≢◌, ◌+◌, ◌<◌, ◌≤◌, ◌∙◌, ℕ, List, ap, get_or, inr, length, map, refl, subst, sym}
 use Rattle.std.specs.Prelude.{All, Err, Ok, Result}
@@ -26,10 +26,10 @@ use Rattle.abi_calc.proofs.CoroutineLemmas.Seen.{coroutine_align, coroutine_made
 use Rattle.abi_calc.proofs.CoroutineLemmas.Shared.{overlap_promised}
 use Rattle.abi_calc.proofs.calculator.LayoutCalculator.layout_of_coroutine.Goals as goal
 
--- what may answer want of memory may be what is told to be it
+-- what may answer that memory ran out may be what is told to be it
 no_memory : {A H : Type 0} (P : Result A (LayoutCalculatorError H) → Type 0) (result : Result A (LayoutCalculatorError H)) → IsErrAnd result (λ e. e ≡ OutOfMemory) → P (Err OutOfMemory) → P result
-no_memory P (Ok a) told may = absurd told
-no_memory P (Err e) told may = subst (λ e. P (Err e)) (sym told) may
+no_memory P (Ok a) tag_distinguishes may = absurd tag_distinguishes
+no_memory P (Err e) tag_distinguishes may = subst (λ e. P (Err e)) (sym tag_distinguishes) may
 
 pub state_tag-tag-requires : goal.state_tag-tag-requires
 state_tag-tag-requires g c = rw c.as_raw-states.ensures.items c.requires.states.some
@@ -106,16 +106,16 @@ returns g c =
     let by : (t : Scalar) → IsStateTag (length (items_of c.args.variant_fields)) t → IsSizedPromoted dl before (scalar_layout first dl t) all states promoted result
     = λ t same. subst (λ t. IsSizedPromoted dl before (scalar_layout first dl t) all states promoted result) (one_tag (length (items_of c.args.variant_fields)) tag t is same) sized in
     let holds : lo field ≡ scalar_layout first dl tag = c.requires.tag tag field is c.tag_to_layout-field.ensures in
-    let tells : IsStateTag (length states) tag = subst (λ n. IsStateTag n tag) (sym (length-map (items_of c.args.variant_fields) (map g.LocalIdx.Idx.number))) is in
+    let is_state_tag : IsStateTag (length states) tag = subst (λ n. IsStateTag n tag) (sym (length-map (items_of c.args.variant_fields) (map g.LocalIdx.Idx.number))) is in
     let asked : IsAsked lo first dl c.args.prefix_layouts tag field locals states
-    = record { law = c.requires.data_layout; before = c.requires.prefix; all = c.requires.locals; tells = tells; holds = holds } in
+    = record { law = c.requires.data_layout; before = c.requires.prefix; all = c.requires.locals; is_state_tag = is_state_tag; holds = holds } in
     record {
       exact = (tag, is, field, c.tag_to_layout-field.ensures, answer);
       lawful = c.layout_of_promoted.ensures.lawful;
       good = coroutine_good at number first dl before all states conflicts result
           (coroutine_niche lo at number first dl c.args.prefix_layouts tag field locals states conflicts result answer)
           (coroutine_view lo at number first dl c.args.prefix_layouts tag field locals states conflicts result answer)
-          (coroutine_align lo at number first dl c.args.prefix_layouts tag field locals states conflicts holds tells result answer)
+          (coroutine_align lo at number first dl c.args.prefix_layouts tag field locals states conflicts holds is_state_tag result answer)
           (coroutine_marks lo at number first dl c.args.prefix_layouts tag field locals states conflicts holds result answer)
           (coroutine_ordered lo at number g.FieldIdx.Idx.MAX_INDEX g.met.FieldIdx.Idx.number_at first dl c.args.prefix_layouts tag field locals states conflicts c.requires.states.rows c.requires.count
           (All-map (AllPairs (λ a b. a ≢ b)) (map g.LocalIdx.Idx.number) (items_of c.args.variant_fields) c.requires.states.once)
@@ -123,7 +123,7 @@ returns g c =
           (λ k d short. All-map (λ l. l < length locals) g.LocalIdx.Idx.number (get_or (items_of c.args.variant_fields) k d) (c.requires.states.within k d short)))
           result answer)
           (coroutine_made lo at number first dl c.args.prefix_layouts tag field locals states conflicts holds asked result answer)
-          (rw (fields, sym c.as_raw-states.ensures.items) c.layout_of_promoted.ensures.told)
+          (rw (fields, sym c.as_raw-states.ensures.items) c.layout_of_promoted.ensures.tag_distinguishes)
           (rw (fields, sym c.as_raw-states.ensures.items) (c.layout_of_promoted.ensures.apart conflicts (record { by = c.in_ok-promoted.ensures.exact; rows = c.requires.states.rows ∙ ap length fields; columns = c.requires.states.columns ∙ ap length fields })));
       sized = λ t same. record {
         size = (by t same).size;

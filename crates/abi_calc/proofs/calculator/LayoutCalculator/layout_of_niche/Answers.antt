@@ -10,11 +10,11 @@ holds : {A : Type 0} (P : Type 0) (o : Option A) → P → IfSome o (λ l. P)
 holds P None h = tt
 holds P (Some l) h = h
 
--- a refusal that isn't want of memory is the other one
+-- a refusal that isn't that memory ran out is the other one
 other : {A B : Type 0} (b : Bool) → A ⊎ B → MatchBool b B (B → ⊥) → b ≡ false → A
-other true h told is = cc
-other false (inl a) told is = a
-other false (inr b) told is = absurd (told b)
+other true h tag_distinguishes is = cc
+other false (inl a) tag_distinguishes is = a
+other false (inr b) tag_distinguishes is = absurd (tag_distinguishes b)
 
 pub niche_of_lists-requires-clause-lawful : goal.niche_of_lists-requires-clause-lawful
 niche_of_lists-requires-clause-lawful g c = rw c.data_layout-dl.ensures c.in-Ok.ensures.lawful

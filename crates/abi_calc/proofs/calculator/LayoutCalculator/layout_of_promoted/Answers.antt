@@ -8,9 +8,9 @@ use Rattle.abi_base.specs.declared.struct_kind.StructKind.TheVariants.{AlwaysSiz
 use Rattle.abi_base.specs.DataLayout.{size_bound}
 use Rattle.abi_index.specs.BitSet.{members_of}
 use Rattle.abi_scalar.specs.declared.error.LayoutCalculatorError.TheVariants.{OutOfMemory, SizeOverflow}
-use Rattle.abi_univariant.specs.List.{IsListError}
+use Rattle.abi_univariant.specs.List.{IsUnivariantError}
 use Rattle.abi_calc.specs.Coroutine.Layout.{IsStateTag, coroutine_layout, whole_size}
-use Rattle.abi_calc.specs.Coroutine.Lists.{behind, default_repr, first_list}
+use Rattle.abi_calc.specs.Coroutine.Lists.{state_list_kind, default_repr, first_list}
 use Rattle.abi_calc.specs.Coroutine.Sizes.{own_lists}
 use Rattle.abi_calc.specs.Enums.Lists.{AreGoodLists, IsFirstListError, IsGoodList}
 use Rattle.abi_calc.proofs.CoroutineLemmas.Promised.{IsAsked, first_count, first_lawful, first_promised, good_fields, good_own_fields, memory_sized, own_promised, whole_promised}
@@ -26,7 +26,7 @@ list_of_variant-requires-clause-fields g c =
       law = c.requires.data_layout;
       before = c.requires.prefix;
       all = c.requires.locals;
-      tells = subst (λ n. IsStateTag n c.args.tag) (sym (length-map c.args.states.now (map g.LocalIdx.Idx.number))) c.requires.tag;
+      is_state_tag = subst (λ n. IsStateTag n c.args.tag) (sym (length-map c.args.states.now (map g.LocalIdx.Idx.number))) c.requires.tag;
       holds = c.requires.field;
     } in
     rw c.in_ok-fields.ensures (first_lawful g.F.LayoutHandle.layout_of g.FieldIdx.Idx.at g.FieldIdx.Idx.number (g.VariantIdx.Idx.at 0) (g.Cx.HasDataLayout.target c.args.self.now.cx) c.args.prefix c.args.tag c.args.field c.args.locals.now (map (map g.LocalIdx.Idx.number) c.args.states.now) c.args.promoted.now asked)
@@ -40,17 +40,17 @@ returns-in-Err g c =
       law = c.requires.data_layout;
       before = c.requires.prefix;
       all = c.requires.locals;
-      tells = subst (λ n. IsStateTag n c.args.tag) (sym (length-map c.args.states.now (map g.LocalIdx.Idx.number))) c.requires.tag;
+      is_state_tag = subst (λ n. IsStateTag n c.args.tag) (sym (length-map c.args.states.now (map g.LocalIdx.Idx.number))) c.requires.tag;
       holds = c.requires.field;
     } in
-    let fault : IsListError g.F.LayoutHandle.layout_of (g.Cx.HasDataLayout.target c.args.self.now.cx) default_repr AlwaysSized (first_list c.args.prefix c.args.field c.args.locals.now c.args.promoted.now) c.in-Err.error ⊎ (c.in-Err.error ≡ OutOfMemory)
-    = subst (λ fs. IsListError g.F.LayoutHandle.layout_of (g.Cx.HasDataLayout.target c.args.self.now.cx) default_repr AlwaysSized fs c.in-Err.error ⊎ (c.in-Err.error ≡ OutOfMemory)) c.in_ok-fields.ensures
-    (subst (λ r. IsListError g.F.LayoutHandle.layout_of (g.Cx.HasDataLayout.target c.args.self.now.cx) r AlwaysSized c.in_ok-fields.fields c.in-Err.error ⊎ (c.in-Err.error ≡ OutOfMemory)) c.default_repr.ensures c.in-Err.ensures.fault) in
+    let fault : IsUnivariantError g.F.LayoutHandle.layout_of (g.Cx.HasDataLayout.target c.args.self.now.cx) default_repr AlwaysSized (first_list c.args.prefix c.args.field c.args.locals.now c.args.promoted.now) c.in-Err.error ⊎ (c.in-Err.error ≡ OutOfMemory)
+    = subst (λ fs. IsUnivariantError g.F.LayoutHandle.layout_of (g.Cx.HasDataLayout.target c.args.self.now.cx) default_repr AlwaysSized fs c.in-Err.error ⊎ (c.in-Err.error ≡ OutOfMemory)) c.in_ok-fields.ensures
+    (subst (λ r. IsUnivariantError g.F.LayoutHandle.layout_of (g.Cx.HasDataLayout.target c.args.self.now.cx) r AlwaysSized c.in_ok-fields.fields c.in-Err.error ⊎ (c.in-Err.error ≡ OutOfMemory)) c.default_repr.ensures c.in-Err.ensures.fault) in
     let p = first_promised g.F.LayoutHandle.layout_of g.FieldIdx.Idx.at g.FieldIdx.Idx.number (g.VariantIdx.Idx.at 0) (g.Cx.HasDataLayout.target c.args.self.now.cx) c.args.prefix c.args.tag c.args.field c.args.locals.now (map (map g.LocalIdx.Idx.number) c.args.states.now) c.args.promoted.now asked c.in-Err.error fault in
     record {
       exact = p.exact;
       lawful = p.lawful;
-      told = tt;
+      tag_distinguishes = tt;
       apart = λ conflicts by. tt;
       sized = p.sized;
     }
@@ -61,19 +61,19 @@ returns-in-Err-lists_of_own g c =
       law = c.requires.data_layout;
       before = c.requires.prefix;
       all = c.requires.locals;
-      tells = subst (λ n. IsStateTag n c.args.tag) (sym (length-map c.args.states.now (map g.LocalIdx.Idx.number))) c.requires.tag;
+      is_state_tag = subst (λ n. IsStateTag n c.args.tag) (sym (length-map c.args.states.now (map g.LocalIdx.Idx.number))) c.requires.tag;
       holds = c.requires.field;
     } in
     let good : IsGoodList g.F.LayoutHandle.layout_of g.FieldIdx.Idx.at (g.VariantIdx.Idx.at 0) (g.Cx.HasDataLayout.target c.args.self.now.cx) default_repr AlwaysSized (first_list c.args.prefix c.args.field c.args.locals.now c.args.promoted.now) c.in-Ok.first
     = subst (λ fs. IsGoodList g.F.LayoutHandle.layout_of g.FieldIdx.Idx.at (g.VariantIdx.Idx.at 0) (g.Cx.HasDataLayout.target c.args.self.now.cx) default_repr AlwaysSized fs c.in-Ok.first) c.in_ok-fields.ensures
     (subst (λ r. IsGoodList g.F.LayoutHandle.layout_of g.FieldIdx.Idx.at (g.VariantIdx.Idx.at 0) (g.Cx.HasDataLayout.target c.args.self.now.cx) r AlwaysSized c.in_ok-fields.fields c.in-Ok.first) c.default_repr.ensures c.in-Ok.ensures.good) in
-    let fault : IsFirstListError g.F.LayoutHandle.layout_of g.FieldIdx.Idx.at (g.VariantIdx.Idx.at 0) (g.Cx.HasDataLayout.target c.args.self.now.cx) default_repr (behind c.in-Ok.first) (own_lists c.args.locals.now c.args.promoted.now (map (map g.LocalIdx.Idx.number) c.args.states.now)) c.in-Err-lists_of_own.error ⊎ (c.in-Err-lists_of_own.error ≡ OutOfMemory)
-    = subst (λ k. IsFirstListError g.F.LayoutHandle.layout_of g.FieldIdx.Idx.at (g.VariantIdx.Idx.at 0) (g.Cx.HasDataLayout.target c.args.self.now.cx) default_repr k (own_lists c.args.locals.now c.args.promoted.now (map (map g.LocalIdx.Idx.number) c.args.states.now)) c.in-Err-lists_of_own.error ⊎ (c.in-Err-lists_of_own.error ≡ OutOfMemory)) c.behind-kind.ensures c.in-Err-lists_of_own.ensures.fault in
+    let fault : IsFirstListError g.F.LayoutHandle.layout_of g.FieldIdx.Idx.at (g.VariantIdx.Idx.at 0) (g.Cx.HasDataLayout.target c.args.self.now.cx) default_repr (state_list_kind c.in-Ok.first) (own_lists c.args.locals.now c.args.promoted.now (map (map g.LocalIdx.Idx.number) c.args.states.now)) c.in-Err-lists_of_own.error ⊎ (c.in-Err-lists_of_own.error ≡ OutOfMemory)
+    = subst (λ k. IsFirstListError g.F.LayoutHandle.layout_of g.FieldIdx.Idx.at (g.VariantIdx.Idx.at 0) (g.Cx.HasDataLayout.target c.args.self.now.cx) default_repr k (own_lists c.args.locals.now c.args.promoted.now (map (map g.LocalIdx.Idx.number) c.args.states.now)) c.in-Err-lists_of_own.error ⊎ (c.in-Err-lists_of_own.error ≡ OutOfMemory)) c.state_list_kind-kind.ensures c.in-Err-lists_of_own.ensures.fault in
     let p = own_promised g.F.LayoutHandle.layout_of g.FieldIdx.Idx.at g.FieldIdx.Idx.number (g.VariantIdx.Idx.at 0) (g.Cx.HasDataLayout.target c.args.self.now.cx) c.args.prefix c.args.tag c.args.field c.args.locals.now (map (map g.LocalIdx.Idx.number) c.args.states.now) c.args.promoted.now asked c.in-Ok.first good c.in-Err-lists_of_own.error fault in
     record {
       exact = p.exact;
       lawful = p.lawful;
-      told = tt;
+      tag_distinguishes = tt;
       apart = λ conflicts by. tt;
       sized = p.sized;
     }
@@ -93,16 +93,16 @@ layout_of_lists-requires-clause-first g c =
 
 pub layout_of_lists-requires-clause-lists : goal.layout_of_lists-requires-clause-lists
 layout_of_lists-requires-clause-lists g c =
-    let others : AreGoodLists g.F.LayoutHandle.layout_of g.FieldIdx.Idx.at (g.VariantIdx.Idx.at 0) (g.Cx.HasDataLayout.target c.args.self.now.cx) default_repr (behind c.in-Ok.first) (own_lists c.args.locals.now c.args.promoted.now (map (map g.LocalIdx.Idx.number) c.args.states.now)) c.in-Ok-lists_of_own.lists
-    = subst (λ k. AreGoodLists g.F.LayoutHandle.layout_of g.FieldIdx.Idx.at (g.VariantIdx.Idx.at 0) (g.Cx.HasDataLayout.target c.args.self.now.cx) default_repr k (own_lists c.args.locals.now c.args.promoted.now (map (map g.LocalIdx.Idx.number) c.args.states.now)) c.in-Ok-lists_of_own.lists) c.behind-kind.ensures c.in-Ok-lists_of_own.ensures.good in
-    good_own_fields g.F.LayoutHandle.layout_of g.FieldIdx.Idx.at g.FieldIdx.Idx.number g.FieldIdx.Idx.MAX_INDEX g.met.FieldIdx.Idx.number_at (g.VariantIdx.Idx.at 0) (g.Cx.HasDataLayout.target c.args.self.now.cx) (behind c.in-Ok.first) g.LocalIdx.Idx.number c.args.locals.now c.args.promoted.now c.args.states.now c.in-Ok-lists_of_own.lists
+    let others : AreGoodLists g.F.LayoutHandle.layout_of g.FieldIdx.Idx.at (g.VariantIdx.Idx.at 0) (g.Cx.HasDataLayout.target c.args.self.now.cx) default_repr (state_list_kind c.in-Ok.first) (own_lists c.args.locals.now c.args.promoted.now (map (map g.LocalIdx.Idx.number) c.args.states.now)) c.in-Ok-lists_of_own.lists
+    = subst (λ k. AreGoodLists g.F.LayoutHandle.layout_of g.FieldIdx.Idx.at (g.VariantIdx.Idx.at 0) (g.Cx.HasDataLayout.target c.args.self.now.cx) default_repr k (own_lists c.args.locals.now c.args.promoted.now (map (map g.LocalIdx.Idx.number) c.args.states.now)) c.in-Ok-lists_of_own.lists) c.state_list_kind-kind.ensures c.in-Ok-lists_of_own.ensures.good in
+    good_own_fields g.F.LayoutHandle.layout_of g.FieldIdx.Idx.at g.FieldIdx.Idx.number g.FieldIdx.Idx.MAX_INDEX g.met.FieldIdx.Idx.number_at (g.VariantIdx.Idx.at 0) (g.Cx.HasDataLayout.target c.args.self.now.cx) (state_list_kind c.in-Ok.first) g.LocalIdx.Idx.number c.args.locals.now c.args.promoted.now c.args.states.now c.in-Ok-lists_of_own.lists
     c.requires.within c.in-Ok-lists_of_own.ensures.within others
 
 pub layout_of_lists-requires-clause-lawful : goal.layout_of_lists-requires-clause-lawful
 layout_of_lists-requires-clause-lawful g c =
-    let others : AreGoodLists g.F.LayoutHandle.layout_of g.FieldIdx.Idx.at (g.VariantIdx.Idx.at 0) (g.Cx.HasDataLayout.target c.args.self.now.cx) default_repr (behind c.in-Ok.first) (own_lists c.args.locals.now c.args.promoted.now (map (map g.LocalIdx.Idx.number) c.args.states.now)) c.in-Ok-lists_of_own.lists
-    = subst (λ k. AreGoodLists g.F.LayoutHandle.layout_of g.FieldIdx.Idx.at (g.VariantIdx.Idx.at 0) (g.Cx.HasDataLayout.target c.args.self.now.cx) default_repr k (own_lists c.args.locals.now c.args.promoted.now (map (map g.LocalIdx.Idx.number) c.args.states.now)) c.in-Ok-lists_of_own.lists) c.behind-kind.ensures c.in-Ok-lists_of_own.ensures.good in
-    rw c.data_layout-dl.ensures (good_lawful g.F.LayoutHandle.layout_of g.FieldIdx.Idx.at (g.VariantIdx.Idx.at 0) (g.Cx.HasDataLayout.target c.args.self.now.cx) default_repr (behind c.in-Ok.first) (own_lists c.args.locals.now c.args.promoted.now (map (map g.LocalIdx.Idx.number) c.args.states.now)) c.in-Ok-lists_of_own.lists others)
+    let others : AreGoodLists g.F.LayoutHandle.layout_of g.FieldIdx.Idx.at (g.VariantIdx.Idx.at 0) (g.Cx.HasDataLayout.target c.args.self.now.cx) default_repr (state_list_kind c.in-Ok.first) (own_lists c.args.locals.now c.args.promoted.now (map (map g.LocalIdx.Idx.number) c.args.states.now)) c.in-Ok-lists_of_own.lists
+    = subst (λ k. AreGoodLists g.F.LayoutHandle.layout_of g.FieldIdx.Idx.at (g.VariantIdx.Idx.at 0) (g.Cx.HasDataLayout.target c.args.self.now.cx) default_repr k (own_lists c.args.locals.now c.args.promoted.now (map (map g.LocalIdx.Idx.number) c.args.states.now)) c.in-Ok-lists_of_own.lists) c.state_list_kind-kind.ensures c.in-Ok-lists_of_own.ensures.good in
+    rw c.data_layout-dl.ensures (good_lawful g.F.LayoutHandle.layout_of g.FieldIdx.Idx.at (g.VariantIdx.Idx.at 0) (g.Cx.HasDataLayout.target c.args.self.now.cx) default_repr (state_list_kind c.in-Ok.first) (own_lists c.args.locals.now c.args.promoted.now (map (map g.LocalIdx.Idx.number) c.args.states.now)) c.in-Ok-lists_of_own.lists others)
 
 pub returns : goal.returns
 returns g c =
@@ -110,14 +110,14 @@ returns g c =
       law = c.requires.data_layout;
       before = c.requires.prefix;
       all = c.requires.locals;
-      tells = subst (λ n. IsStateTag n c.args.tag) (sym (length-map c.args.states.now (map g.LocalIdx.Idx.number))) c.requires.tag;
+      is_state_tag = subst (λ n. IsStateTag n c.args.tag) (sym (length-map c.args.states.now (map g.LocalIdx.Idx.number))) c.requires.tag;
       holds = c.requires.field;
     } in
     let good : IsGoodList g.F.LayoutHandle.layout_of g.FieldIdx.Idx.at (g.VariantIdx.Idx.at 0) (g.Cx.HasDataLayout.target c.args.self.now.cx) default_repr AlwaysSized (first_list c.args.prefix c.args.field c.args.locals.now c.args.promoted.now) c.in-Ok.first
     = subst (λ fs. IsGoodList g.F.LayoutHandle.layout_of g.FieldIdx.Idx.at (g.VariantIdx.Idx.at 0) (g.Cx.HasDataLayout.target c.args.self.now.cx) default_repr AlwaysSized fs c.in-Ok.first) c.in_ok-fields.ensures
     (subst (λ r. IsGoodList g.F.LayoutHandle.layout_of g.FieldIdx.Idx.at (g.VariantIdx.Idx.at 0) (g.Cx.HasDataLayout.target c.args.self.now.cx) r AlwaysSized c.in_ok-fields.fields c.in-Ok.first) c.default_repr.ensures c.in-Ok.ensures.good) in
-    let others : AreGoodLists g.F.LayoutHandle.layout_of g.FieldIdx.Idx.at (g.VariantIdx.Idx.at 0) (g.Cx.HasDataLayout.target c.args.self.now.cx) default_repr (behind c.in-Ok.first) (own_lists c.args.locals.now c.args.promoted.now (map (map g.LocalIdx.Idx.number) c.args.states.now)) c.in-Ok-lists_of_own.lists
-    = subst (λ k. AreGoodLists g.F.LayoutHandle.layout_of g.FieldIdx.Idx.at (g.VariantIdx.Idx.at 0) (g.Cx.HasDataLayout.target c.args.self.now.cx) default_repr k (own_lists c.args.locals.now c.args.promoted.now (map (map g.LocalIdx.Idx.number) c.args.states.now)) c.in-Ok-lists_of_own.lists) c.behind-kind.ensures c.in-Ok-lists_of_own.ensures.good in
+    let others : AreGoodLists g.F.LayoutHandle.layout_of g.FieldIdx.Idx.at (g.VariantIdx.Idx.at 0) (g.Cx.HasDataLayout.target c.args.self.now.cx) default_repr (state_list_kind c.in-Ok.first) (own_lists c.args.locals.now c.args.promoted.now (map (map g.LocalIdx.Idx.number) c.args.states.now)) c.in-Ok-lists_of_own.lists
+    = subst (λ k. AreGoodLists g.F.LayoutHandle.layout_of g.FieldIdx.Idx.at (g.VariantIdx.Idx.at 0) (g.Cx.HasDataLayout.target c.args.self.now.cx) default_repr k (own_lists c.args.locals.now c.args.promoted.now (map (map g.LocalIdx.Idx.number) c.args.states.now)) c.in-Ok-lists_of_own.lists) c.state_list_kind-kind.ensures c.in-Ok-lists_of_own.ensures.good in
     let laid = subst (λ n. IfOk c.layout_of_lists.result (λ layout. (whole_size c.in-Ok.first c.in-Ok-lists_of_own.lists < size_bound (g.Cx.HasDataLayout.target c.args.self.now.cx))
     × (layout ≡ coroutine_layout g.FieldIdx.Idx.at g.FieldIdx.Idx.number n c.args.tag c.args.promoted.now (map (map g.LocalIdx.Idx.number) c.args.states.now) c.in-Ok.first c.in-Ok-lists_of_own.lists))) c.len-count.ensures.count
     (subst (λ d. IfOk c.layout_of_lists.result (λ layout. (whole_size c.in-Ok.first c.in-Ok-lists_of_own.lists < size_bound d)
@@ -132,9 +132,9 @@ returns g c =
     record {
       exact = p.exact;
       lawful = p.lawful;
-      told = told_promised g.F.LayoutHandle.layout_of g.FieldIdx.Idx.at g.FieldIdx.Idx.number (g.VariantIdx.Idx.at 0) (g.Cx.HasDataLayout.target c.args.self.now.cx) c.args.prefix c.args.tag c.args.field c.args.locals.now c.args.promoted.now
+      tag_distinguishes = told_promised g.F.LayoutHandle.layout_of g.FieldIdx.Idx.at g.FieldIdx.Idx.number (g.VariantIdx.Idx.at 0) (g.Cx.HasDataLayout.target c.args.self.now.cx) c.args.prefix c.args.tag c.args.field c.args.locals.now c.args.promoted.now
           c.requires.field c.requires.same c.in-Ok.first good (map (map g.LocalIdx.Idx.number) c.args.states.now) c.in-Ok-lists_of_own.lists
-          (λ layout. whole_size c.in-Ok.first c.in-Ok-lists_of_own.lists < size_bound (g.Cx.HasDataLayout.target c.args.self.now.cx)) c.layout_of_lists.result asked.tells
+          (λ layout. whole_size c.in-Ok.first c.in-Ok-lists_of_own.lists < size_bound (g.Cx.HasDataLayout.target c.args.self.now.cx)) c.layout_of_lists.result asked.is_state_tag
           within once others laid;
       apart = λ conflicts by. apart_promised g.F.LayoutHandle.layout_of g.FieldIdx.Idx.at g.FieldIdx.Idx.number (g.VariantIdx.Idx.at 0) (g.Cx.HasDataLayout.target c.args.self.now.cx) c.args.prefix c.args.tag c.args.field c.args.locals.now
           states conflicts c.in-Ok.first c.in-Ok-lists_of_own.lists c.args.promoted.now by within once good others

@@ -23,32 +23,32 @@ returns-in-Ok g c =
     let number = g.FieldIdx.Idx.number in
     let first = g.VariantIdx.Idx.at 0 in
     let dl : TargetDataLayout = g.Cx.HasDataLayout.target c.args.self.now.cx in
-    let told : TargetDataLayout = c.data_layout-dl.result.now in
-    let same : told ≡ dl = c.data_layout-dl.ensures in
+    let tag_distinguishes : TargetDataLayout = c.data_layout-dl.result.now in
+    let same : tag_distinguishes ≡ dl = c.data_layout-dl.ensures in
     let vs = map (map layout_of) c.args.variants.now in
-    let behind : StructKind = behind_tag dl c.args.repr.now c.args.asked vs in
-    let kind : c.behind_tag-kind.result ≡ behind = ◌∙◌ {b = behind_tag told c.args.repr.now c.args.asked vs} c.behind_tag-kind.ensures.kind (ap (λ d. behind_tag d c.args.repr.now c.args.asked vs) same) in
-    let h : HasGoodLists layout_of at number first dl c.args.repr.now c.args.asked c.args.signed c.args.values.now behind c.args.variants.now c.in-Ok.lists = record {
+    let behind : StructKind = behind_tag dl c.args.repr.now c.args.tag.integer vs in
+    let kind : c.behind_tag-kind.result ≡ behind = ◌∙◌ {b = behind_tag tag_distinguishes c.args.repr.now c.args.tag.integer vs} c.behind_tag-kind.ensures.kind (ap (λ d. behind_tag d c.args.repr.now c.args.tag.integer vs) same) in
+    let h : HasGoodLists layout_of at number first dl c.args.repr.now c.args.tag.integer c.args.tag.is_signed c.args.tag.values.now behind c.args.variants.now c.in-Ok.lists = record {
       good = subst (λ k. AreGoodLists layout_of at first dl c.args.repr.now k c.args.variants.now c.in-Ok.lists) kind c.in-Ok.ensures.good;
       some = c.requires.some;
       unpacked = c.requires.unpacked;
     } in
-    let by : IfOk c.layout_of_lists.result (IsBy layout_of at number first dl c.args.repr.now c.args.asked c.args.signed c.args.values.now behind c.args.variants.now c.in-Ok.lists)
-    = subst (λ d. IfOk c.layout_of_lists.result (IsBy layout_of at number first d c.args.repr.now c.args.asked c.args.signed c.args.values.now behind c.args.variants.now c.in-Ok.lists)) same c.layout_of_lists.ensures.exact in
-    let fault : IfErr c.layout_of_lists.result (IsWholeFault layout_of at number first dl c.args.repr.now c.args.asked c.args.signed c.args.values.now behind c.args.variants.now c.in-Ok.lists)
-    = subst (λ d. IfErr c.layout_of_lists.result (IsWholeFault layout_of at number first d c.args.repr.now c.args.asked c.args.signed c.args.values.now behind c.args.variants.now c.in-Ok.lists)) same c.layout_of_lists.ensures.fault in
+    let by : IfOk c.layout_of_lists.result (IsBy layout_of at number first dl c.args.repr.now c.args.tag.integer c.args.tag.is_signed c.args.tag.values.now behind c.args.variants.now c.in-Ok.lists)
+    = subst (λ d. IfOk c.layout_of_lists.result (IsBy layout_of at number first d c.args.repr.now c.args.tag.integer c.args.tag.is_signed c.args.tag.values.now behind c.args.variants.now c.in-Ok.lists)) same c.layout_of_lists.ensures.exact in
+    let fault : IfErr c.layout_of_lists.result (IsWholeFault layout_of at number first dl c.args.repr.now c.args.tag.integer c.args.tag.is_signed c.args.tag.values.now behind c.args.variants.now c.in-Ok.lists)
+    = subst (λ d. IfErr c.layout_of_lists.result (IsWholeFault layout_of at number first d c.args.repr.now c.args.tag.integer c.args.tag.is_signed c.args.tag.values.now behind c.args.variants.now c.in-Ok.lists)) same c.layout_of_lists.ensures.fault in
     record {
-      exact = tagged_answer layout_of at number first dl told c.args.repr.now c.args.asked c.args.signed c.args.values.now c.args.variants.now c.behind_tag-kind.result c.in-Ok.lists c.layout_of_lists.result
+      exact = tagged_answer layout_of at number first dl tag_distinguishes c.args.repr.now c.args.tag.integer c.args.tag.is_signed c.args.tag.values.now c.args.variants.now c.behind_tag-kind.result c.in-Ok.lists c.layout_of_lists.result
           same c.behind_tag-kind.ensures.kind c.in-Ok.ensures.exact c.layout_of_lists.ensures.exact c.layout_of_lists.ensures.fault;
-      lawful = by_lawful layout_of at number first dl c.args.repr.now c.args.asked c.args.signed c.args.values.now behind c.args.variants.now c.in-Ok.lists g.FieldIdx.Idx.MAX_INDEX g.met.FieldIdx.Idx.number_at c.requires.data_layout refl c.in-Ok.ensures.within c.requires.fields c.in-Ok.ensures.lawful c.layout_of_lists.result h by;
+      lawful = by_lawful layout_of at number first dl c.args.repr.now c.args.tag.integer c.args.tag.is_signed c.args.tag.values.now behind c.args.variants.now c.in-Ok.lists g.FieldIdx.Idx.MAX_INDEX g.met.FieldIdx.Idx.number_at c.requires.data_layout refl c.in-Ok.ensures.within c.requires.fields c.in-Ok.ensures.lawful c.layout_of_lists.result h by;
       within = if_any (All (λ fields. length fields ≤ g.FieldIdx.Idx.MAX_INDEX + 1) c.args.variants.now) c.layout_of_lists.result c.in-Ok.ensures.within;
-      placed = placed_by layout_of at number first dl c.args.repr.now c.args.asked c.args.signed c.args.values.now behind c.args.variants.now c.in-Ok.lists g.FieldIdx.Idx.MAX_INDEX g.met.FieldIdx.Idx.number_at c.requires.data_layout refl c.in-Ok.ensures.within c.layout_of_lists.result h by;
+      placed = placed_by layout_of at number first dl c.args.repr.now c.args.tag.integer c.args.tag.is_signed c.args.tag.values.now behind c.args.variants.now c.in-Ok.lists g.FieldIdx.Idx.MAX_INDEX g.met.FieldIdx.Idx.number_at c.requires.data_layout refl c.in-Ok.ensures.within c.layout_of_lists.result h by;
       sized = record {
-        good = by_good layout_of at number first dl c.args.repr.now c.args.asked c.args.signed c.args.values.now behind c.args.variants.now c.in-Ok.lists c.layout_of_lists.result h;
-        size = by_size layout_of at number first dl c.args.repr.now c.args.asked c.args.signed c.args.values.now behind c.args.variants.now c.in-Ok.lists c.layout_of_lists.result h by;
-        too_large = by_too_large layout_of at number first dl c.args.repr.now c.args.asked c.args.signed c.args.values.now behind c.args.variants.now c.in-Ok.lists c.layout_of_lists.result h fault;
-        refused = λ sized large. by_refused layout_of at number first dl c.args.repr.now c.args.asked c.args.signed c.args.values.now behind c.args.variants.now c.in-Ok.lists c.layout_of_lists.result h by fault large;
-        no_other = λ sized. by_no_other layout_of at number first dl c.args.repr.now c.args.asked c.args.signed c.args.values.now behind c.args.variants.now c.in-Ok.lists c.layout_of_lists.result fault;
+        good = by_good layout_of at number first dl c.args.repr.now c.args.tag.integer c.args.tag.is_signed c.args.tag.values.now behind c.args.variants.now c.in-Ok.lists c.layout_of_lists.result h;
+        size = by_size layout_of at number first dl c.args.repr.now c.args.tag.integer c.args.tag.is_signed c.args.tag.values.now behind c.args.variants.now c.in-Ok.lists c.layout_of_lists.result h by;
+        too_large = by_too_large layout_of at number first dl c.args.repr.now c.args.tag.integer c.args.tag.is_signed c.args.tag.values.now behind c.args.variants.now c.in-Ok.lists c.layout_of_lists.result h fault;
+        refused = λ sized large. by_refused layout_of at number first dl c.args.repr.now c.args.tag.integer c.args.tag.is_signed c.args.tag.values.now behind c.args.variants.now c.in-Ok.lists c.layout_of_lists.result h by fault large;
+        no_other = λ sized. by_no_other layout_of at number first dl c.args.repr.now c.args.tag.integer c.args.tag.is_signed c.args.tag.values.now behind c.args.variants.now c.in-Ok.lists c.layout_of_lists.result fault;
       };
     }
 
@@ -58,12 +58,12 @@ returns-in-Err-clause-sized g c =
     let at = g.FieldIdx.Idx.at in
     let first = g.VariantIdx.Idx.at 0 in
     let dl : TargetDataLayout = g.Cx.HasDataLayout.target c.args.self.now.cx in
-    let told : TargetDataLayout = c.data_layout-dl.result.now in
+    let tag_distinguishes : TargetDataLayout = c.data_layout-dl.result.now in
     let repr = c.args.repr.now in
     let variants = c.args.variants.now in
     let vs = map (map lo) variants in
-    let behind : StructKind = behind_tag dl repr c.args.asked vs in
-    let kind : c.behind_tag-kind.result ≡ behind = ◌∙◌ {b = behind_tag told repr c.args.asked vs} c.behind_tag-kind.ensures.kind (ap (λ d. behind_tag d repr c.args.asked vs) c.data_layout-dl.ensures) in
+    let behind : StructKind = behind_tag dl repr c.args.tag.integer vs in
+    let kind : c.behind_tag-kind.result ≡ behind = ◌∙◌ {b = behind_tag tag_distinguishes repr c.args.tag.integer vs} c.behind_tag-kind.ensures.kind (ap (λ d. behind_tag d repr c.args.tag.integer vs) c.data_layout-dl.ensures) in
     let fault = subst (λ k. IsFirstListError lo at first dl repr k variants c.in-Err.error ⊎ (c.in-Err.error ≡ OutOfMemory)) kind c.in-Err.ensures.fault in
     record {
       good = tt;

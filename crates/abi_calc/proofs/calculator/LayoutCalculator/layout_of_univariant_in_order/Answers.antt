@@ -36,7 +36,7 @@ returns g c =
       }) answer exact;
       placed = handed_ok lo _ _ _ repr kind _ _ _ (λ offsets l r. handed_lies lo _ number _ _ repr kind _ _ _ g.met.FieldIdx.Idx.at_number few offsets l r) answer exact;
       bad_order = handed_bad lo _ _ _ repr kind _ _ answer exact;
-      told = handed_told lo _ _ _ repr kind _ _ answer exact;
+      bad_order_reported = handed_told lo _ _ _ repr kind _ _ answer exact;
       too_large = handed_large lo _ _ _ repr kind _ _ answer exact;
       refused = handed_refused lo _ _ _ repr kind _ _ answer exact;
       no_other = handed_no_other lo _ _ _ repr kind _ _ answer exact;

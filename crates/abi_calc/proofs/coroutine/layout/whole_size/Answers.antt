@@ -4,11 +4,11 @@ use Rattle.std.proofs.lemmas.Grind.{common_steps}
 use Rattle.abi_calc.proofs.CoroutineLemmas.Layout.{whole_align_small, whole_small}
 use Rattle.abi_calc.proofs.coroutine.layout.whole_size.Goals as goal
 
-pub rounded-requires-clause-offset : goal.rounded-requires-clause-offset
-rounded-requires-clause-offset g c =
+pub round_up-requires-clause-offset : goal.round_up-requires-clause-offset
+round_up-requires-clause-offset g c =
     let small = whole_small c.args.dl.now c.args.first.now c.args.lists.now c.requires.data_layout c.requires.first c.requires.lists in
-    let greater : c.max.result ≡ max c.size.result c.overall.result.size = grind (arith, common_steps) in
-    omega (arith, small, greater, c.size.ensures, ap (λ o. o.size) c.overall.ensures)
+    let greater_of : c.max.result ≡ max c.size.result c.summary.result.size = grind (arith, common_steps) in
+    omega (arith, small, greater_of, c.size.ensures, ap (λ o. o.size) c.summary.ensures)
 
-pub rounded-requires-clause-align : goal.rounded-requires-clause-align
-rounded-requires-clause-align g c = rw c.requires.align (whole_align_small c.args.dl.now c.args.first.now c.args.lists.now c.requires.first c.requires.lists)
+pub round_up-requires-clause-align : goal.round_up-requires-clause-align
+round_up-requires-clause-align g c = rw c.requires.align (whole_align_small c.args.dl.now c.args.first.now c.args.lists.now c.requires.first c.requires.lists)

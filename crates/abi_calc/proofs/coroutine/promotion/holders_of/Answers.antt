@@ -1,7 +1,7 @@
 use Rattle.std.proofs.Common.{◌≡◌, [], rules, ◌+◌, ◌-◌, ◌≤◌, ap, arith, get_or, length, map, refl, subst, sym, ◌++◌, drop, take, ◌∙◌}
 use Rattle.std.proofs.lemmas.List.{drop_all, length-map, take_at}
 use Rattle.std.specs.Prelude.{if◌then◌else◌}
-use Rattle.abi_index.specs.Ascending.{has_number}
+use Rattle.abi_index.specs.AscendingList.{has_number}
 use Rattle.abi_calc.specs.Coroutine.Promotion.{holder_of}
 use Rattle.abi_calc.proofs.CoroutineLemmas.Holders.{first_all, first_step, numbers_there}
 use Rattle.abi_calc.proofs.coroutine.promotion.holders_of.Goals as goal

@@ -1,6 +1,6 @@
 -- The locals so far are in.
 use Rattle.std.proofs.Common.{◌≡◌, ℕ, ◌==◌, ◌&&◌, ◌||◌, get_or, length, map, not, take}
-use Rattle.abi_index.specs.Ascending.{has_number}
+use Rattle.abi_index.specs.AscendingList.{has_number}
 use Rattle.abi_index.specs.BitSet.{domain_size, is_member}
 use Rattle.abi_calc.proofs.coroutine.promotion.insert_later.Given as goal
 

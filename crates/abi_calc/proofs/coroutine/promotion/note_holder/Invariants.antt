@@ -1,7 +1,7 @@
 -- The locals so far are noted.
 use Rattle.std.proofs.Common.{◌≡◌, ℕ, ◌<◌, get_or, length, map, take}
 use Rattle.std.specs.Prelude.{if◌then◌else◌}
-use Rattle.abi_index.specs.Ascending.{has_number}
+use Rattle.abi_index.specs.AscendingList.{has_number}
 use Rattle.abi_calc.proofs.coroutine.promotion.note_holder.Given as goal
 
 abbrev pub invariant-loop-local : goal.invariant-loop-local

@@ -22,12 +22,12 @@ held_by_several-requires-clause-holders g c =
     let size = holders_size (map (map g.LocalIdx.Idx.number) c.args.states.now) c.local_count.result c.deref.result.now (c.deref.ensures.value ∙ c.in_ok-holders.ensures) in
     c.deref.ensures.value ∙ c.in_ok-holders.ensures ∙ ap (holders_of states) (sym size)
 
-pub settle_rows-requires-clause-count : goal.settle_rows-requires-clause-count
-settle_rows-requires-clause-count g c =
+pub resolve_rows-requires-clause-count : goal.resolve_rows-requires-clause-count
+resolve_rows-requires-clause-count g c =
     holders_size (map (map g.LocalIdx.Idx.number) c.args.states.now) c.local_count.result c.deref-2.result.now (c.deref-2.ensures.value ∙ c.in_ok-holders.ensures) ∙ c.local_count.ensures.count
 
-pub settle_rows-requires-clause-size : goal.settle_rows-requires-clause-size
-settle_rows-requires-clause-size g c =
+pub resolve_rows-requires-clause-size : goal.resolve_rows-requires-clause-size
+resolve_rows-requires-clause-size g c =
     ap length c.in_ok-promoted.ensures ∙ several_size (map (map g.LocalIdx.Idx.number) c.args.states.now) (length c.deref.result.now)
     ∙ holders_size (map (map g.LocalIdx.Idx.number) c.args.states.now) c.local_count.result c.deref.result.now (c.deref.ensures.value ∙ c.in_ok-holders.ensures) ∙ c.local_count.ensures.count
 
@@ -35,7 +35,7 @@ pub returns : goal.returns
 returns g c =
     let states = map (map g.LocalIdx.Idx.number) c.args.states.now in
     let size = holders_size (map (map g.LocalIdx.Idx.number) c.args.states.now) c.local_count.result c.deref.result.now (c.deref.ensures.value ∙ c.in_ok-holders.ensures) ∙ c.local_count.ensures.count in
-    let done : c.settle_rows.new.promoted ≡ after_rows (map (map g.LocalIdx.Idx.number) c.args.states.now) c.args.conflicts.now
-    = c.settle_rows.ensures.settled states (c.deref-2.ensures.value ∙ c.in_ok-holders.ensures ∙ ap (holders_of states) c.local_count.ensures.count)
+    let done : c.resolve_rows.new.promoted ≡ after_rows (map (map g.LocalIdx.Idx.number) c.args.states.now) c.args.conflicts.now
+    = c.resolve_rows.ensures.settled states (c.deref-2.ensures.value ∙ c.in_ok-holders.ensures ∙ ap (holders_of states) c.local_count.ensures.count)
     ∙ ap (λ set. fold (after_row states c.args.conflicts.now) set (source_order (row_count c.args.conflicts.now))) (c.in_ok-promoted.ensures ∙ ap (held_by_several states) size) in
     record { exact = c.promote_if_few.ensures ∙ ap (λ d. if nat_lt (used_count states d) 2 then map (λ (local : Bool). true) d else d) done }

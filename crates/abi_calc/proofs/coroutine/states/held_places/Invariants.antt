@@ -1,4 +1,4 @@
--- The table tells the places before this one.
+-- The table says the places before this one.
 use Rattle.std.proofs.Common.{◌≡◌, ◌<◌, length, map}
 use Rattle.std.specs.Prelude.{All, IfSome}
 use Rattle.abi_calc.proofs.CoroutineLemmas.States.{IsHeldBefore}

@@ -1,4 +1,4 @@
--- The table tells the rank, which is one of the members'.
+-- The table says the rank, which is one of the members'.
 use Rattle.std.proofs.Common.{◌<◌, ◌∙◌, ap, length, slice_index_or, subst, sym}
 use Rattle.abi_calc.proofs.CoroutineLemmas.States.{member_below, rank_member, rank_read}
 use Rattle.abi_calc.proofs.coroutine.states.rank_in.Goals as goal

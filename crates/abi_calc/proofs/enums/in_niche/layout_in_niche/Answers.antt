@@ -4,7 +4,7 @@ use Rattle.std.specs.Prelude.{Some, None}
 use Rattle.abi_scalar.specs.Niche.{niche_at}
 use Rattle.abi_scalar.specs.declared.backend_repr.BackendRepr.TheVariants.{Memory}
 use Rattle.abi_scalar.proofs.ReadableLemmas.{lawful_readable}
-use Rattle.abi_univariant.specs.Fields.{greater}
+use Rattle.abi_univariant.specs.Fields.{greater_of}
 use Rattle.abi_calc.specs.Enums.Niche.{if_placed, layout_in_niche, others_empty, room_beside, span_count, variants_from, view_with}
 use Rattle.abi_calc.specs.Enums.Tagged.{lists_align, lists_size}
 use Rattle.abi_scalar.specs.Reserve.{reserved}
@@ -43,11 +43,11 @@ returns g c = λ list is.
     (rw (c.niche_encoding.ensures, c.new-first.ensures, c.requires.handed) refl)
     (c.niche_view-backend_repr.ensures ∙ (λ i. if◌then◌else◌ (fills i && others_empty c.args.among.untagged 0 c.in-Some.variants) (view_with c.args.niche.offset (c.requires.handed i).1 (view i)) (Memory true)))
     (c.from_scalar.ensures.exact ∙ ap (λ h. niche_at dl c.args.niche.offset h.1) c.requires.handed)
-    (ap (λ o. o.uninhabited) c.overall-overall.ensures)
+    (ap (λ o. o.uninhabited) c.summary-summary.ensures)
     (ap (λ a. record { abi = a }) (c.new.ensures ∙ align))
     size
-    (c.max_repr_align_with-max_repr_align.ensures ∙ ap (λ o. greater c.args.repr.now.align o.max_repr_align) c.overall-overall.ensures)
-    (c.unadjusted_align_with-unadjusted_abi_align.ensures ∙ ap (λ o. max c.args.dl.now.aggregate_align o.unadjusted_abi_align) c.overall-overall.ensures)
+    (c.max_repr_align_with-max_repr_align.ensures ∙ ap (λ o. greater_of c.args.repr.now.align o.max_repr_align) c.summary-summary.ensures)
+    (c.unadjusted_align_with-unadjusted_abi_align.ensures ∙ ap (λ o. max c.args.dl.now.aggregate_align o.unadjusted_abi_align) c.summary-summary.ensures)
     c.c.ensures
-    (omega (arith, c.seed_with-randomization_seed.ensures, ap (λ o. o.randomization_seed) c.overall-overall.ensures)))
+    (omega (arith, c.seed_with-randomization_seed.ensures, ap (λ o. o.randomization_seed) c.summary-summary.ensures)))
     ∙ sym (ap (if_placed (g.FieldIdx.Idx.at 0) g.VariantIdx.Idx.at dl c.args.repr.now c.args.among.untagged c.args.among.span lists list c.args.niche) some)

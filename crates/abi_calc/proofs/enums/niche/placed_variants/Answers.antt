@@ -52,9 +52,9 @@ returns-then-not-branch g c =
     let many = ap length c.into_parts-variants.ensures.aligns in
     let beside : c.loop-at.at < length c.into_parts-variants.result.1.items = omega (arith, within, many, length-map c.into_parts-variants.result.1.items (λ r. r.align), length-map c.args.lists (λ l. l.align.abi)) in
     let align : c.align.result ≡ here.0.align.abi = c.align.ensures ∙ same_there (λ r. r.align) (λ l. l.align.abi) c.into_parts-variants.result.1.items c.args.lists c.loop-at.at c.index.result.now here.0 c.into_parts-variants.ensures.aligns beside within c.index.ensures here.1 in
-    let told = told_of_list c.args.room.now (c.loop-at.at == c.args.untagged) c.align.result _ c.place_at.new.variant here.0 c.in_ok-place_at.field-0 here.2 align c.in_ok-place_at.ensures in
+    let tag_distinguishes = told_of_list c.args.room.now (c.loop-at.at == c.args.untagged) c.align.result _ c.place_at.new.variant here.0 c.in_ok-place_at.field-0 here.2 align c.in_ok-place_at.ensures in
     let next = placed_next c.args.room.now c.args.untagged c.loop-at.at (take c.loop-at.at c.loop-at.variant-items) c.args.lists here.0 _ within here.1 c.loop-at.invariant.all in
-    place_none (take c.loop-at.at c.loop-at.variant-items) c.place_at.new.variant _ _ _ c.in_ok-place_at.field-0 told c.if-not-branch.true next
+    place_none (take c.loop-at.at c.loop-at.variant-items) c.place_at.new.variant _ _ _ c.in_ok-place_at.field-0 tag_distinguishes c.if-not-branch.true next
 
 pub loop-at-preserved : goal.loop-at-preserved
 loop-at-preserved g c =
@@ -63,10 +63,10 @@ loop-at-preserved g c =
     let many = ap length c.into_parts-variants.ensures.aligns in
     let beside : c.loop-at.at < length c.into_parts-variants.result.1.items = omega (arith, within, many, length-map c.into_parts-variants.result.1.items (λ r. r.align), length-map c.args.lists (λ l. l.align.abi)) in
     let align : c.align.result ≡ here.0.align.abi = c.align.ensures ∙ same_there (λ r. r.align) (λ l. l.align.abi) c.into_parts-variants.result.1.items c.args.lists c.loop-at.at c.index.result.now here.0 c.into_parts-variants.ensures.aligns beside within c.index.ensures here.1 in
-    let told = told_of_list c.args.room.now (c.loop-at.at == c.args.untagged) c.align.result _ c.place_at.new.variant here.0 c.in_ok-place_at.field-0 here.2 align c.in_ok-place_at.ensures in
+    let tag_distinguishes = told_of_list c.args.room.now (c.loop-at.at == c.args.untagged) c.align.result _ c.place_at.new.variant here.0 c.in_ok-place_at.field-0 here.2 align c.in_ok-place_at.ensures in
     let next = placed_next c.args.room.now c.args.untagged c.loop-at.at (take c.loop-at.at c.loop-at.variant-items) c.args.lists here.0 _ within here.1 c.loop-at.invariant.all in
     record {
-      all = place_step c.loop-at.variant-items c.loop-at.at c.place_at.new.variant _ _ _ c.in_ok-place_at.field-0 (omega (arith, c.loop-at-test.true, c.loop-at.auto.variant-items)) told c.if-not-branch.false next;
+      all = place_step c.loop-at.variant-items c.loop-at.at c.place_at.new.variant _ _ _ c.in_ok-place_at.field-0 (omega (arith, c.loop-at-test.true, c.loop-at.auto.variant-items)) tag_distinguishes c.if-not-branch.false next;
       left = lists_behind c.loop-at.variant-items c.args.lists c.loop-at.at c.place_at.new.variant c.loop-at.invariant.left;
       count = length-set c.loop-at.variant-items c.loop-at.at c.place_at.new.variant ∙ c.loop-at.invariant.count;
     }

@@ -18,8 +18,8 @@ loop-index-init g c = record {
 
 pub loop-index-preserved : goal.loop-index-preserved
 loop-index-preserved g c = record {
-  value = rw c.common-shared.ensures.value (common_step c.args.dl.now _ c.loop-index.index c.loop-index.shared c.variant_payload.result _ c.variant_payload.ensures.value c.loop-index.invariant.value);
-  lawful = c.common-shared.ensures.lawful;
+  value = rw c.common_payload-shared.ensures.value (common_step c.args.dl.now _ c.loop-index.index c.loop-index.shared c.variant_payload.result _ c.variant_payload.ensures.value c.loop-index.invariant.value);
+  lawful = c.common_payload-shared.ensures.lawful;
 }
 
 pub returns-clause-value : goal.returns-clause-value

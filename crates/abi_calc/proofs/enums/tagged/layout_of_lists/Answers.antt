@@ -24,31 +24,31 @@ tag_range-requires-clause-most g c = rw c.size.ensures (integer_most c.grown_tag
 
 pub tagged_view-view-requires-clause-tag : goal.tagged_view-view-requires-clause-tag
 tagged_view-view-requires-clause-tag g c =
-    tag_lawful c.args.dl.now c.grown_tag-integer.result c.args.asked.1 c.args.values.now c.in_ok-range.range
-    (subst (λ n. IsTagRange n c.args.values.now c.in_ok-range.range) c.size.ensures c.in_ok-range.ensures)
+    tag_lawful c.args.dl.now c.grown_tag-integer.result c.args.request.is_signed c.args.request.values.now c.in_ok-range.range
+    (subst (λ n. IsTagRange n c.args.request.values.now c.in_ok-range.range) c.size.ensures c.in_ok-range.ensures)
 
-pub layout_seen_as-requires-clause-tag : goal.layout_seen_as-requires-clause-tag
-layout_seen_as-requires-clause-tag g c =
-    tag_lawful c.args.dl.now c.grown_tag-integer.result c.args.asked.1 c.args.values.now c.in_ok-range.range
-    (subst (λ n. IsTagRange n c.args.values.now c.in_ok-range.range) c.size.ensures c.in_ok-range.ensures)
+pub layout_with_view-requires-clause-tag : goal.layout_with_view-requires-clause-tag
+layout_with_view-requires-clause-tag g c =
+    tag_lawful c.args.dl.now c.grown_tag-integer.result c.args.request.is_signed c.args.request.values.now c.in_ok-range.range
+    (subst (λ n. IsTagRange n c.args.request.values.now c.in_ok-range.range) c.size.ensures c.in_ok-range.ensures)
 
-pub layout_seen_as-requires-clause-count : goal.layout_seen_as-requires-clause-count
-layout_seen_as-requires-clause-count g c = rw (lists_count c.args.variants.now c.args.lists c.requires.lists) c.requires.count
+pub layout_with_view-requires-clause-count : goal.layout_with_view-requires-clause-count
+layout_with_view-requires-clause-count g c = rw (lists_count c.args.variants.now c.args.lists c.requires.lists) c.requires.count
 
 pub returns-in-Ok-clause-exact : goal.returns-in-Ok-clause-exact
 returns-in-Ok-clause-exact g c =
     let vs = map (map g.F.LayoutHandle.layout_of) c.args.variants.now in
     let align : c.lists_align-align.result ≡ lists_align c.args.dl.now c.args.lists = c.lists_align-align.ensures in
     let size : c.in-Some.size ≡ lists_size c.args.dl.now c.args.lists = c.in-Some.ensures.some.0 in
-    let grown : c.grown_tag-integer.result ≡ grown_tag c.args.dl.now c.args.repr.now c.args.asked.0 (start_align g.FieldIdx.Idx.number vs c.args.lists)
-    = c.grown_tag-integer.ensures ∙ ap (grown_tag c.args.dl.now c.args.repr.now c.args.asked.0) c.start_align.ensures in
-    let tag : Scalar = Initialized (Int c.grown_tag-integer.result c.args.asked.1) c.in_ok-range.range in
+    let grown : c.grown_tag-integer.result ≡ grown_tag c.args.dl.now c.args.repr.now c.args.request.integer (start_align g.FieldIdx.Idx.number vs c.args.lists)
+    = c.grown_tag-integer.ensures ∙ ap (grown_tag c.args.dl.now c.args.repr.now c.args.request.integer) c.start_align.ensures in
+    let tag : Scalar = Initialized (Int c.grown_tag-integer.result c.args.request.is_signed) c.in_ok-range.range in
     record {
       small = subst (λ n. n < size_bound c.args.dl.now) size c.in-Some.ensures.some.1;
       ranged = (
         c.in_ok-range.range,
-        subst (λ n. IsTagRange n c.args.values.now c.in_ok-range.range) (c.size.ensures ∙ ap integer_size grown) c.in_ok-range.ensures,
-        tagged_exact g.FieldIdx.Idx.number (g.FieldIdx.Idx.at 0) c.args.dl.now c.args.repr.now c.args.asked.0 c.grown_tag-integer.result c.args.asked.1 c.in_ok-range.range vs c.args.lists
+        subst (λ n. IsTagRange n c.args.request.values.now c.in_ok-range.range) (c.size.ensures ∙ ap integer_size grown) c.in_ok-range.ensures,
+        tagged_exact g.FieldIdx.Idx.number (g.FieldIdx.Idx.at 0) c.args.dl.now c.args.repr.now c.args.request.integer c.grown_tag-integer.result c.args.request.is_signed c.in_ok-range.range vs c.args.lists
             c.size-3.result c.in-Some.size c.lists_align-align.result c.tagged_view-view.result c.in-Ok.layout grown c.size-3.ensures size align
             (c.tagged_view-view.ensures
             ∙ ap (λ o. tagged_view c.args.dl.now tag c.in-Some.size c.lists_align-align.result (payloads_of c.args.dl.now o (integer_size c.grown_tag-integer.result) vs c.args.lists)) (c.size-2.ensures ∙ sym c.size-3.ensures))

@@ -30,7 +30,7 @@ returns-clause-field g c =
     let facts =
     field_here ns this.laid.now.earlier this.laid.now.laws ns refl this.node (lent_node c.node.result) c.requires.valid.there c.node.ensures c.args.i c.requires.within
     in
-    c.handle_at.ensures.told ∙ ap (typed_at ns) c.field_node.ensures ∙ facts.same
+    c.handle_at.ensures.typed ∙ ap (typed_at ns) c.field_node.ensures ∙ facts.same
 
 pub returns-clause-falls : goal.returns-clause-falls
 returns-clause-falls g c =

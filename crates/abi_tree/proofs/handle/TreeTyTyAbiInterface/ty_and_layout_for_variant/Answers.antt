@@ -43,7 +43,7 @@ returns-in-Multiple-clause-variant g c =
     let facts =
     variant_here ns this.laid.now.earlier this.laid.now.laws ns refl this.node (lent_node c.node.result) c.requires.valid.there c.node.ensures v named
     in
-    c.handle_at.ensures.told ∙ ap (typed_at ns) (c.variant_node.ensures ∙ ap (variant_place _) c.as_usize.ensures) ∙ facts.same
+    c.handle_at.ensures.typed ∙ ap (typed_at ns) (c.variant_node.ensures ∙ ap (variant_place _) c.as_usize.ensures) ∙ facts.same
     ∙ sym (several_at (typed_at ns this.node) v _ _ _ _ several)
 
 pub returns-in-Multiple-clause-falls : goal.returns-in-Multiple-clause-falls

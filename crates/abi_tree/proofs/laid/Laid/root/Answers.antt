@@ -15,16 +15,16 @@ returns-clause-seen c =
     let laid = c.args.self.now in
     let ns : List Node = laid.nodes in
     let last : length ns - 1 < length ns = omega (arith, laid.some) in
-    let told : tree_type c.handle_at.result ≡ typed_of laid = c.handle_at.ensures.told ∙ ap (λ n. typed_at ns (n - 1)) (c.len.ensures ∙ ap length c.nodes.ensures.same) in
-    subst (λ t. Sees t (placed_of laid)) (sym told) (seen_at ns laid.earlier laid.laws (length ns - 1) last)
+    let tag_layout : tree_type c.handle_at.result ≡ typed_of laid = c.handle_at.ensures.tag_layout ∙ ap (λ n. typed_at ns (n - 1)) (c.len.ensures ∙ ap length c.nodes.ensures.same) in
+    subst (λ t. Sees t (placed_of laid)) (sym tag_layout) (seen_at ns laid.earlier laid.laws (length ns - 1) last)
 
 pub returns-clause-layout : goal.returns-clause-layout
 returns-clause-layout c =
     let laid = c.args.self.now in
     let ns : List Node = laid.nodes in
     let last : length ns - 1 < length ns = omega (arith, laid.some) in
-    let told : tree_type c.handle_at.result ≡ typed_of laid = c.handle_at.ensures.told ∙ ap (λ n. typed_at ns (n - 1)) (c.len.ensures ∙ ap length c.nodes.ensures.same) in
-    sym c.handle_at.ensures.valid.layout ∙ ap layout_in told ∙ layout-placed ns (length ns - 1) last
+    let tag_layout : tree_type c.handle_at.result ≡ typed_of laid = c.handle_at.ensures.tag_layout ∙ ap (λ n. typed_at ns (n - 1)) (c.len.ensures ∙ ap length c.nodes.ensures.same) in
+    sym c.handle_at.ensures.valid.layout ∙ ap layout_in tag_layout ∙ layout-placed ns (length ns - 1) last
 
 pub returns-clause-within : goal.returns-clause-within
 returns-clause-within c k place = within_room (placed_of c.args.self.now) k c.args.self.now.room place

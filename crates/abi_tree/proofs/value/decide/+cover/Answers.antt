@@ -7,25 +7,25 @@ use Rattle.abi_scalar.specs.declared.variants.TagEncoding.TheVariants.{Direct}
 use Rattle.abi_tree.specs.Holding.{HoldEach, Holds}
 use Rattle.abi_tree.specs.Bytes.{AreBytes, count_picked}
 use Rattle.abi_tree.specs.Covering.{is_covered}
-use Rattle.abi_tree.specs.Deciding.{arm_for, arm_values, covering_value, each_value, place_in}
+use Rattle.abi_tree.specs.Deciding.{tagged_variant_for, tagged_variant_values, covering_value, each_value, place_in}
 use Rattle.abi_tree.specs.Needed.{is_among, named_by}
-use Rattle.abi_tree.specs.Nodes.{arms_in, encoding_of, parts_at, parts_at_0, placed_at, state_tag_offset, tag_offset, types_in}
+use Rattle.abi_tree.specs.Nodes.{tagged_variants_in, encoding_of, parts_at, parts_at_0, placed_at, state_tag_offset, tag_offset, types_in}
 use Rattle.abi_tree.specs.Placed.{Placed, Parts, nothing, size_of, union}
 use Rattle.abi_scalar.specs.Layout.{Layout}
 use Rattle.abi_tree.specs.Places.{is_data_place}
 use Rattle.abi_tree.specs.Typed.{variant_nodes}
 use Rattle.abi_tree.specs.Well.{all_at}
 use Rattle.abi_tree.specs.Writing.{IsCopied, IsPutOver}
-use Rattle.abi_tree.specs.Putting.{PutsCovering, PutsCoveringArm, PutsCoveringParts, PutsTag}
+use Rattle.abi_tree.specs.Putting.{PutsCovering, PutsCoveringTaggedVariant, PutsCoveringParts, PutsTag}
 use Rattle.abi_tree.proofs.Deciding.ChosenLemmas.{all_kept, list_at, among_one, among_prefix, among_states, among_tagged, kept_named, kept_parts, kept_room, kept_set, kept_there, kept_variants, variant_sizes}
 use Rattle.abi_tree.proofs.Deciding.CopyLemmas.{copy_put}
-use Rattle.abi_tree.proofs.Deciding.CoverLemmas.{ElementsPut, arm_put, states_put, elements_end, elements_first, elements_more, elements_next, fields_end, fields_first, fields_more, pair_put, put_bare, union_put}
+use Rattle.abi_tree.proofs.Deciding.CoverLemmas.{ElementsPut, tagged_variant_put, states_put, elements_end, elements_first, elements_more, elements_next, fields_end, fields_first, fields_more, pair_put, put_bare, union_put}
 use Rattle.abi_tree.proofs.Places.DataPlacesLemmas.{elements_node, fields_node, never_node, pair_node, runs_inside, scalar_node, single_node, states_node, tagged_node, union_node, vector_node}
 use Rattle.abi_tree.proofs.Found.FoundLemmas.{node_size, states_rooms}
 use Rattle.abi_tree.proofs.Bytes.HoldLemmas.{length-Holds}
 use Rattle.abi_tree.proofs.Found.NamedLemmas.{child_is, count_children}
 use Rattle.abi_tree.proofs.Bytes.PutOverLemmas.{put_like}
-use Rattle.abi_tree.proofs.Found.ReadLemmas.{from_arm}
+use Rattle.abi_tree.proofs.Found.ReadLemmas.{from_tagged_variant}
 use Rattle.abi_tree.proofs.Meaning.WidthLemmas.{scalar_width_at, state_tag_width_at, tag_width_at}
 use Rattle.abi_tree.proofs.Written.WriteLemmas.{put_slice, put_vector, vector_room}
 use Rattle.abi_tree.proofs.value.decide.+cover.Goals.{put_elements-then-may_copy, put_elements-else-may_copy}
@@ -272,17 +272,17 @@ put_node-returns-in-Vector-clause-put t c =
     (λ s each holds. subst (λ a. IsPutOver (is_covered lanes (covering_value lanes c.args.place)) a s c.args.bytes.now new) start (c.put_node.ensures.put s each holds)))
     held)
 
-pub put_variant-put_arm-requires : goal.put_variant-put_arm-requires
-put_variant-put_arm-requires t c =
+pub put_variant-put_tagged_variant-requires : goal.put_variant-put_tagged_variant-requires
+put_variant-put_tagged_variant-requires t c =
     let ns = c.args.cover.nodes.now in
     let is = c.requires.tagged in
-    let own = c.arms_of-beside.ensures.tagged is.0 is.1 is.2 is.3 in
+    let own = c.tagged_nodes-beside.ensures.tagged is.0 is.1 is.2 is.3 in
     let have = c.requires.sets in
     let kept = c.args.cover.kept.now in
     let sets = c.args.cover.sets.now in
     let layout : Layout = c.args.here.layout.now in
     let vs : List (ℕ × ℕ) = is.2.items in
-    let lent : c.arms_of-beside.result.arms.now ≡ vs = own.1 in
+    let lent : c.tagged_nodes-beside.result.tagged_variants.now ≡ vs = own.1 in
     let there = kept_there ns kept sets have c.args.node c.requires.kept in
     let room = kept_room ns kept sets have c.args.node c.requires.kept in
     let some : 0 < layout.size = c.requires.some in
@@ -323,29 +323,29 @@ pub put_variant-returns-clause-put : goal.put_variant-returns-clause-put
 put_variant-returns-clause-put t c =
     let ns = c.args.cover.nodes.now in
     let is = c.requires.tagged in
-    let own = c.arms_of-beside.ensures.tagged is.0 is.1 is.2 is.3 in
+    let own = c.tagged_nodes-beside.ensures.tagged is.0 is.1 is.2 is.3 in
     let have = c.requires.sets in
     let layout : Layout = c.args.here.layout.now in
-    let new : List ℕ = c.put_arm.new.bytes in
+    let new : List ℕ = c.put_tagged_variant.new.bytes in
     let vs : List (ℕ × ℕ) = is.2.items in
     let there = kept_there ns c.args.cover.kept.now c.args.cover.sets.now have c.args.node c.requires.kept in
     let room = kept_room ns c.args.cover.kept.now c.args.cover.sets.now have c.args.node c.requires.kept in
     let facts = tagged_node ns have.needed.well c.args.node _ there c.requires.here room is.0 is.1 is.2 is.3 in
     let tag : Placed = placed_at ns is.1 in
     let sizes = variant_sizes ns c.args.cover.kept.now c.args.cover.sets.now have c.args.node c.requires.kept _ c.requires.here vs (ap variant_nodes is.3) in
-    let put : PutsCoveringArm c.args.cover.order c.args.at c.args.bytes.now new c.args.place (encoding_of layout.variants) (tag_offset layout) tag (types_in ns) vs =
-    subst (λ e. PutsCoveringArm c.args.cover.order c.args.at c.args.bytes.now new c.args.place e (tag_offset layout) tag (types_in ns) vs) c.encoding_of-encoding.ensures
-    (subst (λ o. PutsCoveringArm c.args.cover.order c.args.at c.args.bytes.now new c.args.place c.encoding_of-encoding.result o tag (types_in ns) vs) c.tag_offset.ensures
-    (subst (λ ws. PutsCoveringArm c.args.cover.order c.args.at c.args.bytes.now new c.args.place c.encoding_of-encoding.result c.tag_offset.result tag (types_in ns) ws) own.1
-    (subst (λ j. PutsCoveringArm c.args.cover.order c.args.at c.args.bytes.now new c.args.place c.encoding_of-encoding.result c.tag_offset.result (placed_at ns j) (types_in ns) c.arms_of-beside.result.arms.now) own.0
-    c.put_arm.ensures.put))) in
+    let put : PutsCoveringTaggedVariant c.args.cover.order c.args.at c.args.bytes.now new c.args.place (encoding_of layout.variants) (tag_offset layout) tag (types_in ns) vs =
+    subst (λ e. PutsCoveringTaggedVariant c.args.cover.order c.args.at c.args.bytes.now new c.args.place e (tag_offset layout) tag (types_in ns) vs) c.encoding_of-encoding.ensures
+    (subst (λ o. PutsCoveringTaggedVariant c.args.cover.order c.args.at c.args.bytes.now new c.args.place c.encoding_of-encoding.result o tag (types_in ns) vs) c.tag_offset.ensures
+    (subst (λ ws. PutsCoveringTaggedVariant c.args.cover.order c.args.at c.args.bytes.now new c.args.place c.encoding_of-encoding.result c.tag_offset.result tag (types_in ns) ws) own.1
+    (subst (λ j. PutsCoveringTaggedVariant c.args.cover.order c.args.at c.args.bytes.now new c.args.place c.encoding_of-encoding.result c.tag_offset.result (placed_at ns j) (types_in ns) c.tagged_nodes-beside.result.tagged_variants.now) own.0
+    c.put_tagged_variant.ensures.put))) in
     subst (PutsCovering c.args.cover.order c.args.at c.args.bytes.now new c.args.place) (sym facts.2) (λ b all held. put b all (λ k d lt. omega (arith, sizes k d lt, held.0)) (held.1, held.2, held.3))
 
 pub put_state-put_parts-requires : goal.put_state-put_parts-requires
 put_state-put_parts-requires t c =
     let ns = c.args.cover.nodes.now in
     let is = c.requires.states in
-    let own = c.arms_of-beside.ensures.states is.0 is.1 is.2 is.3 in
+    let own = c.tagged_nodes-beside.ensures.states is.0 is.1 is.2 is.3 in
     let have = c.requires.sets in
     let layout : Layout = c.args.here.layout.now in
     let there = kept_there ns c.args.cover.kept.now c.args.cover.sets.now have c.args.node c.requires.kept in
@@ -364,17 +364,17 @@ put_state-put_parts-requires t c =
       ),
     )
 
-pub put_state-put_arm-requires : goal.put_state-put_arm-requires
-put_state-put_arm-requires t c =
+pub put_state-put_tagged_variant-requires : goal.put_state-put_tagged_variant-requires
+put_state-put_tagged_variant-requires t c =
     let ns = c.args.cover.nodes.now in
     let is = c.requires.states in
-    let own = c.arms_of-beside.ensures.states is.0 is.1 is.2 is.3 in
+    let own = c.tagged_nodes-beside.ensures.states is.0 is.1 is.2 is.3 in
     let have = c.requires.sets in
     let kept = c.args.cover.kept.now in
     let sets = c.args.cover.sets.now in
     let layout : Layout = c.args.here.layout.now in
     let vs : List (ℕ × ℕ) = is.2.items in
-    let lent : c.arms_of-beside.result.arms.now ≡ vs = own.2 in
+    let lent : c.tagged_nodes-beside.result.tagged_variants.now ≡ vs = own.2 in
     let there = kept_there ns kept sets have c.args.node c.requires.kept in
     let room = kept_room ns kept sets have c.args.node c.requires.kept in
     let some : 0 < layout.size = c.requires.some in
@@ -418,11 +418,11 @@ pub put_state-returns-clause-put : goal.put_state-returns-clause-put
 put_state-returns-clause-put t c =
     let ns = c.args.cover.nodes.now in
     let is = c.requires.states in
-    let own = c.arms_of-beside.ensures.states is.0 is.1 is.2 is.3 in
+    let own = c.tagged_nodes-beside.ensures.states is.0 is.1 is.2 is.3 in
     let have = c.requires.sets in
     let layout : Layout = c.args.here.layout.now in
     let mid : List ℕ = c.put_parts.new.bytes in
-    let new : List ℕ = c.put_arm.new.bytes in
+    let new : List ℕ = c.put_tagged_variant.new.bytes in
     let prefix : List ℕ = is.0.items in
     let vs : List (ℕ × ℕ) = is.2.items in
     let there = kept_there ns c.args.cover.kept.now c.args.cover.sets.now have c.args.node c.requires.kept in
@@ -434,12 +434,12 @@ put_state-returns-clause-put t c =
     let front : PutsCoveringParts c.args.cover.order c.args.at c.args.bytes.now mid c.args.place (parts_at (listed_offsets layout.fields) (all_at ns prefix)) =
     subst (λ os. PutsCoveringParts c.args.cover.order c.args.at c.args.bytes.now mid c.args.place (parts_at os (all_at ns prefix))) c.offsets-list.ensures
     (subst (λ cs. PutsCoveringParts c.args.cover.order c.args.at c.args.bytes.now mid c.args.place (parts_at c.offsets-list.result.now (all_at ns cs))) own.0 c.put_parts.ensures.put) in
-    let put : PutsCoveringArm c.args.cover.order c.args.at mid new c.args.place Direct (state_tag_offset layout (length prefix)) tag (types_in ns) vs =
-    subst (λ o. PutsCoveringArm c.args.cover.order c.args.at mid new c.args.place Direct o tag (types_in ns) vs) offset
-    (subst (λ ws. PutsCoveringArm c.args.cover.order c.args.at mid new c.args.place Direct c.state_tag_offset.result tag (types_in ns) ws) own.2
-    (subst (λ j. PutsCoveringArm c.args.cover.order c.args.at mid new c.args.place Direct c.state_tag_offset.result (placed_at ns j) (types_in ns) c.arms_of-beside.result.arms.now) own.1 c.put_arm.ensures.put)) in
+    let put : PutsCoveringTaggedVariant c.args.cover.order c.args.at mid new c.args.place Direct (state_tag_offset layout (length prefix)) tag (types_in ns) vs =
+    subst (λ o. PutsCoveringTaggedVariant c.args.cover.order c.args.at mid new c.args.place Direct o tag (types_in ns) vs) offset
+    (subst (λ ws. PutsCoveringTaggedVariant c.args.cover.order c.args.at mid new c.args.place Direct c.state_tag_offset.result tag (types_in ns) ws) own.2
+    (subst (λ j. PutsCoveringTaggedVariant c.args.cover.order c.args.at mid new c.args.place Direct c.state_tag_offset.result (placed_at ns j) (types_in ns) c.tagged_nodes-beside.result.tagged_variants.now) own.1 c.put_tagged_variant.ensures.put)) in
     subst (PutsCovering c.args.cover.order c.args.at c.args.bytes.now new c.args.place) (sym facts.3)
-    (λ b all held. states_put c.args.cover.order layout c.args.place c.args.at b c.args.bytes.now mid new (parts_at (listed_offsets layout.fields) (all_at ns prefix)) (state_tag_offset layout (length prefix)) tag (arms_in (types_in ns) vs)
+    (λ b all held. states_put c.args.cover.order layout c.args.place c.args.at b c.args.bytes.now mid new (parts_at (listed_offsets layout.fields) (all_at ns prefix)) (state_tag_offset layout (length prefix)) tag (tagged_variants_in (types_in ns) vs)
     (front b all) (put b all (λ k d lt. omega (arith, sizes k d lt, held.0))) held)
 
 -- ---- elements
@@ -533,36 +533,36 @@ put_parts-returns-clause-put t c = λ b all held.
     fields_end c.args.cover.order c.args.offsets.now (all_at c.args.cover.nodes.now c.args.children.now) c.args.place c.args.at b c.args.bytes.now c.loop-i.i c.loop-i.bytes
     (omega (arith, count_children c.args.cover.nodes.now c.args.children.now, c.loop-i-test.false, c.min-i-end.ensures)) (c.loop-i.invariant.put b all held)
 
--- ---- a tag and an arm
+-- ---- a tag and a tagged variant
 
-pub put_arm-returns-then-i-told-clause-put : goal.put_arm-returns-then-i-told-clause-put
-put_arm-returns-then-i-told-clause-put t c = λ b all sizes held.
+pub put_tagged_variant-returns-then-i-tag_layout-clause-put : goal.put_tagged_variant-returns-then-i-tag_layout-clause-put
+put_tagged_variant-returns-then-i-tag_layout-clause-put t c = λ b all sizes held.
     let done : List Placed = types_in c.args.cover.nodes.now in
-    let i : ℕ = arm_for c.args.told.encoding.now (arms_in done c.args.told.arms.now) c.args.place in
-    let at = from_arm c.args.cover.order done b c.args.told.arms.now i (0, 0) (arm_values (arms_in done c.args.told.arms.now) i c.args.place) held.2 in
-    absurd (omega (arith, at.0, c.if-i-told.true, c.arm_for-i.ensures))
+    let i : ℕ = tagged_variant_for c.args.tag_layout.encoding.now (tagged_variants_in done c.args.tag_layout.tagged_variants.now) c.args.place in
+    let at = from_tagged_variant c.args.cover.order done b c.args.tag_layout.tagged_variants.now i (0, 0) (tagged_variant_values (tagged_variants_in done c.args.tag_layout.tagged_variants.now) i c.args.place) held.2 in
+    absurd (omega (arith, at.0, c.if-i-tag_layout.true, c.tagged_variant_for-i.ensures))
 
-pub put_arm-put_node-requires : goal.put_arm-put_node-requires
-put_arm-put_node-requires t c =
-    let i : ℕ = c.arm_for-i.result in
-    let before = c.requires.before i (0, 0) c.if-i-told.false in
-    let fits = c.requires.fits i (0, 0) c.if-i-told.false in
-    (omega (arith, before, c.decreases), (c.requires.sets, (c.requires.kept i (0, 0) c.if-i-told.false, omega (arith, fits, c.write_tag.ensures.long))))
+pub put_tagged_variant-put_node-requires : goal.put_tagged_variant-put_node-requires
+put_tagged_variant-put_node-requires t c =
+    let i : ℕ = c.tagged_variant_for-i.result in
+    let before = c.requires.before i (0, 0) c.if-i-tag_layout.false in
+    let fits = c.requires.fits i (0, 0) c.if-i-tag_layout.false in
+    (omega (arith, before, c.decreases), (c.requires.sets, (c.requires.kept i (0, 0) c.if-i-tag_layout.false, omega (arith, fits, c.write_tag.ensures.long))))
 
-pub put_arm-returns-clause-put : goal.put_arm-returns-clause-put
-put_arm-returns-clause-put t c =
+pub put_tagged_variant-returns-clause-put : goal.put_tagged_variant-returns-clause-put
+put_tagged_variant-returns-clause-put t c =
     let ns = c.args.cover.nodes.now in
     let done : List Placed = types_in ns in
-    let vs : List (ℕ × ℕ) = c.args.told.arms.now in
-    let i : ℕ = c.arm_for-i.result in
-    let lt : i < length vs = c.if-i-told.false in
-    let tag : Placed = placed_at ns c.args.told.tag in
+    let vs : List (ℕ × ℕ) = c.args.tag_layout.tagged_variants.now in
+    let i : ℕ = c.tagged_variant_for-i.result in
+    let lt : i < length vs = c.if-i-tag_layout.false in
+    let tag : Placed = placed_at ns c.args.tag_layout.tag in
     let old : List ℕ = c.args.bytes.now in
     let mid : List ℕ = c.write_tag.new.bytes in
     let new : List ℕ = c.put_node.new.bytes in
     let j : ℕ = (get_or vs i (0, 0)).1 in
     let width : c.layout.result.now.size ≡ size_of tag = ap (λ l. l.size) c.layout.ensures in
     let room = kept_room ns c.args.cover.kept.now c.args.cover.sets.now c.requires.sets j (c.requires.kept i (0, 0) lt) in
-    arm_put c.args.cover.order done c.args.place c.args.at old mid new c.args.told.encoding.now c.args.told.offset tag vs i lt c.arm_for-i.ensures
-    (list_at done vs i (0, 0) lt c.requires.listed) room (subst (λ w. PutsTag c.args.cover.order c.args.at old mid c.args.told.encoding.now c.args.told.offset w vs i) width c.write_tag.ensures.put)
+    tagged_variant_put c.args.cover.order done c.args.place c.args.at old mid new c.args.tag_layout.encoding.now c.args.tag_layout.offset tag vs i lt c.tagged_variant_for-i.ensures
+    (list_at done vs i (0, 0) lt c.requires.listed) room (subst (λ w. PutsTag c.args.cover.order c.args.at old mid c.args.tag_layout.encoding.now c.args.tag_layout.offset w vs i) width c.write_tag.ensures.put)
     c.put_node.ensures.put

@@ -11,8 +11,8 @@ use Rattle.abi_tree.proofs.value.decide.+cover.Given as goal
 abbrev pub decreases-put_parts : goal.decreases-put_parts
 decreases-put_parts l = 6 * l.node
 
-abbrev pub decreases-put_arm : goal.decreases-put_arm
-decreases-put_arm l = 6 * l.node + 1
+abbrev pub decreases-put_tagged_variant : goal.decreases-put_tagged_variant
+decreases-put_tagged_variant l = 6 * l.node + 1
 
 abbrev pub decreases-put_variant : goal.decreases-put_variant
 decreases-put_variant l = 6 * l.node + 2

@@ -7,21 +7,21 @@ use Rattle.abi_scalar.specs.declared.variants.TagEncoding.TheVariants.{Direct}
 use Rattle.abi_tree.specs.declared.value.Value.{Union as UnionKept}
 use Rattle.abi_tree.specs.Value.{Value, number, value_count, value_of, values_of}
 use Rattle.abi_tree.specs.Bytes.{picked_bytes}
-use Rattle.abi_tree.specs.Placed.{Placed, Parts, Arms, elements, fields, single, tagged, pair, nothing, size_of}
+use Rattle.abi_tree.specs.Placed.{Placed, Parts, TaggedVariants, elements, fields, single, tagged, pair, nothing, size_of}
 use Rattle.abi_scalar.specs.Layout.{Layout}
 use Rattle.abi_tree.specs.Places.{is_data_place}
 use Rattle.abi_tree.specs.Tag.{Names}
-use Rattle.abi_tree.specs.Nodes.{arms_in, encoding_of, variant_left, own_fields, parts_at, parts_at_0, placed_at, state_tag_offset, states_in, tag_offset, types_in}
+use Rattle.abi_tree.specs.Nodes.{tagged_variants_in, encoding_of, variant_left, own_fields, parts_at, parts_at_0, placed_at, state_tag_offset, states_in, tag_offset, types_in}
 use Rattle.abi_tree.specs.Well.{all_at}
-use Rattle.abi_tree.specs.Room.{arms_have_room, has_room, have_room}
-use Rattle.abi_tree.specs.Holding.{HoldArm, HoldEach, HoldParts, Holds, IsAt}
+use Rattle.abi_tree.specs.Room.{tagged_variants_have_room, has_room, have_room}
+use Rattle.abi_tree.specs.Holding.{HoldTaggedVariant, HoldEach, HoldParts, Holds, IsAt}
 use Rattle.abi_tree.specs.Reading.{Finds, FindsEach, FindsNamed, HoldsTwo, IsNamedIn}
-use Rattle.abi_tree.proofs.Places.DataPlacesLemmas.{arm_room, elements_node, field_at, fields_node, never_node, pair_node, scalar_node, single_node, states_node, tagged_node, union_node, vector_node}
+use Rattle.abi_tree.proofs.Places.DataPlacesLemmas.{tagged_variant_room, elements_node, field_at, fields_node, never_node, pair_node, scalar_node, single_node, states_node, tagged_node, union_node, vector_node}
 use Rattle.abi_tree.proofs.Meaning.WidthLemmas.{state_tag_width_at, tag_width_at}
 use Rattle.abi_tree.proofs.Found.NamedLemmas.{count_children}
-use Rattle.abi_tree.proofs.Found.ReadLemmas.{AreRead, HoldAll, HoldFrom, IsRead, elements_all, elements_more, elements_none, elements_stop, fields_all, fields_more, fields_stop, finds_list, finds_named, finds_number, finds_variant, from_arm, read_none, to_arm}
+use Rattle.abi_tree.proofs.Found.ReadLemmas.{AreRead, HoldAll, HoldFrom, IsRead, elements_all, elements_more, elements_none, elements_stop, fields_all, fields_more, fields_stop, finds_list, finds_named, finds_number, finds_variant, from_tagged_variant, read_none, to_tagged_variant}
 use Rattle.abi_tree.proofs.Found.FoundLemmas.{finds_none, states_rooms, named_found, finds_like, found_at, found_vector, from_elements, from_fields, from_never, from_pair, from_scalar, from_single, from_states, from_tagged, node_size, none_of_length, part_found, to_pair, to_union}
-use Rattle.abi_tree.proofs.value.read.+read.Goals.{read_arm-then-is_named+in_ok-values+in_default, read_arm-else-is_named}
+use Rattle.abi_tree.proofs.value.read.+read.Goals.{read_tagged_variant-then-is_named+in_ok-values+in_default, read_tagged_variant-else-is_named}
 use Rattle.abi_tree.proofs.value.read.+read.Goals as goal
 
 -- ---- the node itself
@@ -181,7 +181,7 @@ read_node-returns-in-Tagged t c =
     let b : List ℕ = c.args.bytes.now in
     let layout : Layout = c.node-here.result.layout.now in
     let facts = tagged_node ns c.args.walk.well c.args.node _ c.requires.there c.node-here.ensures c.requires.room c.in-Tagged.mark c.in-Tagged.tag c.in-Tagged.variants c.in-Tagged.is in
-    let whole : List (ℕ × ℕ) → Placed = λ vs. tagged layout c.in-Tagged.mark (tag_offset layout) (placed_at ns c.in-Tagged.tag) (encoding_of layout.variants) (arms_in (types_in ns) vs) in
+    let whole : List (ℕ × ℕ) → Placed = λ vs. tagged layout c.in-Tagged.mark (tag_offset layout) (placed_at ns c.in-Tagged.tag) (encoding_of layout.variants) (tagged_variants_in (types_in ns) vs) in
     IfOk-weaker c.read_variant.result _ _
     (λ found h. subst (λ x. Finds (Holds c.args.walk.order x b) found) (ap whole c.deref-in-Tagged.ensures.value ∙ sym facts.2) (h c.in-Tagged.mark))
     c.read_variant.ensures
@@ -318,52 +318,52 @@ read_own-read_parts-requires t c =
     subst (λ parts. have_room (length c.args.bytes.now) parts ≡ true) c.own_parts.ensures.parts c.requires.room in
     (omega (arith, c.decreases), (c.requires.there, (c.own_parts.ensures.before, room)))
 
-pub read_arm-loop-i-init : goal.read_arm-loop-i-init
-read_arm-loop-i-init t c = λ j vs lt. absurd (omega arith)
+pub read_tagged_variant-loop-i-init : goal.read_tagged_variant-loop-i-init
+read_tagged_variant-loop-i-init t c = λ j vs lt. absurd (omega arith)
 
-pub read_arm-read_own-requires : goal.read_arm-read_own-requires
-read_arm-read_own-requires t c =
+pub read_tagged_variant-read_own-requires : goal.read_tagged_variant-read_own-requires
+read_tagged_variant-read_own-requires t c =
     let i : ℕ = c.loop-i.i in
     let before = c.requires.before i (0, 0) c.loop-i-test.true in (
       omega (arith, before, c.decreases),
       (
         omega (arith, before, c.requires.there),
-        arm_room (length c.args.bytes.now) (types_in c.args.walk.nodes.now) c.args.variants.now i (0, 0) c.requires.room c.loop-i-test.true,
+        tagged_variant_room (length c.args.bytes.now) (types_in c.args.walk.nodes.now) c.args.variants.now i (0, 0) c.requires.room c.loop-i-test.true,
       ),
     )
 
-pub read_arm-returns-in-Some : goal.read_arm-returns-in-Some
-read_arm-returns-in-Some t c =
+pub read_tagged_variant-returns-in-Some : goal.read_tagged_variant-returns-in-Some
+read_tagged_variant-returns-in-Some t c =
     let i : ℕ = c.loop-i.i in
     let own : Parts = own_fields (placed_at c.args.walk.nodes.now (get_or c.args.variants.now i (0, 0)).1) in
     let found = subst (FindsEach (HoldParts c.args.walk.order own c.args.bytes.now)) c.in-Some.is c.in_ok-values.ensures in
-    (c.if-is_named.ensures, to_arm c.args.walk.order (types_in c.args.walk.nodes.now) c.args.bytes.now c.args.variants.now i (0, 0) (values_of c.in-Some.values.items) c.loop-i-test.true found)
+    (c.if-is_named.ensures, to_tagged_variant c.args.walk.order (types_in c.args.walk.nodes.now) c.args.bytes.now c.args.variants.now i (0, 0) (values_of c.in-Some.values.items) c.loop-i-test.true found)
 
-pub read_arm-loop-i-preserved : goal.read_arm-loop-i-preserved
-read_arm-loop-i-preserved t c = λ j vs lt names holds.
+pub read_tagged_variant-loop-i-preserved : goal.read_tagged_variant-loop-i-preserved
+read_tagged_variant-loop-i-preserved t c = λ j vs lt names holds.
     let i : ℕ = c.loop-i.i in
     let own : Parts = own_fields (placed_at c.args.walk.nodes.now (get_or c.args.variants.now i (0, 0)).1) in
     ⊎_elim
     (λ below. c.loop-i.invariant j vs below names holds)
     (λ le.
     let same : j ≡ i = omega arith in
-    let at = from_arm c.args.walk.order (types_in c.args.walk.nodes.now) c.args.bytes.now c.args.variants.now i (0, 0) vs
-    (subst (λ k. HoldArm c.args.walk.order (arms_in (types_in c.args.walk.nodes.now) c.args.variants.now) k c.args.bytes.now vs) same holds) in
+    let at = from_tagged_variant c.args.walk.order (types_in c.args.walk.nodes.now) c.args.bytes.now c.args.variants.now i (0, 0) vs
+    (subst (λ k. HoldTaggedVariant c.args.walk.order (tagged_variants_in (types_in c.args.walk.nodes.now) c.args.variants.now) k c.args.bytes.now vs) same holds) in
     elim c.if-is_named.branch [
-      | read_arm-then-is_named+in_ok-values+in_default w ↦
+      | read_tagged_variant-then-is_named+in_ok-values+in_default w ↦
           finds_none (HoldParts c.args.walk.order own c.args.bytes.now) w.in_ok-values.field-0 w.in_default.not-Some w.in_ok-values.ensures vs at.1
-      | read_arm-else-is_named w ↦
-          w.if-is_named.ensures (subst (Names c.args.encoding.now c.args.width (arms_in (types_in c.args.walk.nodes.now) c.args.variants.now) c.args.tag) same names)
+      | read_tagged_variant-else-is_named w ↦
+          w.if-is_named.ensures (subst (Names c.args.encoding.now c.args.width (tagged_variants_in (types_in c.args.walk.nodes.now) c.args.variants.now) c.args.tag) same names)
     ])
     (cases_lt j i)
 
-pub read_arm-returns : goal.read_arm-returns
-read_arm-returns t c = λ i vs h.
-    let at = from_arm c.args.walk.order (types_in c.args.walk.nodes.now) c.args.bytes.now c.args.variants.now i (0, 0) vs h.1 in
+pub read_tagged_variant-returns : goal.read_tagged_variant-returns
+read_tagged_variant-returns t c = λ i vs h.
+    let at = from_tagged_variant c.args.walk.order (types_in c.args.walk.nodes.now) c.args.bytes.now c.args.variants.now i (0, 0) vs h.1 in
     c.loop-i.invariant i vs (omega (arith, at.0, c.loop-i-test.false)) h.0 h.1
 
-pub read_named-read_arm-requires : goal.read_named-read_arm-requires
-read_named-read_arm-requires t c =
+pub read_named-read_tagged_variant-requires : goal.read_named-read_tagged_variant-requires
+read_named-read_tagged_variant-requires t c =
     let width : c.layout.result.now.size ≤ 16 = subst (λ l. l.size ≤ 16) (sym c.layout.ensures) c.requires.width in
     (omega (arith, c.decreases), (c.requires.there, (c.requires.before, (width, c.requires.room))))
 
@@ -372,12 +372,12 @@ read_named-returns-in-Some t c =
     let ns = c.args.walk.nodes.now in
     let tag : Placed = placed_at ns c.args.tag in
     let b : List ℕ = c.args.bytes.now in
-    let arms : Arms = arms_in (types_in ns) c.args.variants.now in
+    let tagged_variants : TaggedVariants = tagged_variants_in (types_in ns) c.args.variants.now in
     let size : c.bytes.result ≡ size_of tag = rw c.bytes.ensures (ap (λ l. l.size) c.layout.ensures) in
-    let found : IfOk c.read_arm.result (FindsNamed (λ i vs. Names c.args.encoding.now c.bytes.result arms c.number_in-number.result i × HoldArm c.args.walk.order arms i b vs)) =
-    subst (λ w. IfOk c.read_arm.result (FindsNamed (λ i vs. Names c.args.encoding.now w arms c.number_in-number.result i × HoldArm c.args.walk.order arms i b vs))) (sym c.bytes.ensures) c.read_arm.ensures in
-    IfOk-weaker c.read_arm.result _ _
-    (λ f h. named_found c.args.walk.order b c.in-Some.part.now c.args.encoding.now c.args.offset c.bytes.result tag arms c.number_in-number.result f size c.in-Some.ensures.0 c.in-Some.ensures.1
+    let found : IfOk c.read_tagged_variant.result (FindsNamed (λ i vs. Names c.args.encoding.now c.bytes.result tagged_variants c.number_in-number.result i × HoldTaggedVariant c.args.walk.order tagged_variants i b vs)) =
+    subst (λ w. IfOk c.read_tagged_variant.result (FindsNamed (λ i vs. Names c.args.encoding.now w tagged_variants c.number_in-number.result i × HoldTaggedVariant c.args.walk.order tagged_variants i b vs))) (sym c.bytes.ensures) c.read_tagged_variant.ensures in
+    IfOk-weaker c.read_tagged_variant.result _ _
+    (λ f h. named_found c.args.walk.order b c.in-Some.part.now c.args.encoding.now c.args.offset c.bytes.result tag tagged_variants c.number_in-number.result f size c.in-Some.ensures.0 c.in-Some.ensures.1
     c.number_in-number.ensures.value h)
     found
 
@@ -385,7 +385,7 @@ read_named-returns-in-Some t c =
 
 pub read_variant-read_named-requires : goal.read_variant-read_named-requires
 read_variant-read_named-requires t c =
-    let room : arms_have_room (length c.args.bytes.now) (arms_in (types_in c.args.walk.nodes.now) c.args.variants.now) ≡ true = rw c.requires.size c.requires.room in
+    let room : tagged_variants_have_room (length c.args.bytes.now) (tagged_variants_in (types_in c.args.walk.nodes.now) c.args.variants.now) ≡ true = rw c.requires.size c.requires.room in
     (omega (arith, c.decreases), (c.requires.there, (c.requires.first, (c.requires.before, (c.requires.width, room)))))
 
 pub read_variant-returns : goal.read_variant-returns
@@ -394,13 +394,13 @@ read_variant-returns t c = λ mark.
     let b : List ℕ = c.args.bytes.now in
     let layout : Layout = c.args.layout.now in
     let tag : Placed = placed_at ns c.args.tag in
-    let arms : Arms = arms_in (types_in ns) c.args.variants.now in
-    let found : FindsNamed (IsNamedIn c.args.walk.order b (encoding_of layout.variants) (tag_offset layout) tag arms) c.in_ok-found.found =
-    subst (λ o. FindsNamed (IsNamedIn c.args.walk.order b (encoding_of layout.variants) o tag arms) c.in_ok-found.found) c.tag_offset-offset.ensures
-    (subst (λ e. FindsNamed (IsNamedIn c.args.walk.order b e c.tag_offset-offset.result tag arms) c.in_ok-found.found) c.encoding_of-encoding.ensures c.in_ok-found.ensures) in
-    finds_named (Holds c.args.walk.order (tagged layout mark (tag_offset layout) tag (encoding_of layout.variants) arms) b)
-    (IsNamedIn c.args.walk.order b (encoding_of layout.variants) (tag_offset layout) tag arms) c.in_ok-found.found c.as_named.result c.as_named.ensures found
-    (λ i vs h. (c.requires.size, h.0, h.1, h.2)) (from_tagged c.args.walk.order layout b mark (tag_offset layout) tag (encoding_of layout.variants) arms)
+    let tagged_variants : TaggedVariants = tagged_variants_in (types_in ns) c.args.variants.now in
+    let found : FindsNamed (IsNamedIn c.args.walk.order b (encoding_of layout.variants) (tag_offset layout) tag tagged_variants) c.in_ok-found.found =
+    subst (λ o. FindsNamed (IsNamedIn c.args.walk.order b (encoding_of layout.variants) o tag tagged_variants) c.in_ok-found.found) c.tag_offset-offset.ensures
+    (subst (λ e. FindsNamed (IsNamedIn c.args.walk.order b e c.tag_offset-offset.result tag tagged_variants) c.in_ok-found.found) c.encoding_of-encoding.ensures c.in_ok-found.ensures) in
+    finds_named (Holds c.args.walk.order (tagged layout mark (tag_offset layout) tag (encoding_of layout.variants) tagged_variants) b)
+    (IsNamedIn c.args.walk.order b (encoding_of layout.variants) (tag_offset layout) tag tagged_variants) c.in_ok-found.found c.as_named.result c.as_named.ensures found
+    (λ i vs h. (c.requires.size, h.0, h.1, h.2)) (from_tagged c.args.walk.order layout b mark (tag_offset layout) tag (encoding_of layout.variants) tagged_variants)
 
 -- ---- a state
 
@@ -418,7 +418,7 @@ read_state-returns-in-None t c = λ v h.
     let layout : Layout = c.args.layout.now in
     let ps : List Placed = all_at ns c.args.prefix.now in
     let parts : Parts = parts_at (listed_offsets layout.fields) ps in
-    let held = from_states c.args.walk.order layout b parts (state_tag_offset layout (length c.args.prefix.now)) (placed_at ns c.args.tag) (arms_in (types_in ns) c.args.states.now) v h in
+    let held = from_states c.args.walk.order layout b parts (state_tag_offset layout (length c.args.prefix.now)) (placed_at ns c.args.tag) (tagged_variants_in (types_in ns) c.args.states.now) v h in
     let found = subst (FindsEach (HoldParts c.args.walk.order parts b)) c.in-None.is (subst (λ os. FindsEach (HoldParts c.args.walk.order (parts_at os ps) b) c.in_ok-shared.field-0) c.offsets.ensures c.in_ok-shared.ensures) in
     found held.0 held.1
 
@@ -426,7 +426,7 @@ pub read_state-read_named-requires : goal.read_state-read_named-requires
 read_state-read_named-requires t c =
     let ns = c.args.walk.nodes.now in
     let rooms = states_rooms ns c.args.layout.now c.args.prefix.now c.args.tag c.args.states.now c.requires.room in
-    let room : arms_have_room (length c.args.bytes.now) (arms_in (types_in ns) c.args.states.now) ≡ true = rw c.requires.size rooms.1 in (
+    let room : tagged_variants_have_room (length c.args.bytes.now) (tagged_variants_in (types_in ns) c.args.states.now) ≡ true = rw c.requires.size rooms.1 in (
       omega (arith, c.decreases),
       (c.requires.there, (c.requires.first, (c.requires.before, (c.requires.width, room)))),
     )
@@ -438,8 +438,8 @@ read_state-returns-in-None-found t c = λ v h.
     let layout : Layout = c.args.layout.now in
     let offset : ℕ = state_tag_offset layout (length c.args.prefix.now) in
     let tag : Placed = placed_at ns c.args.tag in
-    let arms : Arms = arms_in (types_in ns) c.args.states.now in
-    let held = from_states c.args.walk.order layout b (parts_at (listed_offsets layout.fields) (all_at ns c.args.prefix.now)) offset tag arms v h in
-    let found = subst (FindsNamed (IsNamedIn c.args.walk.order b Direct offset tag arms)) c.in-None-found.is
-    (subst (λ o. FindsNamed (IsNamedIn c.args.walk.order b Direct o tag arms) c.in_ok-found.found) c.state_tag_offset-offset.ensures c.in_ok-found.ensures) in
+    let tagged_variants : TaggedVariants = tagged_variants_in (types_in ns) c.args.states.now in
+    let held = from_states c.args.walk.order layout b (parts_at (listed_offsets layout.fields) (all_at ns c.args.prefix.now)) offset tag tagged_variants v h in
+    let found = subst (FindsNamed (IsNamedIn c.args.walk.order b Direct offset tag tagged_variants)) c.in-None-found.is
+    (subst (λ o. FindsNamed (IsNamedIn c.args.walk.order b Direct o tag tagged_variants) c.in_ok-found.found) c.state_tag_offset-offset.ensures c.in_ok-found.ensures) in
     found held.2 held.3 held.4

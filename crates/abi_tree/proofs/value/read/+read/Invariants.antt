@@ -2,14 +2,14 @@ use Rattle.std.proofs.Common.{◌<◌, ◌+◌, ◌*◌, ℕ}
 use Rattle.abi_tree.specs.Value.{Values}
 use Rattle.abi_tree.specs.Placed.{size_of}
 use Rattle.abi_tree.specs.Tag.{Names}
-use Rattle.abi_tree.specs.Nodes.{arms_in, placed_at, types_in}
+use Rattle.abi_tree.specs.Nodes.{tagged_variants_in, placed_at, types_in}
 use Rattle.abi_tree.specs.Well.{all_at}
-use Rattle.abi_tree.specs.Holding.{HoldArm, Holds}
+use Rattle.abi_tree.specs.Holding.{HoldTaggedVariant, Holds}
 use Rattle.abi_tree.proofs.Found.ReadLemmas.{AreRead, HoldAll, HoldFrom, IsRead}
 use Rattle.abi_tree.proofs.value.read.+read.Given as goal
 
-abbrev pub decreases-read_arm : goal.decreases-read_arm
-decreases-read_arm l = 6 * l.node
+abbrev pub decreases-read_tagged_variant : goal.decreases-read_tagged_variant
+decreases-read_tagged_variant l = 6 * l.node
 
 abbrev pub decreases-read_parts : goal.decreases-read_parts
 decreases-read_parts l = 6 * l.node
@@ -36,9 +36,9 @@ abbrev pub decreases-read_elements : goal.decreases-read_elements
 decreases-read_elements l = 6 * l.element + 5
 
 -- no variant before the i-th is named and held
-abbrev pub invariant-read_arm-loop-i : goal.invariant-read_arm-loop-i
-invariant-read_arm-loop-i l =
-    (j : ℕ) (vs : Values) → j < l.i → Names l.encoding l.width (arms_in (types_in l.walk.nodes.now) l.variants) l.tag j → HoldArm l.walk.order (arms_in (types_in l.walk.nodes.now) l.variants) j l.bytes vs → ⊥
+abbrev pub invariant-read_tagged_variant-loop-i : goal.invariant-read_tagged_variant-loop-i
+invariant-read_tagged_variant-loop-i l =
+    (j : ℕ) (vs : Values) → j < l.i → Names l.encoding l.width (tagged_variants_in (types_in l.walk.nodes.now) l.variants) l.tag j → HoldTaggedVariant l.walk.order (tagged_variants_in (types_in l.walk.nodes.now) l.variants) j l.bytes vs → ⊥
 
 abbrev pub invariant-read_elements-loop-i : goal.invariant-read_elements-loop-i
 invariant-read_elements-loop-i l =

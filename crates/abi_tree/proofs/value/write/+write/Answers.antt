@@ -7,23 +7,23 @@ use Rattle.abi_scalar.specs.declared.variants.TagEncoding.TheVariants.{Direct}
 use Rattle.abi_tree.specs.declared.value.Value.{Value as Kept}
 use Rattle.abi_tree.specs.Value.{Value, Values, value_of, values_of}
 use Rattle.abi_tree.specs.Bytes.{AreBytes, picked_bytes}
-use Rattle.abi_tree.specs.Placed.{Placed, Parts, Arms, nothing, size_of, tagged}
+use Rattle.abi_tree.specs.Placed.{Placed, Parts, TaggedVariants, nothing, size_of, tagged}
 use Rattle.abi_scalar.specs.Layout.{Layout}
 use Rattle.abi_tree.specs.Places.{is_data_place}
-use Rattle.abi_tree.specs.Nodes.{arms_in, encoding_of, variant_left, own_fields, parts_at, parts_at_0, placed_at, placed_in, state_tag_offset, states_in, tag_offset, types_in}
+use Rattle.abi_tree.specs.Nodes.{tagged_variants_in, encoding_of, variant_left, own_fields, parts_at, parts_at_0, placed_at, placed_in, state_tag_offset, states_in, tag_offset, types_in}
 use Rattle.abi_tree.specs.Well.{all_at}
-use Rattle.abi_tree.specs.Room.{arms_have_room, have_room}
+use Rattle.abi_tree.specs.Room.{tagged_variants_have_room, have_room}
 use Rattle.abi_tree.specs.Holding.{HoldParts, Holds}
-use Rattle.abi_tree.specs.Covering.{are_covered, is_arm_covered, is_byte_at, is_covered, is_told}
+use Rattle.abi_tree.specs.Covering.{are_covered, is_tagged_variant_covered, is_byte_at, is_covered, is_tagged}
 use Rattle.abi_tree.specs.Writing.{IsPutOver}
 use Rattle.abi_tree.specs.Putting.{PutsTag, PutsValue}
-use Rattle.abi_tree.proofs.Places.DataPlacesLemmas.{arm_room, elements_node, field_at, fields_node, never_node, pair_node, scalar_node, single_node, states_node, tagged_node, union_node, vector_node}
+use Rattle.abi_tree.proofs.Places.DataPlacesLemmas.{tagged_variant_room, elements_node, field_at, fields_node, never_node, pair_node, scalar_node, single_node, states_node, tagged_node, union_node, vector_node}
 use Rattle.abi_tree.proofs.Meaning.WidthLemmas.{scalar_width_at, state_tag_width_at, tag_width_at}
 use Rattle.abi_tree.proofs.Found.NamedLemmas.{child_is, count_children}
-use Rattle.abi_tree.proofs.Found.ReadLemmas.{from_arm}
+use Rattle.abi_tree.proofs.Found.ReadLemmas.{from_tagged_variant}
 use Rattle.abi_tree.proofs.Found.FoundLemmas.{node_size, states_rooms}
 use Rattle.abi_tree.proofs.Bytes.PutOverLemmas.{put_both, put_like}
-use Rattle.abi_tree.proofs.Written.WriteLemmas.{arm_covers, ArmPut, PartsPut, elements_begin, elements_done, elements_next, parts_all, parts_more, put_elements, put_fields, put_never, put_pair, put_scalar, put_single, put_slice, put_states, put_tagged, put_union, put_vector, vector_room, written_none}
+use Rattle.abi_tree.proofs.Written.WriteLemmas.{tagged_variant_covers, TaggedVariantPut, PartsPut, elements_begin, elements_done, elements_next, parts_all, parts_more, put_elements, put_fields, put_never, put_pair, put_scalar, put_single, put_slice, put_states, put_tagged, put_union, put_vector, vector_room, written_none}
 use Rattle.abi_tree.proofs.value.write.+write.Goals as goal
 
 -- ---- the node itself
@@ -195,7 +195,7 @@ write_node-write_variant-requires t c =
     let size = node_size ns c.args.node _ c.requires.there c.node-here.ensures in
     let facts = tagged_node ns c.args.walk.well c.args.node _ c.requires.there c.node-here.ensures c.requires.room c.in-Tagged.mark c.in-Tagged.tag c.in-Tagged.variants c.in-Tagged.is in
     let width = tag_width_at ns c.args.walk.well c.args.walk.widths c.args.node _ c.requires.there c.node-here.ensures c.in-Tagged.mark c.in-Tagged.tag c.in-Tagged.variants c.in-Tagged.is in
-    let named = c.arms_of.ensures.tagged c.in-Tagged.mark c.in-Tagged.tag c.in-Tagged.variants c.in-Tagged.is in (
+    let named = c.tagged_nodes.ensures.tagged c.in-Tagged.mark c.in-Tagged.tag c.in-Tagged.variants c.in-Tagged.is in (
       omega (arith, c.decreases),
       (
         c.requires.there,
@@ -216,10 +216,10 @@ write_node-returns-in-Tagged-clause-put t c =
     let v : Value = value_of c.args.value.now in
     let new : List ℕ = c.write_variant.new.bytes in
     let facts = tagged_node ns c.args.walk.well c.args.node _ c.requires.there c.node-here.ensures c.requires.room c.in-Tagged.mark c.in-Tagged.tag c.in-Tagged.variants c.in-Tagged.is in
-    let named = c.arms_of.ensures.tagged c.in-Tagged.mark c.in-Tagged.tag c.in-Tagged.variants c.in-Tagged.is in
-    let whole : ℕ → List (ℕ × ℕ) → Placed = λ tag vs. tagged layout c.in-Tagged.mark (tag_offset layout) (placed_at ns tag) (encoding_of layout.variants) (arms_in (types_in ns) vs) in
-    let is : whole c.arms_of.result.tag c.arms_of.result.arms.now ≡ placed_at ns c.args.node =
-    ap (λ tag. whole tag c.arms_of.result.arms.now) named.0 ∙ ap (whole c.in-Tagged.tag) named.1 ∙ sym facts.2 in
+    let named = c.tagged_nodes.ensures.tagged c.in-Tagged.mark c.in-Tagged.tag c.in-Tagged.variants c.in-Tagged.is in
+    let whole : ℕ → List (ℕ × ℕ) → Placed = λ tag vs. tagged layout c.in-Tagged.mark (tag_offset layout) (placed_at ns tag) (encoding_of layout.variants) (tagged_variants_in (types_in ns) vs) in
+    let is : whole c.tagged_nodes.result.tag c.tagged_nodes.result.tagged_variants.now ≡ placed_at ns c.args.node =
+    ap (λ tag. whole tag c.tagged_nodes.result.tagged_variants.now) named.0 ∙ ap (whole c.in-Tagged.tag) named.1 ∙ sym facts.2 in
     on_ok_weaker c.write_variant.result
     (λ put b all.
     subst (λ p. Holds c.args.walk.order p b v → IsPutOver (is_covered p v) c.args.at b c.args.bytes.now new) is (put c.in-Tagged.mark b all))
@@ -232,7 +232,7 @@ write_node-write_state-requires t c =
     let size = node_size ns c.args.node _ c.requires.there c.node-here.ensures in
     let facts = states_node ns c.args.walk.well c.args.node _ c.requires.there c.node-here.ensures c.requires.room c.in-States.prefix c.in-States.tag c.in-States.states c.in-States.is in
     let width = state_tag_width_at ns c.args.walk.well c.args.walk.widths c.args.node _ c.requires.there c.node-here.ensures c.in-States.prefix c.in-States.tag c.in-States.states c.in-States.is in
-    let named = c.arms_of-in-States.ensures.states c.in-States.prefix c.in-States.tag c.in-States.states c.in-States.is in (
+    let named = c.tagged_nodes-in-States.ensures.states c.in-States.prefix c.in-States.tag c.in-States.states c.in-States.is in (
       omega (arith, c.decreases),
       (
         c.requires.there,
@@ -250,11 +250,11 @@ write_node-returns-in-States-clause-put t c =
     let v : Value = value_of c.args.value.now in
     let new : List ℕ = c.write_state.new.bytes in
     let facts = states_node ns c.args.walk.well c.args.node _ c.requires.there c.node-here.ensures c.requires.room c.in-States.prefix c.in-States.tag c.in-States.states c.in-States.is in
-    let named = c.arms_of-in-States.ensures.states c.in-States.prefix c.in-States.tag c.in-States.states c.in-States.is in
-    let beside = c.arms_of-in-States.result in
+    let named = c.tagged_nodes-in-States.ensures.states c.in-States.prefix c.in-States.tag c.in-States.states c.in-States.is in
+    let beside = c.tagged_nodes-in-States.result in
     let whole : List ℕ → ℕ → List (ℕ × ℕ) → Placed = λ ps tag vs. states_in (types_in ns) layout ps tag vs in
-    let is : whole beside.prefix.now beside.tag beside.arms.now ≡ placed_at ns c.args.node =
-    ap (λ ps. whole ps beside.tag beside.arms.now) named.0 ∙ ap (λ tag. whole c.in-States.prefix.items tag beside.arms.now) named.1 ∙ ap (whole c.in-States.prefix.items c.in-States.tag) named.2
+    let is : whole beside.prefix.now beside.tag beside.tagged_variants.now ≡ placed_at ns c.args.node =
+    ap (λ ps. whole ps beside.tag beside.tagged_variants.now) named.0 ∙ ap (λ tag. whole c.in-States.prefix.items tag beside.tagged_variants.now) named.1 ∙ ap (whole c.in-States.prefix.items c.in-States.tag) named.2
     ∙ sym facts.3 in
     on_ok_weaker c.write_state.result
     (λ put b all. subst (λ p. Holds c.args.walk.order p b v → IsPutOver (is_covered p v) c.args.at b c.args.bytes.now new) is (put b all))
@@ -372,11 +372,11 @@ write_fields-returns-clause-put t c =
 
 -- ---- a variant
 
-pub write_variant-write_arm-requires : goal.write_variant-write_arm-requires
-write_variant-write_arm-requires t c =
+pub write_variant-write_tagged_variant-requires : goal.write_variant-write_tagged_variant-requires
+write_variant-write_tagged_variant-requires t c =
     let ns = c.args.walk.nodes.now in
     let inside : c.tag_offset.result + size_of (placed_at ns c.args.beside.tag) ≤ c.bytes.result = rw (c.tag_offset.ensures, c.bytes.ensures) c.requires.inside in
-    let room : arms_have_room c.bytes.result (arms_in (types_in ns) c.args.beside.arms.now) ≡ true = rw c.bytes.ensures c.requires.room in (
+    let room : tagged_variants_have_room c.bytes.result (tagged_variants_in (types_in ns) c.args.beside.tagged_variants.now) ≡ true = rw c.bytes.ensures c.requires.room in (
       omega (arith, c.decreases),
       (
         c.requires.there,
@@ -390,29 +390,29 @@ write_variant-returns-clause-put t c =
     let layout : Layout = c.args.layout.now in
     let i : ℕ = c.variant-index.result.0 in
     let us : Values = values_of c.variant-index.result.1.now in
-    let new : List ℕ = c.write_arm.new.bytes in
+    let new : List ℕ = c.write_tagged_variant.new.bytes in
     let tag : Placed = placed_at ns c.args.beside.tag in
-    let arms : Arms = arms_in (types_in ns) c.args.beside.arms.now in
-    on_ok_weaker c.write_arm.result
+    let tagged_variants : TaggedVariants = tagged_variants_in (types_in ns) c.args.beside.tagged_variants.now in
+    on_ok_weaker c.write_tagged_variant.result
     (λ put mark b all.
-    put_tagged c.args.walk.order layout c.args.at b c.args.bytes.now new mark (tag_offset layout) tag (encoding_of layout.variants) arms (value_of c.args.value.now) i us c.variant-index.ensures (put b all))
-    (subst (λ o. ArmPut c.args.walk.order c.args.at c.args.bytes.now new (encoding_of layout.variants) o tag arms i us c.write_arm.result) c.tag_offset.ensures
-    (subst (λ e. ArmPut c.args.walk.order c.args.at c.args.bytes.now new e c.tag_offset.result tag arms i us c.write_arm.result) c.encoding_of-encoding.ensures
-    c.write_arm.ensures.put))
+    put_tagged c.args.walk.order layout c.args.at b c.args.bytes.now new mark (tag_offset layout) tag (encoding_of layout.variants) tagged_variants (value_of c.args.value.now) i us c.variant-index.ensures (put b all))
+    (subst (λ o. TaggedVariantPut c.args.walk.order c.args.at c.args.bytes.now new (encoding_of layout.variants) o tag tagged_variants i us c.write_tagged_variant.result) c.tag_offset.ensures
+    (subst (λ e. TaggedVariantPut c.args.walk.order c.args.at c.args.bytes.now new e c.tag_offset.result tag tagged_variants i us c.write_tagged_variant.result) c.encoding_of-encoding.ensures
+    c.write_tagged_variant.ensures.put))
 
 -- ---- a state
 
 pub write_state-write_fields-requires : goal.write_state-write_fields-requires
 write_state-write_fields-requires t c =
-    let rooms = states_rooms c.args.walk.nodes.now c.args.layout.now c.args.beside.prefix.now c.args.beside.tag c.args.beside.arms.now c.requires.room in
+    let rooms = states_rooms c.args.walk.nodes.now c.args.layout.now c.args.beside.prefix.now c.args.beside.tag c.args.beside.tagged_variants.now c.requires.room in
     (omega (arith, c.decreases), (c.requires.there, (c.requires.fields, (rooms.0, c.requires.fits))))
 
-pub write_state-write_arm-requires : goal.write_state-write_arm-requires
-write_state-write_arm-requires t c =
+pub write_state-write_tagged_variant-requires : goal.write_state-write_tagged_variant-requires
+write_state-write_tagged_variant-requires t c =
     let ns = c.args.walk.nodes.now in
-    let rooms = states_rooms ns c.args.layout.now c.args.beside.prefix.now c.args.beside.tag c.args.beside.arms.now c.requires.room in
+    let rooms = states_rooms ns c.args.layout.now c.args.beside.prefix.now c.args.beside.tag c.args.beside.tagged_variants.now c.requires.room in
     let inside : c.state_tag_offset.result + size_of (placed_at ns c.args.beside.tag) ≤ c.bytes.result = rw (c.state_tag_offset.ensures, c.bytes.ensures) rooms.2 in
-    let room : arms_have_room c.bytes.result (arms_in (types_in ns) c.args.beside.arms.now) ≡ true = rw c.bytes.ensures rooms.1 in (
+    let room : tagged_variants_have_room c.bytes.result (tagged_variants_in (types_in ns) c.args.beside.tagged_variants.now) ≡ true = rw c.bytes.ensures rooms.1 in (
       omega (arith, c.decreases),
       (
         c.requires.there,
@@ -432,54 +432,54 @@ write_state-returns-clause-put t c =
     let us : Values = values_of c.state-state.result.2.now in
     let old : List ℕ = c.args.bytes.now in
     let mid : List ℕ = c.write_fields.new.bytes in
-    let new : List ℕ = c.write_arm.new.bytes in
+    let new : List ℕ = c.write_tagged_variant.new.bytes in
     let prefix : Parts = parts_at (listed_offsets layout.fields) (all_at ns c.args.beside.prefix.now) in
     let offset : ℕ = state_tag_offset layout (length c.args.beside.prefix.now) in
     let tag : Placed = placed_at ns c.args.beside.tag in
-    let arms : Arms = arms_in (types_in ns) c.args.beside.arms.now in
-    on_ok_weaker c.write_arm.result
+    let tagged_variants : TaggedVariants = tagged_variants_in (types_in ns) c.args.beside.tagged_variants.now in
+    on_ok_weaker c.write_tagged_variant.result
     (λ put b all.
-    put_states c.args.walk.order layout c.args.at b old mid new prefix offset tag arms (value_of c.args.value.now) i qs us c.state-state.ensures (c.in_ok-write_fields.ensures.put b all) (put b all))
-    (subst (λ o. ArmPut c.args.walk.order c.args.at mid new Direct o tag arms i us c.write_arm.result) c.state_tag_offset.ensures c.write_arm.ensures.put)
+    put_states c.args.walk.order layout c.args.at b old mid new prefix offset tag tagged_variants (value_of c.args.value.now) i qs us c.state-state.ensures (c.in_ok-write_fields.ensures.put b all) (put b all))
+    (subst (λ o. TaggedVariantPut c.args.walk.order c.args.at mid new Direct o tag tagged_variants i us c.write_tagged_variant.result) c.state_tag_offset.ensures c.write_tagged_variant.ensures.put)
 
--- ---- a tag and an arm
+-- ---- a tag and a tagged variant
 
-pub write_arm-returns-then-index-told-clause-put :
-    goal.write_arm-returns-then-index-told-clause-put
-write_arm-returns-then-index-told-clause-put t c = λ b all held.
-    let at = from_arm c.args.walk.order (types_in c.args.walk.nodes.now) b c.args.told.arms.now c.args.index (0, 0) (values_of c.args.values.now) held.2 in
-    absurd (omega (arith, at.0, c.if-index-told.true))
+pub write_tagged_variant-returns-then-index-tag_layout-clause-put :
+    goal.write_tagged_variant-returns-then-index-tag_layout-clause-put
+write_tagged_variant-returns-then-index-tag_layout-clause-put t c = λ b all held.
+    let at = from_tagged_variant c.args.walk.order (types_in c.args.walk.nodes.now) b c.args.tag_layout.tagged_variants.now c.args.index (0, 0) (values_of c.args.values.now) held.2 in
+    absurd (omega (arith, at.0, c.if-index-tag_layout.true))
 
-pub write_arm-write_own-requires : goal.write_arm-write_own-requires
-write_arm-write_own-requires t c =
-    let before = c.requires.before c.args.index (0, 0) c.if-index-told.false in (
+pub write_tagged_variant-write_own-requires : goal.write_tagged_variant-write_own-requires
+write_tagged_variant-write_own-requires t c =
+    let before = c.requires.before c.args.index (0, 0) c.if-index-tag_layout.false in (
       omega (arith, before, c.decreases),
       (
         omega (arith, before, c.requires.there),
         (
-          arm_room c.args.told.size (types_in c.args.walk.nodes.now) c.args.told.arms.now c.args.index (0, 0) c.requires.room c.if-index-told.false,
+          tagged_variant_room c.args.tag_layout.size (types_in c.args.walk.nodes.now) c.args.tag_layout.tagged_variants.now c.args.index (0, 0) c.requires.room c.if-index-tag_layout.false,
           omega (arith, c.requires.fits, c.write_tag.ensures.long),
         ),
       ),
     )
 
-pub write_arm-returns-clause-put : goal.write_arm-returns-clause-put
-write_arm-returns-clause-put t c =
+pub write_tagged_variant-returns-clause-put : goal.write_tagged_variant-returns-clause-put
+write_tagged_variant-returns-clause-put t c =
     let ns = c.args.walk.nodes.now in
     let done : List Placed = types_in ns in
     let i : ℕ = c.args.index in
-    let tag : Placed = placed_at ns c.args.told.tag in
+    let tag : Placed = placed_at ns c.args.tag_layout.tag in
     let us : Values = values_of c.args.values.now in
-    let vs : List (ℕ × ℕ) = c.args.told.arms.now in
+    let vs : List (ℕ × ℕ) = c.args.tag_layout.tagged_variants.now in
     let old : List ℕ = c.args.bytes.now in
     let mid : List ℕ = c.write_tag.new.bytes in
     let new : List ℕ = c.write_own.new.bytes in
     let width : c.layout.result.now.size ≡ size_of tag = ap (λ l. l.size) c.layout.ensures in
     on_ok_weaker c.write_own.result
     (λ put b all held.
-    let at = from_arm c.args.walk.order done b vs i (0, 0) us held.2 in
-    let front = subst (λ w. PutsTag c.args.walk.order c.args.at old mid c.args.told.encoding.now c.args.told.offset w vs i) width c.write_tag.ensures.put b done all held.0 held.1 in
-    put_both (λ k. is_told c.args.told.encoding.now i && is_byte_at c.args.told.offset (size_of tag) k) (λ k. is_arm_covered (arms_in done vs) i us k) c.args.at b old mid new front
-    (put_like (are_covered (own_fields (placed_in done (get_or vs i (0, 0)).1)) us) (λ k. is_arm_covered (arms_in done vs) i us k) c.args.at b mid new
-    (λ k. arm_covers done vs i (0, 0) us k at.0) (put b all at.1)))
+    let at = from_tagged_variant c.args.walk.order done b vs i (0, 0) us held.2 in
+    let front = subst (λ w. PutsTag c.args.walk.order c.args.at old mid c.args.tag_layout.encoding.now c.args.tag_layout.offset w vs i) width c.write_tag.ensures.put b done all held.0 held.1 in
+    put_both (λ k. is_tagged c.args.tag_layout.encoding.now i && is_byte_at c.args.tag_layout.offset (size_of tag) k) (λ k. is_tagged_variant_covered (tagged_variants_in done vs) i us k) c.args.at b old mid new front
+    (put_like (are_covered (own_fields (placed_in done (get_or vs i (0, 0)).1)) us) (λ k. is_tagged_variant_covered (tagged_variants_in done vs) i us k) c.args.at b mid new
+    (λ k. tagged_variant_covers done vs i (0, 0) us k at.0) (put b all at.1)))
     c.write_own.ensures.put

@@ -14,8 +14,8 @@ decreases-write_parts l = 6 * l.node
 abbrev pub decreases-write_own : goal.decreases-write_own
 decreases-write_own l = 6 * l.variant + 1
 
-abbrev pub decreases-write_arm : goal.decreases-write_arm
-decreases-write_arm l = 6 * l.node + 1
+abbrev pub decreases-write_tagged_variant : goal.decreases-write_tagged_variant
+decreases-write_tagged_variant l = 6 * l.node + 1
 
 abbrev pub decreases-write_fields : goal.decreases-write_fields
 decreases-write_fields l = 6 * l.node + 1

@@ -58,11 +58,11 @@ returns-else-branch-clause-not_a_value c = λ is dl tree keeps value.
     let whole : length new ≡ size_of (placed_of laid) = long ∙ c.in_ok-bytes.ensures.len ∙ size ∙ ap size_of root in
     let refused : ((u w : Value) → Holds o p c.deref.result.now u → Holds o p c.deref.result.now w → u ≡ w) → Holds o p c.deref.result.now v → ⊥ =
     rw c.if-branch.false at c.in_ok-holds.ensures.held in
-    let told : (u : Value) → Holds o p c.deref.result.now u → Holds (endian_of laid) (placed_of laid) c.deref.result.now u =
+    let tag_layout : (u : Value) → Holds o p c.deref.result.now u → Holds (endian_of laid) (placed_of laid) c.deref.result.now u =
     λ u h. subst (λ x. Holds x (placed_of laid) c.deref.result.now u) c.endian-order.ensures (subst (λ x. Holds o x c.deref.result.now u) root h) in
     let put : PutsValue (endian_of laid) 0 old new (placed_of laid) v =
     subst (λ x. PutsValue x 0 old new (placed_of laid) v) c.endian-order.ensures (subst (λ x. PutsValue o 0 old new x v) root c.in_ok-write_node.ensures.put) in
     let held = value_held dl tree laid keeps v old new whole value put in
-    refused (λ u w hu hw. held_once dl tree laid keeps v c.deref.result.now u w (told u hu) (told w hw))
+    refused (λ u w hu hw. held_once dl tree laid keeps v c.deref.result.now u w (tag_layout u hu) (tag_layout w hw))
     (subst (λ b. Holds o p b v) (sym final)
     (subst (λ x. Holds o x new v) (sym root) (subst (λ x. Holds x (placed_of laid) new v) (sym c.endian-order.ensures) held)))

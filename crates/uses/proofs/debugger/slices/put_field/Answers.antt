@@ -28,8 +28,8 @@ returns-in_err-write_value-in-Some-list_with-clause-not_a_value c =
     let one = rw c.in-Some.is at c.in_ok-held.ensures.one in
     let changed = c.in-Some-list_with.ensures in
     let same : vs ≡ changed.0 = inj-list vs changed.0 (only_read c.args.laid.now c.args.bytes.now c.in-Some.held c.requires.laid one (list vs) h ∙ changed.1) in
-    let told : c.in_err-write_value-in-Some-list_with.field-0.0 ≡ ValueError.NotAValue = cc in
-    c.in_err-write_value-in-Some-list_with.ensures.not_a_value told dl tree keeps
+    let tag_distinguishes : c.in_err-write_value-in-Some-list_with.field-0.0 ≡ ValueError.NotAValue = cc in
+    c.in_err-write_value-in-Some-list_with.ensures.not_a_value tag_distinguishes dl tree keeps
     (subst (IsValueOf dl tree (placed_of c.args.laid.now)) (sym changed.2)
     (subst (λ (us : Values). IsValueOf dl tree (placed_of c.args.laid.now) (list (with_value us c.args.index (value_of c.args.value)))) same value)))
 

@@ -19,9 +19,9 @@ held c = rw c.in-Some.is at c.in_ok-value.ensures.finds
 
 spared : (c : Joined-value-2) → is_spared (placed_of c.args.laid.now) (value_of c.in-Some.value) c.args.place ≡ true
 spared c =
-    let same = ap layout_in (sym c.root-root.ensures.told) ∙ c.root-root.ensures.valid.layout ∙ c.root-root.ensures.layout in
-    let told = subst (λ t. AreUnused t c.in_ok-sets.sets) c.root-root.ensures.told c.in_ok-sets.ensures in
-    sym (told_spared c.args.laid.now c.requires.laid c.args.bytes.now c.in_ok-sets.sets same told (value_of c.in-Some.value) (held c) c.args.place)
+    let same = ap layout_in (sym c.root-root.ensures.typed) ∙ c.root-root.ensures.valid.layout ∙ c.root-root.ensures.layout in
+    let tag_distinguishes = subst (λ t. AreUnused t c.in_ok-sets.sets) c.root-root.ensures.typed c.in_ok-sets.ensures in
+    sym (told_spared c.args.laid.now c.requires.laid c.args.bytes.now c.in_ok-sets.sets same tag_distinguishes (value_of c.in-Some.value) (held c) c.args.place)
     ∙ sym c.is_unused.ensures ∙ c.if-is_unused.true
 
 free : (c : Joined-value-2) → is_covered (placed_of c.args.laid.now) (value_of c.in-Some.value) c.args.place ≡ false
@@ -54,9 +54,9 @@ returns-then-is_unused-clause-no_value c =
 pub returns-else-is_unused-clause-changed : goal.returns-else-is_unused-clause-changed
 returns-else-is_unused-clause-changed c =
     let held = rw c.in-Some.is at c.in_ok-value.ensures.finds in
-    let same = ap layout_in (sym c.root-root.ensures.told) ∙ c.root-root.ensures.valid.layout ∙ c.root-root.ensures.layout in
-    let told = subst (λ t. AreUnused t c.in_ok-sets.sets) c.root-root.ensures.told c.in_ok-sets.ensures in
+    let same = ap layout_in (sym c.root-root.ensures.typed) ∙ c.root-root.ensures.valid.layout ∙ c.root-root.ensures.layout in
+    let tag_distinguishes = subst (λ t. AreUnused t c.in_ok-sets.sets) c.root-root.ensures.typed c.in_ok-sets.ensures in
     let used : is_spared (placed_of c.args.laid.now) (value_of c.in-Some.value) c.args.place ≡ false
-    = sym (told_spared c.args.laid.now c.requires.laid c.args.bytes.now c.in_ok-sets.sets same told (value_of c.in-Some.value) held c.args.place)
+    = sym (told_spared c.args.laid.now c.requires.laid c.args.bytes.now c.in_ok-sets.sets same tag_distinguishes (value_of c.in-Some.value) held c.args.place)
     ∙ sym c.is_unused.ensures ∙ c.if-is_unused.false in
     sym (ap (λ t. if t then slice_set c.args.bytes.now c.args.place c.args.byte else c.args.bytes.now) used)

@@ -1,8 +1,0 @@
--- Those of the items before that count.
-use Rattle.std.proofs.Common.{◌≡◌, map, take}
-use Rattle.abi_calc.specs.Enums.Discriminants.{counting_of}
-use Rattle.abi_calc.proofs.enums.discriminants.counting_of.Given as goal
-
-abbrev pub invariant-loop-item : goal.invariant-loop-item
-invariant-loop-item g l =
-    l.values.items ≡ counting_of g.VariantIdx.Idx.number l.repr (map (map g.F.LayoutHandle.layout_of) l.variants) (take l.item-index l.items)

@@ -1,8 +1,0 @@
--- None of the variants before is present.
-use Rattle.std.proofs.Common.{◌≡◌}
-use Rattle.abi_calc.proofs.EnumLemmas.Path.{found_from}
-use Rattle.abi_calc.proofs.enums.path.present_from.Given as goal
-
-abbrev pub invariant-loop-index : goal.invariant-loop-index
-invariant-loop-index g l =
-    found_from g.F.LayoutHandle.layout_of l.repr l.variants l.index ≡ found_from g.F.LayoutHandle.layout_of l.repr l.variants l.from

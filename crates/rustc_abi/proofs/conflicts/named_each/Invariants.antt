@@ -1,6 +1,0 @@
--- The states before.
-use Rattle.std.proofs.Common.{◌≡◌, map, take}
-use Rattle.rustc_abi.proofs.conflicts.named_each.Given as goal
-
-abbrev pub invariant-loop-state : goal.invariant-loop-state
-invariant-loop-state l = l.each.items ≡ map (λ state. state.items) (take l.state-index l.states)
