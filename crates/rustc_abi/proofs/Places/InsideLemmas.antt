@@ -45,7 +45,7 @@ use Rattle.abi_calc.specs.Coroutine.States.{state_layout, state_layouts, state_o
 use Rattle.abi_calc.specs.Enums.Answer.{IsTypeAnswer}
 use Rattle.abi_calc.specs.Enums.Choice.{IsNicheAnswer, preferred_layout, takes_niche}
 use Rattle.abi_calc.specs.Enums.Discriminants.{counted_discriminants}
-use Rattle.abi_calc.specs.Enums.Growth.{grown_tag, grown_variant, moved, start_align}
+use Rattle.abi_calc.specs.Enums.Growth.{grown_tag, grown_variant, moved_offset, start_align}
 use Rattle.abi_calc.specs.Enums.Lists.{AreGoodLists, AreListLayouts, IsGoodList, behind_tag}
 use Rattle.abi_calc.specs.Enums.Niche.{beside_niche, moved_on, niche_layout, place_after, room_beside, untagged_of, variants_from, with_first, without_niche}
 use Rattle.abi_calc.specs.Enums.EnumStrategy.{strategy_of}
@@ -58,7 +58,7 @@ use Rattle.abi_calc.proofs.CoroutineLemmas.Promotion.{promoted_count}
 use Rattle.abi_calc.proofs.EnumLemmas.NicheLawful.{niche_parts}
 use Rattle.abi_calc.proofs.EnumLemmas.Places.{AreClear, AreClearAmong, IsClear, clear_grown, greatest_within, new_fits}
 use Rattle.abi_calc.proofs.EnumLemmas.Several.{by_both}
-use Rattle.abi_calc.proofs.EnumLemmas.Whole.{several_some}
+use Rattle.abi_calc.proofs.EnumLemmas.EnumExtent.{several_some}
 use Rattle.abi_calc.proofs.EnumLemmas.GoodLists.{good_list, good_lists, tag_prefix}
 use Rattle.abi_calc.proofs.CoroutineLemmas.OneCoroutine.{lists_own}
 use Rattle.abi_tree.specs.Placed.{Placed, layout_of, size_of}
@@ -117,7 +117,7 @@ end_moved old new small o m true (inr far) h = omega (arith, far, h)
 end_moved old new small o m false clear h = omega (arith, h)
 
 -- and so do all of them
-ends_moved : (old new small : ℕ) (offsets sizes : List ℕ) → AreClear old new offsets sizes → EndInside small offsets sizes → EndInside (max small new) (map (moved old new) offsets) sizes
+ends_moved : (old new small : ℕ) (offsets sizes : List ℕ) → AreClear old new offsets sizes → EndInside small offsets sizes → EndInside (max small new) (map (moved_offset old new) offsets) sizes
 ends_moved old new small [] [] clear h = tt
 ends_moved old new small [] (m ∷ sizes) clear h = absurd h
 ends_moved old new small (o ∷ offsets) [] clear h = absurd h
@@ -146,7 +146,7 @@ grown_inside : (old new whole : ℕ) (fields : List Placed) (list : Layout) → 
     → (old < new → AreClear old new (listed_offsets list.fields) (map size_of fields)) → ByField list fields → IsInside whole fields (grown_variant old new (variant_of list))
 grown_inside old new whole fields list less fits ends clear flag = by (nat_lt old new) refl
   where
-    by : (b : Bool) → nat_lt old new ≡ b → IsInside whole fields (if b then (record (variant_of list) { size = max list.size new; field_offsets = map (moved old new) (listed_offsets list.fields) }) else variant_of list)
+    by : (b : Bool) → nat_lt old new ≡ b → IsInside whole fields (if b then (record (variant_of list) { size = max list.size new; field_offsets = map (moved_offset old new) (listed_offsets list.fields) }) else variant_of list)
     by true grows = (omega (arith, less, fits), ends_moved old new list.size (listed_offsets list.fields) (map size_of fields) (clear (ltb-true old new grows)) ends, flag)
     by false stays = (less, ends, flag)
 
@@ -322,7 +322,7 @@ behind_fits dl repr size align fields list good =
     omega (arith, begins, ends, rounded, good.placed.2.extent)
 
 module _ (dl : TargetDataLayout) (law : IsLawfulDataLayout dl) (pres ps : List Placed) (states : List (List ℕ)) (conflicts : List (ℕ × ℕ)) (before : All (λ p. IsLawfulLayout dl (layout_of p)) pres) (there : All (λ p. IsLawfulLayout dl (layout_of p)) ps)
-    (none : coroutine_fault (length pres) (length ps) states conflicts ≡ None) (tag : Scalar) (tells : IsStateTag (length states) tag) where
+    (none : coroutine_fault (length pres) (length ps) states conflicts ≡ None) (tag : Scalar) (is_state_tag : IsStateTag (length states) tag) where
   -- the locals that are promoted
   abbrev promoted : List Bool
   promoted = promoted_of states (conflicts_of (length ps) conflicts)
@@ -347,7 +347,7 @@ module _ (dl : TargetDataLayout) (law : IsLawfulDataLayout dl) (pres ps : List P
   good_first : (first : Layout) → IsUnivariantAnswer layout_of (λ i. i) 0 dl default_repr AlwaysSized (first_list pres (one_scalar dl tag) ps promoted) (Ok first) → IsGoodFirst first
   good_first first h =
       good_list layout_of (λ i. i) 0 dl default_repr AlwaysSized (first_list pres (one_scalar dl tag) ps promoted) first law
-      (first_lawful layout_of (λ i. i) (λ i. i) 0 dl pres tag (one_scalar dl tag) ps states promoted (coroutine_asked dl law pres ps states conflicts before there tag tells)) aligns tt tt h
+      (first_lawful layout_of (λ i. i) (λ i. i) 0 dl pres tag (one_scalar dl tag) ps states promoted (coroutine_asked dl law pres ps states conflicts before there tag is_state_tag)) aligns tt tt h
 
   good_own : (first : Layout) (lists : List Layout) → IsLawfulLayout dl first → AreOwnLists layout_of (λ i. i) 0 dl (state_list_kind first) ps promoted states lists → AreGoodOwn first states lists
   good_own first lists lawful h =
@@ -404,7 +404,7 @@ module _ (dl : TargetDataLayout) (law : IsLawfulDataLayout dl) (pres ps : List P
   pub coroutine_field_count : (layout : Layout) → IsCoroutined dl pres tag (one_scalar dl tag) ps states conflicts (Ok layout) → field_count layout.fields ≡ length pres + 1
   coroutine_field_count layout h =
       let listed : field_count layout.fields ≡ length (listed_offsets layout.fields) = ap (λ (l : Layout). field_count l.fields) h.5 ∙ sym (ap (λ (l : Layout). length (listed_offsets l.fields)) h.5) in
-      listed ∙ stated_offsets dl law pres ps states conflicts before there none tag tells layout h
+      listed ∙ stated_offsets dl law pres ps states conflicts before there none tag is_state_tag layout h
 
   -- each of them ends inside the coroutine
   pub coroutine_places : (layout : Layout) → IsCoroutined dl pres tag (one_scalar dl tag) ps states conflicts (Ok layout)

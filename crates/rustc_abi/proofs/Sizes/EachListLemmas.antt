@@ -35,7 +35,7 @@ use Rattle.abi_calc.specs.Coroutine.Promotion.{promoted_of}
 use Rattle.abi_calc.specs.Coroutine.Sizes.{behind_first, own_lists}
 use Rattle.abi_calc.specs.Coroutine.States.{rank_of, ranks_of, state_offsets}
 use Rattle.abi_calc.specs.Enums.Discriminants.{counted_discriminants}
-use Rattle.abi_calc.specs.Enums.Growth.{grown_tag, moved, start_align}
+use Rattle.abi_calc.specs.Enums.Growth.{grown_tag, moved_offset, start_align}
 use Rattle.abi_calc.specs.Enums.Lists.{behind_tag}
 use Rattle.abi_calc.specs.Enums.Made.{AreBehindTag, AreBesideNiche, IsBesideNiche}
 use Rattle.abi_calc.specs.Enums.Niche.{room_beside, span_count, untagged_of}
@@ -143,7 +143,7 @@ module _ (dl : TargetDataLayout) (repr : ReprOptions) where
         (lists : List Layout) (layouts : List (VariantLayout ℕ)) → EachApart size variants layouts
         → length numbers ≡ length variants → AreFieldLists (λ i. i) dl repr kind (layouts_of variants) lists
         → AreBehindTag old new size lists layouts
-        → AreMovedLists dl repr kind (moved old new) (tagged_variants_at whole mark first layouts numbers variants)
+        → AreMovedLists dl repr kind (moved_offset old new) (tagged_variants_at whole mark first layouts numbers variants)
     moved_tagged_variants kind old new first numbers [] lists [] apart long own places = tt
     moved_tagged_variants kind old new first numbers [] lists (l ∷ layouts) apart long own places = absurd apart
     moved_tagged_variants kind old new first numbers (ps ∷ variants) lists [] apart long own places = absurd apart
@@ -266,7 +266,7 @@ module _ (dl : TargetDataLayout) (law : IsLawfulDataLayout dl) (repr : ReprOptio
         subst (λ vs. IsAskedFor dl repr (IsTagIntegerAnswer dl repr) (counted repr numbers vs) asked signed) (sym back) is,
         no_less,
         subst (λ vs. AreMovedLists dl repr (behind_tag dl repr asked (layouts_of vs))
-            (moved (integer_size asked) (scalar_size dl tag))
+            (moved_offset (integer_size asked) (scalar_size dl tag))
             (tagged_variants_at l (mark_of true repr) 0 layouts numbers variants))
             (sym back)
             (moved_tagged_variants dl repr l (mark_of true repr) l.size (behind_tag dl repr asked (layouts_of variants))
@@ -389,7 +389,7 @@ module _ (dl : TargetDataLayout) (kind : StructKind) (ps : List Placed) (promote
 module _ (dl : TargetDataLayout) (law : IsLawfulDataLayout dl) where
   module _ (prefix locals : Trees) (pres ps : List Placed) (states : List (List ℕ)) (conflicts : List (ℕ × ℕ))
       (before : AreLaying dl prefix (Ok pres)) (there : AreLaying dl locals (Ok ps))
-      (tag : Scalar) (tells : IsStateTag (length states) tag) (layout : Layout) where
+      (tag : Scalar) (is_state_tag : IsStateTag (length states) tag) (layout : Layout) where
     abbrev promoted : List Bool
     promoted = promoted_of states (conflicts_of (length ps) conflicts)
 
@@ -455,7 +455,7 @@ module _ (dl : TargetDataLayout) (law : IsLawfulDataLayout dl) where
       made_least =
           let own : AreLists (drop count offsets) made.first.size pres tag offsets
           = subst (λ t. AreLists (drop count offsets) made.first.size pres t offsets)
-          (one_tag (length states) made.tag tag made.tells tells) made_lists in
+          (one_tag (length states) made.tag tag made.is_state_tag is_state_tag) made_lists in
           let there_too : AreLists (drop count offsets) made.first.size pres tag places
           = subst (λ os. AreLists (drop count offsets) made.first.size pres tag os) (sym places_are) own in
           let of_parts = subst (λ qs. AreLists (drop count offsets) made.first.size qs tag places) (sym back)
