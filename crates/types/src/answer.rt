@@ -330,40 +330,25 @@ impl FileReport {
         }
     }
 
-    /// Reports on each type of the source.
+    /// Reports on each type of the source, and the first fault of the names of each other item.
     fn add_all(&mut self, cx: ReportContext<'_>, sources: &Sources) -> Result<(), SourceFailure> {
         let mut name = String::new(self.alloc);
         for item in 0..sources.item_count() {
+            name.clear();
+            sources.write_name(&mut name, item)?;
+            let place = NamePlace {
+                name: name.as_str(),
+                own: Spot::Nowhere.of(sources.place_of(item)),
+            };
             if sources.is_reported(item) {
-                name.clear();
-                sources.write_name(&mut name, item)?;
                 let found = sources.type_of(self.alloc, cx.dl, item);
-                let place = NamePlace {
-                    name: name.as_str(),
-                    own: Spot::Nowhere.of(sources.place_of(item)),
-                };
                 self.add_found(cx, sources, place, found)?;
-            } else {
-                self.check_names(cx, sources, item)?;
+            } else if let Err(fault) = sources.check_names(self.alloc, cx.dl, item) {
+                let failure = failure_of(self.alloc, sources, &fault, place.own);
+                self.add_failure(cx, place.name, failure)?;
             }
         }
         Ok(())
-    }
-
-    /// Fails by the first fault of the names of an item that isn't reported on by itself.
-    fn check_names(
-        &self,
-        cx: ReportContext<'_>,
-        sources: &Sources,
-        item: usize,
-    ) -> Result<(), Failure> {
-        match sources.check_names(self.alloc, cx.dl, item) {
-            Ok(()) => Ok(()),
-            Err(fault) => {
-                let own = Spot::Nowhere.of(sources.place_of(item));
-                Err(failure_of(self.alloc, sources, &fault, own))
-            }
-        }
     }
 
     /// Reports on the types that are asked for.
