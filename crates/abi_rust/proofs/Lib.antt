@@ -1,6 +1,7 @@
 pub mod Aligned
 pub mod Bits
 pub mod Copies
+pub mod CopyLists
 pub mod Early
 pub mod Facts
 pub mod FormedLists
@@ -11,6 +12,7 @@ pub mod Lasts
 pub mod Lists
 pub mod Meant
 pub mod Measures
+pub mod NamesChecked
 pub mod NamesTold
 pub mod Numbers
 pub mod OwnLemmas

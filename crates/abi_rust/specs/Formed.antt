@@ -44,7 +44,7 @@ module _ (cx : Context) where
     is_formed (tuple ts) = sized_but_last ts && all_formed ts
     is_formed (array t count) = not (lacks_size t) && is_formed t
     is_formed (slice t) = not (lacks_size t) && is_formed t
-    is_formed (reference t) = is_formed t
+    is_formed (reference is_mutable t) = is_formed t
     is_formed (pointer t) = is_formed t
     is_formed (adt n gs) = sizes_given (parameters_of cx.items.now cx.scope.now (item_at cx.items.now cx.scope.now n)) gs && all_given_formed gs
     is_formed _ = true

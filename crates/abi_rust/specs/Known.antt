@@ -54,7 +54,7 @@ abbrev mutual
   same_ty (tuple ts) (tuple us) = same_tys ts us
   same_ty (array t n) (array u m) = nat_eq n m && same_ty t u
   same_ty (slice t) (slice u) = same_ty t u
-  same_ty (reference t) (reference u) = same_ty t u
+  same_ty (reference a t) (reference b u) = (if a then b else not b) && same_ty t u
   same_ty (pointer t) (pointer u) = same_ty t u
   same_ty (adt n gs) (adt m hs) = nat_eq n m && same_givens gs hs
   same_ty _ _ = false

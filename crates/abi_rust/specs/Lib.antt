@@ -1,4 +1,5 @@
 pub mod Aligned
+pub mod CopyTypes
 pub mod Evaluating
 pub mod FaultTexts
 pub mod Formed
@@ -30,3 +31,4 @@ pub mod Values
 pub mod Visible
 pub mod Ways
 pub mod Words
+pub mod WrittenNames

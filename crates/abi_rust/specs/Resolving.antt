@@ -23,7 +23,7 @@ use Rattle.abi_rust.specs.declared.fault.FaultKind.{FaultKind}
 use Rattle.abi_rust.specs.declared.fault.FaultKind.TheVariants.{Ambiguous, Binding, NotAType, Overflow, Private, Unevaluated, UnknownOrigin, UnknownType, WrongArguments, WrongKindOfArgument, WrongType}
 use Rattle.abi_rust.specs.declared.paths.Found.{Found}
 use Rattle.abi_rust.specs.declared.paths.Found.TheVariants.{Ambiguous as AmbiguousFound, Hidden, Module, Item as ItemFound, Primitive as PrimitiveFound, Unknown}
-use Rattle.abi_rust.specs.declared.paths.Space.TheVariants.{Types, Values}
+use Rattle.abi_rust.specs.declared.paths.Space.TheVariants.{Types}
 use Rattle.abi_rust.specs.declared.ty.Kind.{Kind}
 use Rattle.abi_rust.specs.declared.ty.Kind.TheVariants.{Integer as KindInteger}
 use Rattle.abi_rust.specs.declared.ty.Primitive.{Primitive}
@@ -32,7 +32,7 @@ use Rattle.abi_rust.specs.declared.budget.Context.{Context}
 use Rattle.abi_rust.specs.declared.words.Word.{Word}
 use Rattle.abi_rust.specs.declared.words.Word.TheVariants as word
 use Rattle.abi_rust.specs.Evaluating.{evaluator, path_value}
-use Rattle.abi_rust.specs.Kinds.{given_named, is_given, item_at, kind_written, outside, parameter_named, single_name}
+use Rattle.abi_rust.specs.Kinds.{given_named, is_given, item_at, kind_written, outside, single_name}
 use Rattle.abi_rust.specs.Meaning.{Meaning, then_meant, fault_at, too_deep}
 use Rattle.abi_rust.specs.Names.{found}
 use Rattle.abi_rust.specs.Operators.{is_same_kind}
@@ -41,6 +41,7 @@ use Rattle.abi_rust.specs.Scope.{module_in, type_standing}
 use Rattle.abi_rust.specs.Types.{GenericArgRead, TyRead, Where, adt, array, dyn, function, givens, never, no_types, of_type, of_value, pointer, primitive, reference, slice, tuple, types}
 use Rattle.abi_rust.specs.Values.{ValueRead, kind_read, number}
 use Rattle.abi_rust.specs.Words.{is_same_name, symbol_of}
+use Rattle.abi_rust.specs.WrittenNames.{first_name, is_type_inside, types_named, unknown_type}
 
 -- how deep types and constants may need one another: each of 200 types is looked at as a type and as an item, beside the first and the last
 unfoldable pub most_deep : ℕ
@@ -64,11 +65,6 @@ is_wanted (Some kind) v = is_same_kind kind (kind_read v)
 -- the inside of an item, under what its parameters are given
 abbrev pub inside_item : ℕ → Item → List GenericArgRead → Where
 inside_item n it given = record { inside = it.«module»; item = Some n; given = given }
-
--- the name of the first segment
-abbrev pub first_name : List Segment → Option Symbol
-first_name [] = None
-first_name (s ∷ ss) = Some (out-Segment s).name
 
 -- the name is `Self`
 abbrev pub is_self_name : Option Symbol → Bool
@@ -167,30 +163,22 @@ module _ (cx : Context) where
   self_by w p (Some item) = Ok (adt item (givens w.given))
   self_by w p None = fault_at (place_of_path p) (UnknownType SELF_TYPE)
 
-  -- the name is a parameter's, or `Self`
-  abbrev pub is_type_inside : Where → Symbol → Bool
-  is_type_inside w name = is_some (parameter_named cx.items.now cx.scope.now w.item name) || is_same_name name SELF_TYPE
-
   -- the first of several names is a parameter's, or `Self`
   abbrev pub is_behind_type : Where → Path → Option Symbol → Bool
   is_behind_type w p None = false
-  is_behind_type w p (Some name) = nat_lt 1 (length (out-Path p).segments.items) && is_type_inside w name
+  is_behind_type w p (Some name) = nat_lt 1 (length (out-Path p).segments.items) && is_type_inside cx w name
 
   -- the first of a path's names that is given arguments and takes none: one before the last, or alone a parameter or `Self`
   abbrev pub given_wrongly : Where → List Segment → Option Segment
   given_wrongly w [] = None
-  given_wrongly w (s ∷ []) = if is_given s && is_type_inside w (out-Segment s).name then Some s else None
+  given_wrongly w (s ∷ []) = if is_given s && is_type_inside cx w (out-Segment s).name then Some s else None
   given_wrongly w (s ∷ t ∷ ss) = given_early (s ∷ t ∷ ss)
-
-  abbrev pub unknown_type : Symbol → Option Found → FaultKind
-  unknown_type name (Some found) = NotAType name
-  unknown_type name None = UnknownType name
 
   -- what is wrong with a path that names no type
   unfoldable pub unknown : Where → Path → Symbol → FaultKind
   unknown w p name =
       if is_behind_type w p (first_name (out-Path p).segments.items) then Unevaluated Associated
-      else unknown_type name (found cx.items.now cx.scope.now w.inside p Values)
+      else unknown_type cx w p name
 
   module _ (R : Inner) where
     -- the types of a tuple, behind these
@@ -233,12 +221,12 @@ module _ (cx : Context) where
 
     abbrev pub type_of_layer : Where → Type-F Argument Expr Written Path Segment → Meaning TyRead
     type_of_layer w layer.Never = Ok never
-    type_of_layer w layer.Function = Ok function
+    type_of_layer w (layer.Function all) = then_meant (λ _. Ok function) (types_named cx w most_deep all.items)
     type_of_layer w layer.Dyn = Ok dyn
     type_of_layer w (layer.Tuple all) = tuple_from w [] all.items
     type_of_layer w (layer.Array t e) = then_meant (array_of w t.value) (length_of w e.value)
     type_of_layer w (layer.Slice t) = then_meant (λ e. Ok (slice e)) (R.type_of w t.value)
-    type_of_layer w (layer.Reference t) = then_meant (λ e. Ok (reference e)) (R.type_of w t.value)
+    type_of_layer w (layer.Reference is_mutable t) = then_meant (λ e. Ok (reference is_mutable e)) (R.type_of w t.value)
     type_of_layer w (layer.Pointer t) = then_meant (λ e. Ok (pointer e)) (R.type_of w t.value)
     type_of_layer w (layer.Type::Path p) = path_type w p
     type_of_layer w (layer.Type::Unevaluated what at) = fault_at at (Unevaluated what)

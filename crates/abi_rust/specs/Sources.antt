@@ -15,8 +15,10 @@ use Rattle.abi_rust.specs.declared.report.TypeReport.{TypeReport}
 use Rattle.abi_rust.specs.declared.budget.Context.{Context}
 use Rattle.abi_rust.specs.Meaning.{Means}
 use Rattle.abi_rust.specs.Measure.{Measure}
+use Rattle.abi_rust.specs.Resolving.{inside_item, most_deep}
 use Rattle.abi_rust.specs.Sizes.{IsReported}
 use Rattle.abi_rust.specs.TypeReport.{report_read, report_under}
+use Rattle.abi_rust.specs.WrittenNames.{Checked, item_named, type_named}
 use Rattle.rust_source.specs.Names.{text_of, texts}
 use Rattle.rust_source.specs.Sources.{MeansType}
 use Rattle.rust_source.specs.declared.fault.SourceFault.{SourceFault}
@@ -120,6 +122,23 @@ IsMeantBy s cx m subject (Err fault) = (stop : Stop) × (fault ≡ reported_faul
 abbrev pub Reports : Sources → TargetDataLayout → Measure → Subject → Result (Option TypeReport) FaultReported → Type 0
 Reports s dl m subject result =
     ((s.scope ≡ None) × (result ≡ Ok None)) ⊎ ((cx : Context) × IsContextOver s dl cx × IsMeantBy s cx m subject result)
+
+-- the names of an item of the file; those of the standard library's aren't checked
+abbrev pub names_checked : Sources → Context → ℕ → Option Item → Checked
+names_checked s cx item None = Ok tt
+names_checked s cx item (Some it) =
+    if nat_le s.first item then item_named cx (inside_item item it []) (type_named cx (inside_item item it []) most_deep false) it else Ok tt
+
+-- no fault, or one as it is reported
+abbrev pub reported_check : Sources → Checked → Result (Unit {0}) FaultReported
+reported_check s (Ok done) = Ok done
+reported_check s (Err stop) = Err (reported_fault s stop)
+
+-- no fault before a source was read, and then the first of the names of an item of the file, if one has one
+abbrev pub ChecksNames : Sources → TargetDataLayout → (item : ℕ) → Result (Unit {0}) FaultReported → Type 0
+ChecksNames s dl item result =
+    ((s.scope ≡ None) × (result ≡ Ok tt)) ⊎ ((cx : Context) × IsContextOver s dl cx ×
+    (result ≡ reported_check s (names_checked s cx item (slice_get (items_read s) item))))
 
 -- the subject is the type that is written in a module
 abbrev pub IsWrittenIn : (inside : ℕ) → Written → Subject → Type 0

@@ -13,6 +13,7 @@ use Rattle.rust_source.specs.declared.item.Variant.{Variant}
 use Rattle.rust_source.specs.declared.place.Place.{Place}
 use Rattle.rust_source.specs.declared.syntax.Expr.{Expr}
 use Rattle.abi_rust.specs.Aligned.{discriminants_checked, packed_checked}
+use Rattle.abi_rust.specs.CopyTypes.{union_fields_checked}
 use Rattle.abi_rust.specs.Evaluating.{discriminant_kind, made_at}
 use Rattle.abi_rust.specs.Formed.{formed_checked}
 use Rattle.abi_rust.specs.Kinds.{item_at, outside}
@@ -132,8 +133,8 @@ module _ (cx : Context) where
       -- the tree of a union
       unfoldable pub union_tree : Outer → Where → Item → List Field → Meaning Tree
       union_tree outer w it fs =
-          then_meant (λ repr. then_meant (λ _. then_meant (λ ts. Ok (union repr (trees ts))) (field_trees outer w fs))
-          (packed_checked cx most_deep it fs)) (repr_of it)
+          then_meant (λ repr. then_meant (λ _. then_meant (λ ts. then_meant (λ _. Ok (union repr (trees ts))) (union_fields_checked cx w fs))
+          (field_trees outer w fs)) (packed_checked cx most_deep it fs)) (repr_of it)
 
       -- a variant: its discriminant, and the trees of its fields
       unfoldable pub variant_tree : Outer → Where → Item → (last : Option ℤ) → Variant → Meaning (ℤ × List Tree)
@@ -183,7 +184,7 @@ module _ (cx : Context) where
       type_tree outer (tuple ts) = tuple_tree outer (list_of_types ts)
       type_tree outer (array t count) = then_meant (λ e. Ok (array_tree count e)) (T.of_type outer t)
       type_tree outer (slice t) = no_size
-      type_tree outer (reference t) = pointer_to t false
+      type_tree outer (reference is_mutable t) = pointer_to t false
       type_tree outer (pointer t) = pointer_to t true
       type_tree outer (adt n gs) = T.of_item outer n gs
 

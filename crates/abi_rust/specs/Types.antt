@@ -1,5 +1,5 @@
 -- Types whose names are resolved, as the definitions see them.
-use Rattle.std.specs.Prelude.{ℕ, List, [], ◌∷◌, map, Option}
+use Rattle.std.specs.Prelude.{ℕ, Bool, List, [], ◌∷◌, map, Option}
 use Rattle.abi_rust.specs.declared.ty.GenericArg.{GenericArg}
 use Rattle.abi_rust.specs.declared.ty.GenericArg.TheFolds.{fold-GenericArg, fold-Ty}
 use Rattle.abi_rust.specs.declared.ty.GenericArg.TheOpen.{GenericArg-F, Ty-F}
@@ -19,7 +19,7 @@ mutual
     tuple : TysRead → TyRead
     array : TyRead → (count : ℕ) → TyRead
     slice : TyRead → TyRead
-    reference : TyRead → TyRead
+    reference : (is_mutable : Bool) → TyRead → TyRead
     pointer : TyRead → TyRead
     -- the struct, enum or union of this number, and what its parameters are given
     adt : (item : ℕ) → GenericArgsRead → TyRead
@@ -73,7 +73,7 @@ layer_ty layer.Dyn = dyn
 layer_ty (layer.Tuple all) = tuple (types all.items)
 layer_ty (layer.Array t count) = array t.value count
 layer_ty (layer.Slice t) = slice t.value
-layer_ty (layer.Reference t) = reference t.value
+layer_ty (layer.Reference is_mutable t) = reference is_mutable t.value
 layer_ty (layer.Pointer t) = pointer t.value
 layer_ty (layer.Adt item all) = adt item (givens all.items)
 

@@ -178,9 +178,9 @@ pub(crate) fn copy_of(alloc: Global, budget: &mut Budget<'_>, ty: &Ty) -> Result
             let element = copy_of(alloc, budget, element)?;
             Ok(Ty::Slice(Box::new(alloc, element)?))
         }
-        Ty::Reference(pointee) => {
+        Ty::Reference(is_mutable, pointee) => {
             let pointee = copy_of(alloc, budget, pointee)?;
-            Ok(Ty::Reference(Box::new(alloc, pointee)?))
+            Ok(Ty::Reference(*is_mutable, Box::new(alloc, pointee)?))
         }
         Ty::Pointer(pointee) => {
             let pointee = copy_of(alloc, budget, pointee)?;

@@ -96,6 +96,8 @@ pub enum FaultKind {
     Simd,
     /// A union without fields.
     EmptyUnion,
+    /// A union's field is of a type that isn't `Copy`, and no reference and no `ManuallyDrop`.
+    UnionField,
     /// The type whose size is asked for has no layout.
     Layout(LayError),
 }

@@ -120,6 +120,8 @@ fn plain_text(kind: FaultKind) -> &'static str {
             "discriminants beside variants with fields want an integer as the repr",
         FaultKind::Simd => "`simd` isn't read here",
         FaultKind::EmptyUnion => "a union has no fields",
+        FaultKind::UnionField =>
+            "a union's field has to be `Copy`, a reference or a `ManuallyDrop`",
         _ => "",
     }
 }

@@ -53,7 +53,7 @@ fn is_formed<'a>(cx: &Context<'a, '_>, budget: &mut Budget<'a>, ty: &Ty) -> Resu
             }
             is_formed(cx, budget, element)
         }
-        Ty::Reference(pointee) => is_formed(cx, budget, pointee),
+        Ty::Reference(_, pointee) => is_formed(cx, budget, pointee),
         Ty::Pointer(pointee) => is_formed(cx, budget, pointee),
         Ty::Adt(number, given) => {
             if !item_gives_sizes(cx, budget, *number, given)? {

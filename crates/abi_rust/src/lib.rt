@@ -25,12 +25,14 @@ mod words;
 
 // Types whose names are resolved.
 mod budget;
+mod copy_types;
 mod formed;
 mod kind;
 mod owned;
 mod resolve;
 mod tail;
 mod ty;
+mod written_names;
 
 // Constants.
 mod constants;

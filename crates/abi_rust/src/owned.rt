@@ -67,7 +67,7 @@ fn form_given(
 }
 
 /// Whether an item is the one of this number.
-fn is_item(item: Option<u32>, number: u32) -> bool
+pub(crate) fn is_item(item: Option<u32>, number: u32) -> bool
     ensures { result ≡ is_item item number }
 {
     match item {
@@ -106,7 +106,7 @@ fn form_of_item(cx: &Context<'_, '_>, item: u32) -> Option<u32>
 
 /// The type of this name in a module of the standard library.
 #[tactic(auto, unfolding(crate::specs::Resolving::item_in))]
-fn item_in(cx: &Context<'_, '_>, module: Word, name: Word) -> Option<u32>
+pub(crate) fn item_in(cx: &Context<'_, '_>, module: Word, name: Word) -> Option<u32>
     ensures { result ≡ item_in cx.now «module» name }
 {
     let words = cx.scope.words;

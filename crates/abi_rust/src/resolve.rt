@@ -7,22 +7,24 @@ ghost use Rattle.rust_source.specs.declared.syntax.Path.{out-Path};
 ghost use Rattle.rust_source.specs.declared.syntax.Segment.{out-Segment};
 ghost use Rattle.rust_source.specs.declared.syntax.«Type».{out-Type};
 ghost use Rattle.abi_rust.specs.Meaning.{Means};
-ghost use Rattle.abi_rust.specs.Resolving.{argument_given, default_given, first_name, give, given_constant, given_early, given_type, given_wrongly, inner, is_behind_type, is_other, is_self, is_type_inside, is_wanted, item_under, item_with, length_by, length_of, may_be_constant, type_named_by, named_type, one_given, path_type, primitive_given, resolver, self_by, tuple_from, type_as_constant, type_given, type_of_layer, type_with, unknown};
+ghost use Rattle.abi_rust.specs.Resolving.{argument_given, default_given, give, given_constant, given_early, given_type, given_wrongly, inner, is_behind_type, is_other, is_self, is_wanted, item_under, item_with, length_by, length_of, may_be_constant, type_named_by, named_type, one_given, path_type, primitive_given, resolver, self_by, tuple_from, type_as_constant, type_given, type_of_layer, type_with, unknown};
 ghost use Rattle.abi_rust.specs.Resolving.{most_deep};
 ghost use Rattle.abi_rust.specs.Types.{all_given, given_of, ty_of, where_of};
 ghost use Rattle.abi_rust.specs.Values.{value_as_read};
+ghost use Rattle.abi_rust.specs.WrittenNames.{first_name};
 
 use crate::budget::{
     Budget, Context, Env, copies_of, copy_of, less, most_deep, push_given, push_ty,
 };
 use crate::evaluate::{evaluate, evaluate_path};
 use crate::fault::{FaultKind, Stop, stop_at};
-use crate::kind::{given_named, is_given, kind_written, outside, parameter_named, single_name};
+use crate::kind::{given_named, is_given, kind_written, outside, single_name};
 use crate::operators::same_kind;
 use crate::owned::owned_of;
 use crate::paths::{Found, Space, find, item_at};
 use crate::places::{place_of, place_of_path};
 use crate::ty::{GenericArg, Kind, Primitive, Ty, Value};
+use crate::written_names::{check_names, is_type_inside, unknown_type};
 use rust_source::{
     Argument, Expr, IntegerKind, Item, ItemKind, Parameter, ParameterKind, Path, Place, Segment,
     Symbol, Type, Unevaluated,
@@ -59,7 +61,10 @@ fn resolve_with<'a>(
 {
     match ty {
         Type::Never => Ok(Ty::Never),
-        Type::Function => Ok(Ty::Function),
+        Type::Function(types) => {
+            check_names(cx, env, types)?;
+            Ok(Ty::Function)
+        }
         Type::Dyn => Ok(Ty::Dyn),
         Type::Tuple(parts) => resolve_tuple(cx, budget, env, parts, depth_left),
         Type::Array(element, count) => {
@@ -71,9 +76,9 @@ fn resolve_with<'a>(
             let element = resolve(cx, budget, env, element, depth_left)?;
             Ok(Ty::Slice(Box::new(cx.alloc, element)?))
         }
-        Type::Reference(pointee) => {
+        Type::Reference(is_mutable, pointee) => {
             let pointee = resolve(cx, budget, env, pointee, depth_left)?;
-            Ok(Ty::Reference(Box::new(cx.alloc, pointee)?))
+            Ok(Ty::Reference(*is_mutable, Box::new(cx.alloc, pointee)?))
         }
         Type::Pointer(pointee) => {
             let pointee = resolve(cx, budget, env, pointee, depth_left)?;
@@ -242,13 +247,6 @@ fn given_wrongly<'p>(cx: &Context<'_, '_>, env: Env<'_>, path: &'p Path) -> Opti
     None
 }
 
-/// Whether a name is a parameter's, or `Self`.
-fn is_type_inside(cx: &Context<'_, '_>, env: Env<'_>, name: Symbol) -> bool
-    ensures { result ≡ is_type_inside cx.now (where_of env.entry) name }
-{
-    parameter_named(cx, env.item, name).is_some() || name == Symbol::SELF_TYPE
-}
-
 /// The type that the item is, of whose definition `Self` is a part.
 fn self_type(
     cx: &Context<'_, '_>,
@@ -286,10 +284,7 @@ fn unknown(cx: &Context<'_, '_>, env: Env<'_>, path: &Path, name: Symbol) -> Fau
     if is_behind_type(cx, env, path) {
         return FaultKind::Unevaluated(Unevaluated::Associated);
     }
-    match find(cx.items, cx.scope, env.module, path, Space::Values) {
-        Some(_) => FaultKind::NotAType(name),
-        None => FaultKind::UnknownType(name),
-    }
+    unknown_type(cx, env, path, name)
 }
 
 /// The type that an item is under what the last name of a path gives it.

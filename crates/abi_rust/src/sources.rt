@@ -4,7 +4,7 @@ ghost use Rattle.std.specs.Prelude.{◌≡◌, ◌-◌, ◌<◌, ◌^◌, ◌++�
 ghost use Rattle.rust_source.specs.Growth.{BeginsWith};
 ghost use Rattle.abi_rust.specs.Measure.{IsMeasure, Measure};
 ghost use Rattle.abi_rust.specs.Reading.{AllRead, IsSourceOf, IsUnread, ReadsText, Stops, StopsReading, file_kind, having, is_library, library_text, place_behind, root_name};
-ghost use Rattle.abi_rust.specs.Sources.{IsContextOver, Reports, ReportsWritten, reported_fault, is_reported, items_read, module_path, qualified_name, place_of_attribute, place_of_item, reported_place, pointer_bits};
+ghost use Rattle.abi_rust.specs.Sources.{ChecksNames, IsContextOver, Reports, ReportsWritten, names_checked, reported_fault, is_reported, items_read, module_path, qualified_name, place_of_attribute, place_of_item, reported_place, pointer_bits};
 
 use crate::budget::Context;
 use crate::fault::{Fault, FaultKind, FaultPlace, Stop, stop_at};
@@ -12,6 +12,7 @@ use crate::report::{Subject, TypeReport, report_on};
 use crate::scope::Scope;
 use crate::std_source::STD_SOURCES;
 use crate::words::Words;
+use crate::written_names::check_item;
 use abi_base::TargetDataLayout;
 use rust_source::{
     CfgTarget, ItemKind, Items, Names, ParameterKind, Place, Source, Symbol, read_items, read_type,
@@ -289,6 +290,41 @@ impl Sources {
             return Ok(None);
         };
         self.report(alloc, dl, Subject::Item(number))
+    }
+
+    /// The first fault of the names that stand in an item of the file and have to be types', whatever its parameters are
+    /// given: those of its fields, of what it names another name of, and of its parameters' defaults. A name that leads
+    /// to what isn't read is none. Other items have no such fault, and before a source was read none has one.
+    pub fn check_names(
+        &self,
+        alloc: Global,
+        dl: &TargetDataLayout,
+        item: usize,
+    ) -> Result<(), Fault>
+        ensures { item < 2 ^ 32 → ChecksNames self.now dl.now item result }
+    {
+        let Some(scope) = &self.scope else {
+            return Ok(());
+        };
+        let cx = self.context_over(alloc, dl, scope);
+        match self.check_names_under(&cx, item) {
+            Ok(()) => Ok(()),
+            Err(stop) => Err(self.fault(stop)),
+        }
+    }
+
+    /// The first fault of the names of an item of the file.
+    fn check_names_under(&self, cx: &Context<'_, '_>, item: usize) -> Result<(), Stop>
+        ensures { item < 2 ^ 32 → result
+            ≡ names_checked self.now cx.now item (slice_get (items_read self.now) item) }
+    {
+        let Ok(number) = u32::try_from(item) else {
+            return Ok(());
+        };
+        match self.items.items.get(item) {
+            Some(found) if item >= self.first => check_item(cx, number, found),
+            _ => Ok(()),
+        }
     }
 
     /// The type that a text writes, with the names of the file's root. None where its size isn't known, and before a

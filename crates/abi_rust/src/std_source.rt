@@ -18,20 +18,28 @@ pub(crate) const STD_SOURCES: &str = r#"pub mod prelude {
     pub mod rust_2024 { pub use crate::prelude::*; }
 }
 pub mod option {
+    #[derive(Clone, Copy)]
     pub enum Option<T> { None, Some(T) }
 }
 pub mod result {
+    #[derive(Clone, Copy)]
     pub enum Result<T, E> { Ok(T), Err(E) }
 }
 pub mod marker {
+    #[derive(Clone, Copy)]
     pub struct PhantomData<T: ?Sized>;
+    #[derive(Clone, Copy)]
     pub struct PhantomPinned;
 }
 pub mod alloc {
+    #[derive(Clone, Copy)]
     pub struct Global;
+    #[derive(Clone, Copy)]
     pub struct System;
+    #[derive(Clone, Copy)]
     pub struct AllocError;
     pub struct LayoutError;
+    #[derive(Clone, Copy)]
     pub struct Layout { size: usize, align: crate::ptr::Alignment }
     pub use crate::{borrow, boxed, collections, ffi, fmt, rc, slice, str, string, sync, task, vec};
     pub mod alloc { pub use crate::alloc::{Global, Layout, LayoutError}; }
@@ -39,23 +47,30 @@ pub mod alloc {
 pub mod ptr {
     use crate::marker::PhantomData;
     #[rustc_layout_scalar_valid_range(1, 0xffff_ffff_ffff_ffff)]
+    #[derive(Clone, Copy)]
     pub struct NonNull<T: ?Sized> { pointer: *const T }
+    #[derive(Clone, Copy)]
     pub struct Unique<T: ?Sized> { pointer: NonNull<T>, _marker: PhantomData<T> }
     #[cfg(target_pointer_width = "64")]
     #[rustc_layout_scalar_valid_range(1, 0x8000_0000_0000_0000)]
+    #[derive(Clone, Copy)]
     pub struct Alignment(usize);
     #[cfg(target_pointer_width = "32")]
     #[rustc_layout_scalar_valid_range(1, 0x8000_0000)]
+    #[derive(Clone, Copy)]
     pub struct Alignment(usize);
     #[cfg(target_pointer_width = "16")]
     #[rustc_layout_scalar_valid_range(1, 0x8000)]
+    #[derive(Clone, Copy)]
     pub struct Alignment(usize);
 }
 pub mod mem {
     pub const size_of: usize = 0;
     pub const align_of: usize = 0;
     #[repr(transparent)]
+    #[derive(Clone, Copy)]
     pub struct ManuallyDrop<T: ?Sized> { value: T }
+    #[derive(Clone, Copy)]
     pub union MaybeUninit<T> { uninit: (), value: ManuallyDrop<T> }
 }
 pub mod cell {
@@ -77,6 +92,7 @@ pub mod cell {
 }
 pub mod num {
     #[rustc_layout_scalar_valid_range(1, 0xffff_ffff_ffff_ffff_ffff_ffff_ffff_ffff)]
+    #[derive(Clone, Copy)]
     pub struct NonZero<T>(T);
     pub type NonZeroU8 = NonZero<u8>;
     pub type NonZeroU16 = NonZero<u16>;
@@ -91,25 +107,34 @@ pub mod num {
     pub type NonZeroI128 = NonZero<i128>;
     pub type NonZeroIsize = NonZero<isize>;
     #[repr(transparent)]
+    #[derive(Clone, Copy)]
     pub struct Wrapping<T>(pub T);
     #[repr(transparent)]
+    #[derive(Clone, Copy)]
     pub struct Saturating<T>(pub T);
     #[cfg(target_pointer_width = "64")]
     #[rustc_layout_scalar_valid_range(0, 0x7fff_ffff_ffff_ffff)]
+    #[derive(Clone, Copy)]
     pub(crate) struct UsizeNoHighBit(usize);
     #[cfg(target_pointer_width = "32")]
     #[rustc_layout_scalar_valid_range(0, 0x7fff_ffff)]
+    #[derive(Clone, Copy)]
     pub(crate) struct UsizeNoHighBit(usize);
     #[cfg(target_pointer_width = "16")]
     #[rustc_layout_scalar_valid_range(0, 0x7fff)]
+    #[derive(Clone, Copy)]
     pub(crate) struct UsizeNoHighBit(usize);
     #[rustc_layout_scalar_valid_range(0, 999_999_999)]
+    #[derive(Clone, Copy)]
     pub(crate) struct Nanoseconds(u32);
+    #[derive(Clone, Copy)]
     pub enum IntErrorKind { Empty, InvalidDigit, PosOverflow, NegOverflow, Zero }
     pub struct ParseIntError { kind: IntErrorKind }
     enum FloatErrorKind { Empty, Invalid }
     pub struct ParseFloatError { kind: FloatErrorKind }
+    #[derive(Clone, Copy)]
     pub struct TryFromIntError(());
+    #[derive(Clone, Copy)]
     pub enum FpCategory { Nan, Infinite, Zero, Subnormal, Normal }
 }
 pub mod boxed {
@@ -144,6 +169,7 @@ pub mod string {
     pub type ParseError = crate::convert::Infallible;
 }
 pub mod str {
+    #[derive(Clone, Copy)]
     pub struct Utf8Error { valid_up_to: usize, error_len: Option<u8> }
     pub struct ParseBoolError;
     pub struct Chars<'a> { iter: crate::slice::Iter<'a, u8> }
@@ -155,13 +181,18 @@ pub mod borrow {
     pub enum Cow<'a, B: ?Sized> { Borrowed(&'a B), Owned(Owned<B>) }
 }
 pub mod ops {
+    #[derive(Clone, Copy)]
     pub struct RangeFull;
     pub struct Range<Idx> { pub start: Idx, pub end: Idx }
     pub struct RangeFrom<Idx> { pub start: Idx }
+    #[derive(Clone, Copy)]
     pub struct RangeTo<Idx> { pub end: Idx }
     pub struct RangeInclusive<Idx> { start: Idx, end: Idx, exhausted: bool }
+    #[derive(Clone, Copy)]
     pub struct RangeToInclusive<Idx> { pub end: Idx }
+    #[derive(Clone, Copy)]
     pub enum Bound<T> { Included(T), Excluded(T), Unbounded }
+    #[derive(Clone, Copy)]
     pub enum ControlFlow<B, C = ()> { Continue(C), Break(B) }
 }
 pub mod collections {
@@ -269,6 +300,7 @@ pub mod sync {
     }
     pub mod atomic {
         use crate::cell::UnsafeCell;
+        #[derive(Clone, Copy)]
         pub enum Ordering { Relaxed, Release, Acquire, AcqRel, SeqCst }
         #[cfg(any(target_has_atomic = "8", target_arch = "arm", target_arch = "avr"))]
         #[repr(C, align(1))]
@@ -318,15 +350,21 @@ pub mod sync {
         pub struct Sender<T> { inner: Flavor<T> }
         pub struct SyncSender<T> { inner: Flavor<T> }
         pub struct Receiver<T> { inner: Flavor<T> }
+        #[derive(Clone, Copy)]
         pub struct SendError<T>(pub T);
+        #[derive(Clone, Copy)]
         pub struct RecvError;
+        #[derive(Clone, Copy)]
         pub enum TryRecvError { Empty, Disconnected }
+        #[derive(Clone, Copy)]
         pub enum RecvTimeoutError { Timeout, Disconnected }
+        #[derive(Clone, Copy)]
         pub enum TrySendError<T> { Full(T), Disconnected(T) }
     }
 }
 #[cfg(any(unix, windows, target_family = "wasm"))]
 pub mod thread {
+    #[derive(Clone, Copy)]
     pub struct ThreadId(crate::num::NonZero<u64>);
     pub struct Thread { inner: crate::pin::Pin<crate::sync::Arc<u8>> }
     #[cfg(unix)]
@@ -336,46 +374,62 @@ pub mod thread {
     #[cfg(target_family = "wasm")]
     struct Native(crate::convert::Infallible);
     pub struct JoinHandle<T> { native: Native, thread: Thread, packet: crate::sync::Arc<T> }
+    #[derive(Clone, Copy)]
     pub struct AccessError;
 }
 pub mod pin {
     #[repr(transparent)]
+    #[derive(Clone, Copy)]
     pub struct Pin<Ptr> { pointer: Ptr }
 }
 pub mod cmp {
     #[repr(i8)]
+    #[derive(Clone, Copy)]
     pub enum Ordering { Less = -1, Equal = 0, Greater = 1 }
     #[repr(transparent)]
+    #[derive(Clone, Copy)]
     pub struct Reverse<T>(pub T);
 }
 pub mod convert {
+    #[derive(Clone, Copy)]
     pub enum Infallible {}
 }
 pub mod time {
     use crate::num::Nanoseconds;
+    #[derive(Clone, Copy)]
     pub struct Duration { secs: u64, nanos: Nanoseconds }
+    #[derive(Clone, Copy)]
     struct Timespec { tv_sec: i64, tv_nsec: Nanoseconds }
     #[cfg(unix)]
+    #[derive(Clone, Copy)]
     pub struct Instant(Timespec);
     #[cfg(any(windows, target_family = "wasm"))]
+    #[derive(Clone, Copy)]
     pub struct Instant(Duration);
     #[cfg(unix)]
+    #[derive(Clone, Copy)]
     pub struct SystemTime(Timespec);
     #[cfg(windows)]
+    #[derive(Clone, Copy)]
     struct FileTime { low: u32, high: u32 }
     #[cfg(windows)]
+    #[derive(Clone, Copy)]
     pub struct SystemTime(FileTime);
     #[cfg(target_family = "wasm")]
+    #[derive(Clone, Copy)]
     pub struct SystemTime(Duration);
     pub struct SystemTimeError(Duration);
 }
 pub mod task {
+    #[derive(Clone, Copy)]
     pub enum Poll<T> { Ready(T), Pending }
+    #[derive(Clone, Copy)]
     pub struct RawWakerVTable { clone: fn(), wake: fn(), wake_by_ref: fn(), drop: fn() }
     pub struct RawWaker { data: *const (), vtable: &'static RawWakerVTable }
     pub struct Waker { waker: RawWaker }
 }
 pub mod any {
+    #[derive(Clone, Copy)]
     pub struct TypeId { data: [*const (); 16 / crate::mem::size_of::<*const ()>()] }
 }
 pub mod iter {
@@ -393,8 +447,10 @@ pub mod panic {
     pub struct AssertUnwindSafe<T>(pub T);
 }
 pub mod fmt {
+    #[derive(Clone, Copy)]
     pub struct Error;
     pub type Result = crate::result::Result<(), Error>;
+    #[derive(Clone, Copy)]
     pub enum Alignment { Left, Right, Center }
 }
 pub mod error {}
@@ -402,6 +458,7 @@ pub mod env {
     pub enum VarError { NotPresent, NotUnicode(crate::ffi::OsString) }
 }
 pub mod io {
+    #[derive(Clone, Copy)]
     pub enum ErrorKind {
         NotFound, PermissionDenied, ConnectionRefused, ConnectionReset, HostUnreachable, NetworkUnreachable, ConnectionAborted,
         NotConnected, AddrInUse, AddrNotAvailable, NetworkDown, BrokenPipe, AlreadyExists, WouldBlock, NotADirectory,
@@ -416,8 +473,11 @@ pub mod io {
     enum Repr { Os(i32), Simple(ErrorKind), SimpleMessage(&'static u8), Custom(Box<u8>) }
     pub struct Error { repr: Repr }
     pub type Result<T> = crate::result::Result<T, Error>;
+    #[derive(Clone, Copy)]
     pub enum SeekFrom { Start(u64), End(i64), Current(i64) }
+    #[derive(Clone, Copy)]
     pub struct Empty;
+    #[derive(Clone, Copy)]
     pub struct Sink;
     pub struct Cursor<T> { inner: T, pos: u64 }
     pub mod prelude {}
@@ -431,6 +491,7 @@ pub mod os {
         #[rustc_layout_scalar_valid_range(0, 0xffff_fffe)]
         pub struct OwnedFd(i32);
         #[rustc_layout_scalar_valid_range(0, 0xffff_fffe)]
+        #[derive(Clone, Copy)]
         pub struct BorrowedFd<'a>(i32);
     }
     pub mod unix { pub mod io { pub use crate::os::fd::*; } pub mod prelude { pub use crate::os::fd::*; } }
@@ -453,15 +514,19 @@ pub mod os {
             pub type RawSocket = raw::SOCKET;
             #[cfg(target_pointer_width = "64")]
             #[rustc_layout_scalar_valid_range(0, 0xffff_ffff_ffff_fffe)]
+            #[derive(Clone, Copy)]
             struct ValidRawSocket(RawSocket);
             #[cfg(target_pointer_width = "32")]
             #[rustc_layout_scalar_valid_range(0, 0xffff_fffe)]
+            #[derive(Clone, Copy)]
             struct ValidRawSocket(RawSocket);
             pub struct OwnedHandle { handle: RawHandle }
+            #[derive(Clone, Copy)]
             pub struct BorrowedHandle<'handle> { handle: RawHandle, _phantom: crate::marker::PhantomData<&'handle OwnedHandle> }
             pub struct HandleOrNull(RawHandle);
             pub struct HandleOrInvalid(RawHandle);
             pub struct OwnedSocket { socket: ValidRawSocket }
+            #[derive(Clone, Copy)]
             pub struct BorrowedSocket<'socket> { socket: ValidRawSocket, _phantom: crate::marker::PhantomData<&'socket OwnedSocket> }
         }
     }
@@ -486,12 +551,19 @@ pub mod fs {
     pub struct Permissions(crate::convert::Infallible);
 }
 pub mod net {
+    #[derive(Clone, Copy)]
     pub struct Ipv4Addr { octets: [u8; 4] }
+    #[derive(Clone, Copy)]
     pub struct Ipv6Addr { octets: [u8; 16] }
+    #[derive(Clone, Copy)]
     pub enum IpAddr { V4(Ipv4Addr), V6(Ipv6Addr) }
+    #[derive(Clone, Copy)]
     pub struct SocketAddrV4 { ip: Ipv4Addr, port: u16 }
+    #[derive(Clone, Copy)]
     pub struct SocketAddrV6 { ip: Ipv6Addr, port: u16, flowinfo: u32, scope_id: u32 }
+    #[derive(Clone, Copy)]
     pub enum SocketAddr { V4(SocketAddrV4), V6(SocketAddrV6) }
+    #[derive(Clone, Copy)]
     pub enum Shutdown { Read, Write, Both }
     pub struct AddrParseError(AddrKind);
     enum AddrKind { Ip, Ipv4, Ipv6, Socket, SocketV4, SocketV6 }
@@ -512,6 +584,7 @@ pub mod char {
     pub const MAX: char = '\u{10ffff}';
     pub struct ParseCharError { kind: CharErrorKind }
     enum CharErrorKind { EmptyString, TooManyChars }
+    #[derive(Clone, Copy)]
     pub struct CharTryFromError(());
 }
 pub mod ffi {

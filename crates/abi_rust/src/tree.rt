@@ -14,6 +14,7 @@ ghost use Rattle.abi_rust.specs.Values.{value_as_read};
 
 use crate::above::{Above, stands_in, within};
 use crate::budget::{Budget, Context, Env, less, most_deep};
+use crate::copy_types::check_union_fields;
 use crate::discriminants::discriminant_kind;
 use crate::evaluate::evaluate;
 use crate::fault::{FaultKind, Stop, stop_at};
@@ -72,7 +73,7 @@ fn tree_with<'a>(
         },
         Ty::Dyn => Err(Stop::Fault(None, FaultKind::Unsized)),
         Ty::Slice(_) => Err(Stop::Fault(None, FaultKind::Unsized)),
-        Ty::Reference(pointee) => Ok(pointer(cx.dl, pointee_tail(cx, budget, pointee)?, false)),
+        Ty::Reference(_, pointee) => Ok(pointer(cx.dl, pointee_tail(cx, budget, pointee)?, false)),
         Ty::Pointer(pointee) => Ok(pointer(cx.dl, pointee_tail(cx, budget, pointee)?, true)),
         Ty::Array(element, count) => {
             let element = tree(cx, budget, above, element, depth_left)?;
@@ -419,8 +420,12 @@ fn tree_of_union<'a>(
 {
     let repr = repr_of(item)?;
     check_packed(cx, budget, item, fields, most_deep())?;
-    let fields = trees_of(cx, budget, above, inside, fields.all.as_slice(), depth_left)?;
-    Ok(TypeTree::Union { repr, fields })
+    let trees = trees_of(cx, budget, above, inside, fields.all.as_slice(), depth_left)?;
+    check_union_fields(cx, budget, inside, fields.all.as_slice())?;
+    Ok(TypeTree::Union {
+        repr,
+        fields: trees,
+    })
 }
 
 /// The tree of an enum.

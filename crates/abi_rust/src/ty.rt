@@ -33,8 +33,8 @@ pub(crate) enum Ty {
     Tuple(Vec<Ty>),
     Array(Box<Ty>, u64),
     Slice(Box<Ty>),
-    /// `&T`
-    Reference(Box<Ty>),
+    /// `&T`, or `&mut T` where it says so
+    Reference(bool, Box<Ty>),
     /// `*const T`
     Pointer(Box<Ty>),
     /// The struct, enum or union of this number, and what its parameters are given.
@@ -136,7 +136,9 @@ fn same_ty(a: &Ty, b: &Ty) -> bool
         (Ty::Tuple(a), Ty::Tuple(b)) => same_tys(a, b),
         (Ty::Array(a, n), Ty::Array(b, m)) => *n == *m && same_ty(a, b),
         (Ty::Slice(a), Ty::Slice(b)) => same_ty(a, b),
-        (Ty::Reference(a), Ty::Reference(b)) => same_ty(a, b),
+        (Ty::Reference(a_mut, a), Ty::Reference(b_mut, b)) => {
+            (if *a_mut { *b_mut } else { !*b_mut }) && same_ty(a, b)
+        }
         (Ty::Pointer(a), Ty::Pointer(b)) => same_ty(a, b),
         (Ty::Adt(n, a), Ty::Adt(m, b)) => *n == *m && same_givens(a, b),
         _ => false,

@@ -10,11 +10,51 @@ use rust_source::{IntegerKind, Names, Symbol};
 use std::alloc::AllocError;
 
 /// The names of primitive types, and then others, in the order of their numbers.
-static WORDS: [&str; 43] = [
-    "bool", "char", "str", "i8", "i16", "i32", "i64", "i128", "isize", "u8", "u16", "u32", "u64",
-    "u128", "usize", "f16", "f32", "f64", "f128", "std", "core", "alloc", "MAX", "MIN", "BITS",
-    "mem", "size_of", "align_of", "prelude", "borrow", "Owned", "string", "String", "vec", "Vec",
-    "ffi", "CStr", "CString", "OsStr", "OsString", "path", "Path", "PathBuf",
+static WORDS: [&str; 44] = [
+    "bool",
+    "char",
+    "str",
+    "i8",
+    "i16",
+    "i32",
+    "i64",
+    "i128",
+    "isize",
+    "u8",
+    "u16",
+    "u32",
+    "u64",
+    "u128",
+    "usize",
+    "f16",
+    "f32",
+    "f64",
+    "f128",
+    "std",
+    "core",
+    "alloc",
+    "MAX",
+    "MIN",
+    "BITS",
+    "mem",
+    "size_of",
+    "align_of",
+    "prelude",
+    "borrow",
+    "Owned",
+    "string",
+    "String",
+    "vec",
+    "Vec",
+    "ffi",
+    "CStr",
+    "CString",
+    "OsStr",
+    "OsString",
+    "path",
+    "Path",
+    "PathBuf",
+    "ManuallyDrop",
 ];
 
 /// The names that have a meaning of their own, by how far they stand behind the first of them.
@@ -50,6 +90,7 @@ pub(crate) enum Word {
     PathModule = 40,
     Path = 41,
     PathBuf = 42,
+    ManuallyDrop = 43,
 }
 
 impl Words {

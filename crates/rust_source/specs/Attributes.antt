@@ -13,7 +13,7 @@ use Rattle.rust_source.specs.declared.reader.literals.Number.TheVariants as numb
 use Rattle.rust_source.specs.declared.tokens.token.Bracket.TheVariants as bracket
 use Rattle.rust_source.specs.Cfg.{Noted, predicate_read}
 use Rattle.rust_source.specs.Cursor.{behind_group, comma_passed, expected, fault, inside, is_done, is_next, passed, place}
-use Rattle.rust_source.specs.KnownAttributes.{is_among, known_names, names_other_trait}
+use Rattle.rust_source.specs.KnownAttributes.{is_among, known_names, names_copy, names_other_trait}
 use Rattle.rust_source.specs.Reading.{read_on, read_as, then_read, word_text}
 use Rattle.rust_source.specs.Repr.{asks, misplaced, next_number, with_repr}
 use Rattle.rust_source.specs.Simple.{most_nested}
@@ -52,6 +52,7 @@ none_said = record {
   };
   valid_range = None;
   fault = None;
+  derives_copy = false;
   has_helpers = false;
   unknown = None;
 }
@@ -66,7 +67,7 @@ cfg_said rules said i known =
     read_on (λ (b : Bool × Cursor) ns. (then_read (λ d. cfg_alone (record said { holds = b.0 }) d) (comma_passed b.1), ns))
     (predicate_read rules.target most_nested i known)
 
--- with a fault that is told where the item is there, of several the first
+-- with a fault that is reported where the item is there, of several the first
 abbrev pub faulty_by : Attributes → SourceFault → (before : Option SourceFault) → Attributes
 faulty_by said e None = record said { fault = Some e }
 faulty_by said e (Some before) = said
@@ -91,7 +92,9 @@ simple_said rules said name i =
     if bytes_eq name (codes "repr") then Ok (repr_said said (with_repr said.repr i))
     else (if bytes_eq name (codes "rustc_layout_scalar_valid_range") && rules.is_trusted
     then read_as (λ r. record said { valid_range = Some r }) (range_read i)
-    else Ok (record said { has_helpers = said.has_helpers || (bytes_eq name (codes "derive") && names_other_trait i) }))
+    else (if bytes_eq name (codes "derive")
+    then Ok (record said { derives_copy = said.derives_copy || names_copy i; has_helpers = said.has_helpers || names_other_trait i })
+    else Ok said))
 
 -- where the first attribute stands that isn't known and that no `derive` before it may have brought in, with the one
 -- that is next
@@ -144,9 +147,9 @@ module _ (rules : Rules) (A : Attributes → Cursor → Noted → Result Attribu
       else (if begins_attribute c then attribute_by (named_said said c) c (inside (passed c 1) bracket.Round) known else fault_next BadAttribute c known)
 
 -- what the attribute says that is next and may stand in so many others, added to what those before it say
-unfoldable pub attribute_read : Rules → (room : ℕ) → Attributes → Cursor → Noted → Result Attributes SourceFault × Noted
+unfoldable pub attribute_read : Rules → (depth_left : ℕ) → Attributes → Cursor → Noted → Result Attributes SourceFault × Noted
 attribute_read rules zero said c known = fault_next TooDeep c known
-attribute_read rules (suc room) said c known = attribute_with rules (attribute_read rules room) said c known
+attribute_read rules (suc depth_left) said c known = attribute_with rules (attribute_read rules depth_left) said c known
 
 -- the `!` of an attribute is passed over
 abbrev pub bang_passed : Cursor → Cursor

@@ -72,6 +72,7 @@ pub record ItemRead : Type 0 where
   pub repr : Repr
   pub valid_range : Option (ℕ × ℕ)
   pub unknown_attribute : Option Place
+  pub derives_copy : Bool
   pub kind : ItemKindRead
 
 -- what a `use` brings in, and the number of the module that it stands in
@@ -141,6 +142,7 @@ item_of i = record {
   repr = i.repr;
   valid_range = i.valid_range;
   unknown_attribute = i.unknown_attribute;
+  derives_copy = i.derives_copy;
   kind = item_kind_of i.kind;
 }
 

@@ -1,5 +1,5 @@
 -- Attributes that the language and its tools have, and which else may rewrite what they stand at.
-use Rattle.std.specs.Prelude.{ℕ, zero, suc, ◌-◌, ◌==◌, ◌&&◌, Bool, true, false, not, length, map, List, if◌then◌else◌}
+use Rattle.std.specs.Prelude.{ℕ, zero, suc, ◌-◌, ◌==◌, ◌&&◌, Bool, true, false, not, codes, length, map, List, if◌then◌else◌}
 use Rattle.std.specs.List.{list_any}
 use Rattle.std.specs.Str.{bytes_eq}
 use Rattle.rust_source.specs.declared.reader.cursor.Cursor.{Cursor}
@@ -31,3 +31,12 @@ other_trait_from (suc limit) c = if is_other_trait (word_text c) then true else 
 -- a `derive` of these names another trait, whose derive may have attributes of its own
 unfoldable pub names_other_trait : Cursor → Bool
 names_other_trait c = other_trait_from (c.end - c.at) c
+
+-- one of the tokens, of which so many are looked at, is `Copy`
+abbrev pub copy_from : (limit : ℕ) → Cursor → Bool
+copy_from zero c = false
+copy_from (suc limit) c = if bytes_eq (word_text c) (codes "Copy") then true else copy_from limit (passed c 1)
+
+-- a `derive` of these names `Copy`
+unfoldable pub names_copy : Cursor → Bool
+names_copy c = copy_from (c.end - c.at) c

@@ -1,5 +1,5 @@
 -- Types and expressions that have none within them, and what stands before a type or an operand.
-use Rattle.std.specs.Prelude.{ℕ, zero, suc, ◌-◌, ◌==◌, ◌||◌, Bool, true, false, List, [], ◌∷◌, ◌++◌, drop, nat_lt, Option, None, Some, Result, Ok, Err, if◌then◌else◌}
+use Rattle.std.specs.Prelude.{ℕ, zero, suc, ◌-◌, ◌==◌, ◌||◌, ◌&&◌, Bool, true, false, not, List, [], ◌∷◌, ◌++◌, drop, nat_lt, Option, None, Some, Result, Ok, Err, if◌then◌else◌}
 use Rattle.rust_source.specs.declared.fault.SourceFault.{SourceFault}
 use Rattle.rust_source.specs.declared.fault.SourceFaultKind.{SourceFaultKind}
 use Rattle.rust_source.specs.declared.fault.SourceFaultKind.TheVariants.{BadCharacter, BadNumber, ExpectedExpression, ExpectedType, TooDeep}
@@ -19,12 +19,13 @@ use Rattle.rust_source.specs.declared.tokens.token.Bracket.TheVariants as bracke
 use Rattle.rust_source.specs.declared.tokens.token.Token.{Token}
 use Rattle.rust_source.specs.declared.tokens.token.TokenKind.{TokenKind}
 use Rattle.rust_source.specs.declared.tokens.token.TokenKind.TheVariants as kind
-use Rattle.rust_source.specs.Cursor.{behind_group, fault, is_group, is_lifetime, is_next, is_pair, is_same_word, is_keyword_next, next_kind, nth, passed, place, token_text, tree_passed}
+use Rattle.rust_source.specs.Cursor.{fault, is_lifetime, is_name, is_next, is_nth, is_nth_pair, is_pair, is_same_word, is_keyword_next, next_kind, nth, passed, place, token_text, tree_passed}
+use Rattle.rust_source.specs.Lifetimes.{hashes_passed}
 use Rattle.rust_source.specs.Literals.{char_code, number_written}
 use Rattle.rust_source.specs.Operators.{with_operators}
 use Rattle.rust_source.specs.Passing.{angles_passed, bounds}
 use Rattle.rust_source.specs.Reading.{is_path_name, read_as}
-use Rattle.rust_source.specs.Syntax.{ExprRead, PathRead, TypeRead, bool, char, dyn, function, integer, named, never, other_expr, other_type, pointer, reference}
+use Rattle.rust_source.specs.Syntax.{ExprRead, PathRead, TypeRead, bool, char, dyn, integer, named, never, other_expr, other_type, pointer, reference}
 
 -- how many others a type or an expression may stand in, and how many operators may follow one another
 unfoldable pub most_nested : ℕ
@@ -42,7 +43,8 @@ lifetime_passed c = if is_lifetime (next_kind c) then passed c 1 else c
 unfoldable pub pointing : Cursor → Result (Option Pointing × Cursor) SourceFault
 pointing c =
     let behind_one = passed c 1 in
-    if is_next c 38 then Ok (Some before.Reference, word_passed keyword.Mut (lifetime_passed behind_one))
+    let lifetime_behind = lifetime_passed behind_one in
+    if is_next c 38 then Ok (Some (before.Reference (is_keyword_next lifetime_behind keyword.Mut)), word_passed keyword.Mut lifetime_behind)
     else (if is_next c 42 then (if is_keyword_next behind_one keyword.Mut || is_keyword_next behind_one keyword.Const
     then Ok (Some before.Pointer, passed behind_one 1) else Err (fault behind_one ExpectedType))
     else Ok (None, c))
@@ -72,7 +74,7 @@ pointings c = pointings_from most_nested [] c
 
 -- the type that points to another one
 abbrev pub pointing_to : TypeRead → Pointing → TypeRead
-pointing_to t before.Reference = reference t
+pointing_to t (before.Reference is_mutable) = reference is_mutable t
 pointing_to t before.Pointer = pointer t
 
 -- the type with what stands before it, of which the last is the nearest
@@ -103,24 +105,37 @@ before_function c =
     let safe = word_passed keyword.Unsafe bound in
     if is_keyword_next safe keyword.Extern then text_passed (passed safe 1) (next_kind (passed safe 1)) else safe
 
--- the pointer to a function whose `fn` stands before, with what it gives
-unfoldable pub function_behind : Cursor → Result (TypeRead × Cursor) SourceFault
-function_behind c =
-    if is_group c bracket.Round then Ok (function, if is_pair (behind_group c) 45 62 then (bounds (passed (behind_group c) 2)).1 else behind_group c)
-    else Err (fault c ExpectedType)
+-- a keyword that a function pointer's type may begin with
+abbrev pub begins_pointer : Keyword → Bool
+begins_pointer keyword.Fn = true
+begins_pointer keyword.For = true
+begins_pointer keyword.Unsafe = true
+begins_pointer keyword.Extern = true
+begins_pointer _ = false
 
--- a pointer to a function, or a trait behind `for<'a>`
-unfoldable pub function_read : Cursor → Result (TypeRead × Cursor) SourceFault
-function_read c =
-    let d = before_function c in
-    if is_keyword_next d keyword.Fn then function_behind (passed d 1) else Ok (dyn, (bounds d).1)
+abbrev pub begins_function_by : Option TokenKind → Bool
+begins_function_by (Some (kind.Keyword k)) = begins_pointer k
+begins_function_by _ = false
 
--- the type that begins with this keyword, and is no path
+-- a function pointer is next, or a trait behind `for<'a>`
+abbrev pub begins_function : Cursor → Bool
+begins_function c = begins_function_by (next_kind c)
+
+-- a function pointer's parameter may have a name: a word or `_`, and a `:` that is no `::`
+abbrev pub names_parameter : Cursor → Bool
+names_parameter c =
+    (is_name (next_kind c) || is_keyword_next c keyword.Underscore) && is_nth c 1 58 && not (is_nth_pair c 1 58 58)
+
+-- what follows the attributes of a function pointer's parameter, and its name
+unfoldable pub parameter_begun : Cursor → Cursor
+parameter_begun c = let d = hashes_passed c in if names_parameter d then passed d 2 else d
+
+-- the parameters that a function pointer leaves open (`...`)
+abbrev pub is_variadic : Cursor → Bool
+is_variadic c = is_pair c 46 46 && is_nth c 2 46
+
+-- the type that begins with this keyword, and is no path and no function pointer
 abbrev pub worded : Cursor → Keyword → Result (TypeRead × Cursor) SourceFault
-worded c keyword.Fn = function_read c
-worded c keyword.For = function_read c
-worded c keyword.Unsafe = function_read c
-worded c keyword.Extern = function_read c
 worded c keyword.Dyn = Ok (dyn, (bounds c).1)
 worded c keyword.Impl = Ok (other_type other.Impl (place c), (bounds c).1)
 worded c keyword.Underscore = Ok (other_type other.Inferred (place c), passed c 1)

@@ -21,9 +21,10 @@ mutual
     tuple : TypesRead → TypeRead
     array : (element : TypeRead) → (count : ExprRead) → TypeRead
     slice : TypeRead → TypeRead
-    reference : TypeRead → TypeRead
+    reference : (is_mutable : Bool) → TypeRead → TypeRead
     pointer : TypeRead → TypeRead
-    function : TypeRead
+    -- the types of its parameters, and that of its result where it is written
+    function : TypesRead → TypeRead
     dyn : TypeRead
     named : PathRead → TypeRead
     -- one that isn't evaluated, and where it begins
@@ -122,9 +123,9 @@ layer_type layer.Never = never
 layer_type (layer.Tuple all) = tuple (type_list all.items)
 layer_type (layer.Array t e) = array t.value e.value
 layer_type (layer.Slice t) = slice t.value
-layer_type (layer.Reference t) = reference t.value
+layer_type (layer.Reference is_mutable t) = reference is_mutable t.value
 layer_type (layer.Pointer t) = pointer t.value
-layer_type layer.Function = function
+layer_type (layer.Function all) = function (type_list all.items)
 layer_type layer.Dyn = dyn
 layer_type (layer.Type::Path p) = named p
 layer_type (layer.Type::Unevaluated u at) = other_type u at

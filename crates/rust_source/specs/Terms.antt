@@ -2,7 +2,7 @@
 use Rattle.std.specs.Prelude.{ℕ, zero, suc, ◌-◌, ◌||◌, Bool, true, false, List, [], ◌∷◌, ◌++◌, Option, None, Some, Result, Ok, Err, if◌then◌else◌}
 use Rattle.rust_source.specs.declared.fault.SourceFault.{SourceFault}
 use Rattle.rust_source.specs.declared.fault.SourceFaultKind.{SourceFaultKind}
-use Rattle.rust_source.specs.declared.fault.SourceFaultKind.TheVariants.{BadNumber, ExpectedAngle, ExpectedExpression, ExpectedName, ExpectedSemicolon, OutOfMemory, TooDeep}
+use Rattle.rust_source.specs.declared.fault.SourceFaultKind.TheVariants.{BadNumber, ExpectedAngle, ExpectedExpression, ExpectedName, ExpectedSemicolon, ExpectedType, OutOfMemory, TooDeep}
 use Rattle.rust_source.specs.declared.place.Place.{Place}
 use Rattle.rust_source.specs.declared.place.Symbol.{Symbol}
 use Rattle.rust_source.specs.declared.reader.cursor.Cursor.{Cursor}
@@ -19,8 +19,8 @@ use Rattle.rust_source.specs.Operators.{all_joined, next_operator, operator_put,
 use Rattle.rust_source.specs.Lifetimes.{lifetimes_given}
 use Rattle.rust_source.specs.Passing.{bounds}
 use Rattle.rust_source.specs.Reading.{Reading, read_on, path_name, read_as}
-use Rattle.rust_source.specs.Simple.{after_path, begins_path, is_literal, literal_read, most_nested, pointed, pointings, signed_literal, signs, simple}
-use Rattle.rust_source.specs.Syntax.{ArgumentRead, ExprRead, PathRead, SegmentRead, TypeRead, arguments, array, binding, call, cast, choice, constant, exprs, of_const, of_type, other_expr, path, segment, segments, slice, tuple, type_list}
+use Rattle.rust_source.specs.Simple.{after_path, before_function, begins_function, begins_path, is_literal, is_variadic, literal_read, most_nested, parameter_begun, pointed, pointings, signed_literal, signs, simple}
+use Rattle.rust_source.specs.Syntax.{ArgumentRead, ExprRead, PathRead, SegmentRead, TypeRead, arguments, array, binding, call, cast, choice, constant, dyn, exprs, function, of_const, of_type, other_expr, path, segment, segments, slice, tuple, type_list}
 
 -- names that have numbers
 abbrev pub Known : Type 0
@@ -45,12 +45,12 @@ done a known = (Ok a, known)
 abbrev pub fault_next : {S A : Type 0} → SourceFaultKind → Cursor → (known : S) → Result A SourceFault × S
 fault_next k c known = (Err (fault c k), known)
 
--- what is told even where an expression needn't be read
-abbrev pub is_told_anyway : SourceFaultKind → Bool
-is_told_anyway OutOfMemory = true
-is_told_anyway TooDeep = true
-is_told_anyway BadNumber = true
-is_told_anyway _ = false
+-- what is reported even where an expression needn't be read
+abbrev pub is_always_reported : SourceFaultKind → Bool
+is_always_reported OutOfMemory = true
+is_always_reported TooDeep = true
+is_always_reported BadNumber = true
+is_always_reported _ = false
 
 -- all is passed over
 abbrev pub ended : Cursor → Cursor
@@ -59,7 +59,7 @@ ended c = record c { at = c.end }
 -- what all tokens that are left mean, of which this was read
 abbrev pub all_read_by : Cursor → Result (ExprRead × Cursor) SourceFault → Known → Reading (ExprRead × Cursor)
 all_read_by c (Ok e) names = done ((if is_done e.1 then e.0 else other_expr Expression (place c)), ended c) names
-all_read_by c (Err e) names = if is_told_anyway e.kind then (Err e, names) else done (other_expr Expression (place c), ended c) names
+all_read_by c (Err e) names = if is_always_reported e.kind then (Err e, names) else done (other_expr Expression (place c), ended c) names
 
 -- nothing is in the list
 abbrev pub has_none : {A : Type 0} → List A → Bool
@@ -189,13 +189,54 @@ module _ (R : Readers) where
   unfoldable pub list_read : Cursor → Known → Reading TypeRead
   list_read c names = read_on (λ (t : TypeRead × Cursor) ns. list_on t.0 t.1 ns) (R.type_in c names)
 
+  -- the types of a function pointer's parameters with that of the one that is next; `...` has none
+  unfoldable pub parameter_type : List TypeRead → Reader (List TypeRead)
+  parameter_type all c names =
+      let d = parameter_begun c in
+      if is_variadic d then done (all, passed d 3) names
+      else read_on (λ (t : TypeRead × Cursor) ns. done (all ++ t.0 ∷ [], t.1) ns) (R.type_in d names)
+
+  -- the types of parameters, behind these
+  abbrev pub parameter_types_from : (limit : ℕ) → List TypeRead → Cursor → Known → Reading (List TypeRead)
+  parameter_types_from zero all c names = done all names
+  parameter_types_from (suc limit) all c names =
+      if is_done c then done all names
+      else read_on (λ (a : List TypeRead × Cursor) ns. read_on (λ d ms. parameter_types_from limit a.0 d ms) (comma_passed a.1, ns)) (parameter_type all c names)
+
+  -- the types of the parameters that stand in these parentheses
+  unfoldable pub parameter_types : Cursor → Known → Reading (List TypeRead)
+  parameter_types c names = parameter_types_from (c.end - c.at) [] c names
+
+  -- the types with that of the result, where it is written
+  abbrev pub result_read : List TypeRead → Reader (List TypeRead)
+  result_read all c names =
+      if is_pair c 45 62 then read_on (λ (t : TypeRead × Cursor) ns. done (all ++ t.0 ∷ [], t.1) ns) (R.type_in (passed c 2) names)
+      else done (all, c) names
+
+  -- the types of a function pointer whose parameters stand in these parentheses
+  abbrev pub signature_in : Cursor → Option Cursor → Known → Reading (List TypeRead × Cursor)
+  signature_in c None names = fault_next ExpectedType c names
+  signature_in c (Some i) names = read_on (λ all ns. result_read all (behind_group c) ns) (parameter_types i names)
+
+  -- the types of a function pointer whose `fn` stands before
+  unfoldable pub signature_read : Reader (List TypeRead)
+  signature_read c names = signature_in c (inside c bracket.Round) names
+
+  -- a pointer to a function, or a trait behind `for<'a>`
+  unfoldable pub function_read : Reader TypeRead
+  function_read c names =
+      let d = before_function c in
+      if is_keyword_next d keyword.Fn
+      then read_on (λ (s : List TypeRead × Cursor) ns. done (function (type_list s.0), s.1) ns) (signature_read (passed d 1) names)
+      else done (dyn, (bounds d).1) names
+
   -- a type that no `&` or `*` stands before, which stands in these brackets, or in none
   abbrev pub pointee_in : Cursor → (round square : Option Cursor) → Known → Reading (TypeRead × Cursor)
   pointee_in c (Some i) square names = read_on (λ t ns. done (t, behind_group c) ns) (tuple_read i names)
   pointee_in c None (Some i) names = read_on (λ t ns. done (t, behind_group c) ns) (list_read i names)
   pointee_in c None None names =
       if begins_path c then read_on (λ (p : PathRead × Cursor) ns. done (after_path p.1 p.0 (place c)) ns) (path_read true c names)
-      else (simple c, names)
+      else (if begins_function c then function_read c names else (simple c, names))
 
   unfoldable pub pointee_read : Reader TypeRead
   pointee_read c names = pointee_in c (inside c bracket.Round) (inside c bracket.Square) names

@@ -135,6 +135,8 @@ pub struct Item {
     /// Where the first of its attributes stands that is neither the language's nor a tool's, nor one that a `derive`
     /// may have brought in: it may be a macro that rewrites the item.
     pub unknown_attribute: Option<Place>,
+    /// Whether a `derive` of `Copy` stands at it.
+    pub derives_copy: bool,
     pub kind: ItemKind,
 }
 

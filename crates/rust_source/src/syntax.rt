@@ -19,7 +19,7 @@ pub enum IntegerKind {
     Usize,
 }
 
-/// What stands where a type or a value is needed, and isn't evaluated: the fault there tells which it was.
+/// What stands where a type or a value is needed, and isn't evaluated: the fault there says which it was.
 #[derive(Clone, Copy, PartialEq, Eq)]
 pub enum Unevaluated {
     /// A macro's call.
@@ -47,12 +47,12 @@ pub enum Type {
     Array(Box<Type>, Box<Expr>),
     /// `[T]`
     Slice(Box<Type>),
-    /// `&T`, `&mut T`
-    Reference(Box<Type>),
+    /// `&T`, or `&mut T` where it says so
+    Reference(bool, Box<Type>),
     /// `*const T`, `*mut T`
     Pointer(Box<Type>),
-    /// `fn(A) -> B`
-    Function,
+    /// `fn(A) -> B`: the parameters' types, and the result's where it is written
+    Function(Vec<Type>),
     /// `dyn Trait`
     Dyn,
     /// A name, with the modules before it and the arguments behind.

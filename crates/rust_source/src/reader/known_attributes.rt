@@ -1,7 +1,7 @@
 //! Attributes that the language and its tools have: another one may be a macro that rewrites what it stands at.
 
 ghost use Rattle.std.specs.Prelude.{◌≡◌, map};
-ghost use Rattle.rust_source.specs.KnownAttributes.{derived_names, is_among, is_other_trait, known_names, names_other_trait};
+ghost use Rattle.rust_source.specs.KnownAttributes.{derived_names, is_among, is_other_trait, known_names, names_copy, names_other_trait};
 ghost use Rattle.rust_source.specs.Names.{word_of};
 
 use crate::reader::cursor::{Cursor, pass};
@@ -127,6 +127,22 @@ pub(crate) fn names_other_trait(inside: &Cursor<'_>) -> bool
     let turns = inside.end.saturating_sub(inside.at);
     for turn in 0..turns {
         if is_other_trait(word_text(&left)) {
+            return true;
+        }
+        pass(&mut left, 1);
+    }
+    false
+}
+
+/// Whether a `derive` of these names `Copy`.
+#[tactic(auto, unfolding(crate::specs::KnownAttributes::names_copy), using(crate::proofs::ItemTurns::copy_more, crate::proofs::ItemTurns::copy_done))]
+pub(crate) fn names_copy(inside: &Cursor<'_>) -> bool
+    ensures { result ≡ names_copy inside.now }
+{
+    let mut left = *inside;
+    let turns = inside.end.saturating_sub(inside.at);
+    for turn in 0..turns {
+        if word_text(&left) == "Copy" {
             return true;
         }
         pass(&mut left, 1);

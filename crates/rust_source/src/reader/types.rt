@@ -4,7 +4,7 @@ ghost use Rattle.std.specs.Prelude.{◌≡◌, [], ◌∷◌, ◌++◌, false, I
 ghost use Rattle.rust_source.specs.Reading.{Reads, read_as};
 ghost use Rattle.rust_source.specs.Names.{texts};
 ghost use Rattle.rust_source.specs.Terms.{readers, has_none, list_read, pointee_read, tuple_read, type_read, type_next};
-ghost use Rattle.rust_source.specs.Simple.{after_path, associated_passed, before_function, begins_path, function_behind, function_read, lifetime_passed, pointed, pointing, pointing_to, pointings, simple, worded};
+ghost use Rattle.rust_source.specs.Simple.{after_path, associated_passed, begins_path, lifetime_passed, pointed, pointing, pointing_to, pointings, simple, worded};
 ghost use Rattle.rust_source.specs.Syntax.{other_type, path_as_read, tuple, type_of, type_list};
 ghost use Rattle.rust_source.specs.Tokens.{Yields};
 ghost use Rattle.rust_source.specs.Cursor.{is_done, place};
@@ -16,11 +16,12 @@ use crate::reader::cursor::{
     Cursor, expect, expect_comma, fault, is_done, is_lifetime, is_next, is_pair, next_kind, pass,
     pass_tree, place, take, take_group, take_pair, take_word,
 };
+use crate::reader::depth::{most_nested, one_level_deeper};
 use crate::reader::expressions::read_whole;
 use crate::reader::naming::is_path_name;
 use crate::reader::passing::{pass_angles, pass_bounds};
 use crate::reader::paths::read_path;
-use crate::reader::room::{less, most_nested};
+use crate::reader::signatures::{begins_function, read_function_pointer};
 use crate::syntax::{Path, Type, Unevaluated};
 use crate::tokens::keyword::Keyword;
 use crate::tokens::token::{Bracket, TokenKind};
@@ -29,8 +30,8 @@ use std::alloc::Global;
 /// What stands before the type that it points to.
 #[derive(Clone, Copy)]
 enum Pointing {
-    /// `&`
-    Reference,
+    /// `&`, or `&mut` where it says so
+    Reference(bool),
     /// `*`
     Pointer,
 }
@@ -51,8 +52,8 @@ fn take_pointing(cursor: &mut Cursor<'_>) -> Result<Option<Pointing>, SourceFaul
 {
     if take(cursor, b'&') {
         pass_lifetime(cursor);
-        let _ = take_word(cursor, Keyword::Mut);
-        return Ok(Some(Pointing::Reference));
+        let is_mutable = take_word(cursor, Keyword::Mut);
+        return Ok(Some(Pointing::Reference(is_mutable)));
     }
     if !take(cursor, b'*') {
         return Ok(None);
@@ -87,7 +88,7 @@ fn pointing_to(alloc: Global, target: Type, pointing: Pointing) -> Result<Type, 
 {
     let target = Box::new(alloc, target)?;
     match pointing {
-        Pointing::Reference => Ok(Type::Reference(target)),
+        Pointing::Reference(is_mutable) => Ok(Type::Reference(is_mutable, target)),
         Pointing::Pointer => Ok(Type::Pointer(target)),
     }
 }
@@ -124,57 +125,12 @@ fn pass_associated(cursor: &mut Cursor<'_>)
     }
 }
 
-/// Passes over what may stand before a function pointer's `fn`.
-#[tactic(auto, unfolding(crate::specs::Simple::before_function))]
-fn pass_before_function(cursor: &mut Cursor<'_>)
-    ensures { cursor.new ≡ before_function cursor.old }
-{
-    if take_word(cursor, Keyword::For) {
-        pass_angles(cursor);
-    }
-    let _ = take_word(cursor, Keyword::Unsafe);
-    if take_word(cursor, Keyword::Extern) {
-        match next_kind(cursor) {
-            Some(TokenKind::Text) => pass(cursor, 1),
-            _ => {}
-        }
-    }
-}
-
-/// A function pointer, behind its `fn`. What it gives is passed over.
-#[tactic(auto, unfolding(crate::specs::Simple::function_behind, crate::specs::Cursor::is_group, crate::specs::Cursor::inside))]
-fn take_behind_fn(cursor: &mut Cursor<'_>) -> Result<Type, SourceFault>
-    ensures { read_as (λ ty. (type_of ty, cursor.new)) result ≡ function_behind cursor.old }
-{
-    if take_group(cursor, Bracket::Round).is_none() {
-        return Err(fault(cursor, SourceFaultKind::ExpectedType));
-    }
-    if take_pair(cursor, b'-', b'>') {
-        let _ = pass_bounds(cursor);
-    }
-    Ok(Type::Function)
-}
-
-/// A function pointer, or a trait behind `for<'a>`. What it gives is passed over.
-#[tactic(auto, unfolding(crate::specs::Simple::function_read))]
-fn take_function(cursor: &mut Cursor<'_>) -> Result<Type, SourceFault>
-    ensures { read_as (λ ty. (type_of ty, cursor.new)) result ≡ function_read cursor.old }
-{
-    pass_before_function(cursor);
-    if take_word(cursor, Keyword::Fn) {
-        return take_behind_fn(cursor);
-    }
-    let _ = pass_bounds(cursor);
-    Ok(Type::Dyn)
-}
-
-/// A type that begins with this keyword, and is no path.
+/// A type that begins with this keyword, and is no path and no function pointer.
 fn take_worded(cursor: &mut Cursor<'_>, first: Keyword) -> Result<Type, SourceFault>
     ensures { read_as (λ ty. (type_of ty, cursor.new)) result ≡ worded cursor.old first }
 {
     let at = place(cursor);
     match first {
-        Keyword::Fn | Keyword::For | Keyword::Unsafe | Keyword::Extern => take_function(cursor),
         Keyword::Dyn => {
             let _ = pass_bounds(cursor);
             Ok(Type::Dyn)
@@ -232,52 +188,63 @@ pub(crate) fn begins_path(cursor: &Cursor<'_>) -> bool
     is_pair(cursor, b':', b':') || is_path_name(cursor)
 }
 
-/// A type. Types and expressions may stand in `room` others here.
+/// A type. Types and expressions may stand in `depth_left` others here.
 #[cycle(terms)]
-#[tactic(auto, using(crate::proofs::Rooms::type_less, crate::proofs::Rooms::type_none))]
+#[tactic(auto, using(crate::proofs::Depths::type_less, crate::proofs::Depths::type_none))]
 pub(crate) fn read_type(
     names: &mut Names,
     cursor: &mut Cursor<'_>,
-    room: u32,
+    depth_left: u32,
 ) -> Result<Type, SourceFault>
-    ensures { Reads (λ ty. (type_of ty, cursor.new)) (type_read room cursor.old (texts names.old))
+    ensures { Reads (λ ty. (type_of ty, cursor.new)) (type_read depth_left cursor.old (texts names.old))
         (texts names.new) result }
 {
-    let room = less(cursor, room)?;
-    read_pointed(names, cursor, room)
+    let depth_left = one_level_deeper(cursor, depth_left)?;
+    read_pointed(names, cursor, depth_left)
 }
 
 /// A type with the `&` and `*` before it.
 #[cycle(terms)]
 #[tactic(auto, unfolding(crate::specs::Terms::type_next))]
-fn read_pointed(names: &mut Names, cursor: &mut Cursor<'_>, room: u32) -> Result<Type, SourceFault>
+fn read_pointed(
+    names: &mut Names,
+    cursor: &mut Cursor<'_>,
+    depth_left: u32,
+) -> Result<Type, SourceFault>
     ensures { Reads (λ ty. (type_of ty, cursor.new))
-        (type_next (readers room) cursor.old (texts names.old)) (texts names.new) result }
+        (type_next (readers depth_left) cursor.old (texts names.old)) (texts names.new) result }
 {
     let pointing = take_all_pointing(names.alloc(), cursor)?;
-    let target = read_target(names, cursor, room)?;
+    let target = read_target(names, cursor, depth_left)?;
     pointed(names.alloc(), target, pointing)
 }
 
 /// A type that no `&` or `*` stands before.
 #[cycle(terms)]
 #[tactic(auto, unfolding(crate::specs::Terms::pointee_read))]
-fn read_target(names: &mut Names, cursor: &mut Cursor<'_>, room: u32) -> Result<Type, SourceFault>
+fn read_target(
+    names: &mut Names,
+    cursor: &mut Cursor<'_>,
+    depth_left: u32,
+) -> Result<Type, SourceFault>
     ensures { Reads (λ ty. (type_of ty, cursor.new))
-        (pointee_read (readers room) cursor.old (texts names.old)) (texts names.new) result }
+        (pointee_read (readers depth_left) cursor.old (texts names.old)) (texts names.new) result }
 {
     if let Some(mut inside) = take_group(cursor, Bracket::Round) {
-        return read_tuple(names, &mut inside, room);
+        return read_tuple(names, &mut inside, depth_left);
     }
     if let Some(mut inside) = take_group(cursor, Bracket::Square) {
-        return read_list(names, &mut inside, room);
+        return read_list(names, &mut inside, depth_left);
     }
-    if !begins_path(cursor) {
-        return take_simple(cursor);
+    if begins_path(cursor) {
+        let at = place(cursor);
+        let path = read_path(names, cursor, true, depth_left)?;
+        return Ok(after_path(cursor, path, at));
     }
-    let at = place(cursor);
-    let path = read_path(names, cursor, true, room)?;
-    Ok(after_path(cursor, path, at))
+    if begins_function(cursor) {
+        return read_function_pointer(names, cursor, depth_left);
+    }
+    take_simple(cursor)
 }
 
 /// Whether the first of the types is all that stands in its parentheses.
@@ -296,7 +263,7 @@ fn tuple(all: Vec<Type>) -> Type
 }
 
 /// Puts a type behind the others.
-fn push_type(all: &mut Vec<Type>, one: Type) -> Result<(), SourceFault>
+pub(crate) fn push_type(all: &mut Vec<Type>, one: Type) -> Result<(), SourceFault>
     ensures ok { IfOk result
         (λ _. map type_of all.new.items ≡ map type_of all.old.items ++ type_of one ∷ []) }
     ensures err { IfErr result (λ fault. fault.kind ≡ SourceFaultKind.OutOfMemory) }
@@ -307,9 +274,13 @@ fn push_type(all: &mut Vec<Type>, one: Type) -> Result<(), SourceFault>
 
 /// The type that stands in parentheses.
 #[cycle(terms)]
-#[tactic(auto, unfolding(crate::specs::Terms::tuple_read), using(crate::proofs::Rooms::tuple_more, crate::proofs::Rooms::tuple_done))]
-fn read_tuple(names: &mut Names, inside: &mut Cursor<'_>, room: u32) -> Result<Type, SourceFault>
-    ensures { Reads type_of (tuple_read (readers room) inside.old (texts names.old))
+#[tactic(auto, unfolding(crate::specs::Terms::tuple_read), using(crate::proofs::Depths::tuple_more, crate::proofs::Depths::tuple_done))]
+fn read_tuple(
+    names: &mut Names,
+    inside: &mut Cursor<'_>,
+    depth_left: u32,
+) -> Result<Type, SourceFault>
+    ensures { Reads type_of (tuple_read (readers depth_left) inside.old (texts names.old))
         (texts names.new) result }
 {
     let mut all = Vec::new(names.alloc());
@@ -318,7 +289,7 @@ fn read_tuple(names: &mut Names, inside: &mut Cursor<'_>, room: u32) -> Result<T
         if is_done(inside) {
             return Ok(tuple(all));
         }
-        let one = read_type(names, inside, room)?;
+        let one = read_type(names, inside, depth_left)?;
         if is_alone(&all, inside) {
             return Ok(one);
         }
@@ -331,15 +302,19 @@ fn read_tuple(names: &mut Names, inside: &mut Cursor<'_>, room: u32) -> Result<T
 /// The array's or the slice's type that stands in square brackets.
 #[cycle(terms)]
 #[tactic(auto, unfolding(crate::specs::Terms::list_read))]
-fn read_list(names: &mut Names, inside: &mut Cursor<'_>, room: u32) -> Result<Type, SourceFault>
-    ensures { Reads type_of (list_read (readers room) inside.old (texts names.old))
+fn read_list(
+    names: &mut Names,
+    inside: &mut Cursor<'_>,
+    depth_left: u32,
+) -> Result<Type, SourceFault>
+    ensures { Reads type_of (list_read (readers depth_left) inside.old (texts names.old))
         (texts names.new) result }
 {
-    let element = Box::new(names.alloc(), read_type(names, inside, room)?)?;
+    let element = Box::new(names.alloc(), read_type(names, inside, depth_left)?)?;
     if is_done(inside) {
         return Ok(Type::Slice(element));
     }
     expect(inside, b';', SourceFaultKind::ExpectedSemicolon)?;
-    let count = Box::new(names.alloc(), read_whole(names, inside, room)?)?;
+    let count = Box::new(names.alloc(), read_whole(names, inside, depth_left)?)?;
     Ok(Type::Array(element, count))
 }

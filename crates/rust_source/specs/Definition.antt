@@ -6,8 +6,8 @@ use Rattle.rust_source.specs.declared.place.Place.{Place}
 use Rattle.rust_source.specs.declared.place.Symbol.{Symbol}
 use Rattle.rust_source.specs.declared.reader.attributes.Rules.{Rules}
 use Rattle.rust_source.specs.declared.reader.cursor.Cursor.{Cursor}
-use Rattle.rust_source.specs.declared.reader.written.Head.{Head}
-use Rattle.rust_source.specs.declared.reader.written.Written.{Written}
+use Rattle.rust_source.specs.declared.reader.definition.Head.{Head}
+use Rattle.rust_source.specs.declared.reader.definition.Definition.{Definition}
 use Rattle.rust_source.specs.declared.tokens.keyword.Keyword.TheVariants as keyword
 use Rattle.rust_source.specs.declared.tokens.token.Bracket.TheVariants as bracket
 use Rattle.rust_source.specs.Cfg.{Noted, Noting}
@@ -29,7 +29,7 @@ pub record HeadRead : Type 0 where
   pub parameters : List ParameterRead
 
 -- an item by itself
-pub record WrittenRead : Type 0 where
+pub record DefinitionRead : Type 0 where
   pub head : HeadRead
   pub kind : ItemKindRead
 
@@ -38,8 +38,8 @@ abbrev pub head_of : Head → HeadRead
 head_of h = record { name = h.name; at = h.at; lifetimes = h.lifetimes; parameters = map parameter_of h.parameters.items }
 
 -- an item by itself, as the program keeps it
-abbrev pub written_of : Written → WrittenRead
-written_of w = record { head = head_of w.head; kind = item_kind_of w.kind }
+abbrev pub definition_of : Definition → DefinitionRead
+definition_of w = record { head = head_of w.head; kind = item_kind_of w.kind }
 
 -- an item's name and parameters
 unfoldable pub head_read : Reader HeadRead
@@ -67,35 +67,35 @@ abbrev pub struct_tail : (has_braces : Bool) → HeadRead → Reader HeadRead
 struct_tail has_braces h c names = if has_braces then done (h, c) names else tail_read h c names
 
 -- an item of this head
-abbrev pub written : HeadRead → ItemKindRead → WrittenRead
-written h k = record { head = h; kind = k }
+abbrev pub definition : HeadRead → ItemKindRead → DefinitionRead
+definition h k = record { head = h; kind = k }
 
 -- a struct, behind its `struct`
-unfoldable pub struct_read : Rules → Noting WrittenRead
+unfoldable pub struct_read : Rules → Noting DefinitionRead
 struct_read rules c known =
     read_on (λ (h : HeadRead × Cursor) ns.
     read_on (λ (f : FieldsRead × Cursor) ms.
-    read_on (λ (g : HeadRead × Cursor) ls. done (written g.0 (struct_of f.0), g.1) ls)
+    read_on (λ (g : HeadRead × Cursor) ls. done (definition g.0 (struct_of f.0), g.1) ls)
     (by_names ms.1 (struct_tail (is_group h.1 bracket.Curly) h.0 f.1 ms.0)))
     (fields_read rules h.1 ns))
     (by_names known.1 (head_where c known.0))
 
 -- a union, behind its `union`
-unfoldable pub union_read : Rules → Noting WrittenRead
+unfoldable pub union_read : Rules → Noting DefinitionRead
 union_read rules c known =
     read_on (λ (h : HeadRead × Cursor) ns.
     if is_group h.1 bracket.Curly
-    then read_on (λ (f : FieldsRead × Cursor) ms. done (written h.0 (union_of f.0), f.1) ms) (fields_read rules h.1 ns)
+    then read_on (λ (f : FieldsRead × Cursor) ms. done (definition h.0 (union_of f.0), f.1) ms) (fields_read rules h.1 ns)
     else fault_next ExpectedFields h.1 ns)
     (by_names known.1 (head_where c known.0))
 
 -- the enum of this head, whose variants stand in these braces
-abbrev pub enum_by : Rules → HeadRead → Cursor → Option Cursor → Noted → Result (WrittenRead × Cursor) SourceFault × Noted
+abbrev pub enum_by : Rules → HeadRead → Cursor → Option Cursor → Noted → Result (DefinitionRead × Cursor) SourceFault × Noted
 enum_by rules h c None known = fault_next ExpectedFields c known
-enum_by rules h c (Some i) known = read_on (λ (v : List VariantRead) ns. done (written h (enum_of v), behind_group c) ns) (variants_in_braces rules i known)
+enum_by rules h c (Some i) known = read_on (λ (v : List VariantRead) ns. done (definition h (enum_of v), behind_group c) ns) (variants_in_braces rules i known)
 
 -- an enum, behind its `enum`
-unfoldable pub enum_read : Rules → Noting WrittenRead
+unfoldable pub enum_read : Rules → Noting DefinitionRead
 enum_read rules c known =
     read_on (λ (h : HeadRead × Cursor) ns. enum_by rules h.0 h.1 (inside h.1 bracket.Curly) ns) (by_names known.1 (head_where c known.0))
 
@@ -107,11 +107,11 @@ alias_head c names =
     (head_read c names)
 
 -- another name of a type, behind its `type`
-unfoldable pub alias_read : Reader WrittenRead
+unfoldable pub alias_read : Reader DefinitionRead
 alias_read c names =
     read_on (λ (h : HeadRead × Cursor) ns.
     read_on (λ (t : TypeRead × Cursor) ms.
-    read_on (λ (g : HeadRead × Cursor) ls. done (written g.0 (alias_of t.0), g.1) ls) (tail_read h.0 t.1 ms))
+    read_on (λ (g : HeadRead × Cursor) ls. done (definition g.0 (alias_of t.0), g.1) ls) (tail_read h.0 t.1 ms))
     (type_read most_nested h.1 ns))
     (alias_head c names)
 
@@ -125,10 +125,10 @@ const_typed owner c names =
     (type_read most_nested c names)
 
 -- a constant, behind its `const`, of a module or of the type with this number
-unfoldable pub const_read : (owner : Option ℕ) → Reader WrittenRead
+unfoldable pub const_read : (owner : Option ℕ) → Reader DefinitionRead
 const_read owner c names =
     read_on (λ (h : HeadRead × Cursor) ns.
-    read_on (λ d ms. read_on (λ (k : ItemKindRead × Cursor) ls. done (written h.0 k.0, k.1) ls) (const_typed owner d ms)) (expected h.1 58 ExpectedColon, ns))
+    read_on (λ d ms. read_on (λ (k : ItemKindRead × Cursor) ls. done (definition h.0 k.0, k.1) ls) (const_typed owner d ms)) (expected h.1 58 ExpectedColon, ns))
     (head_read c names)
 
 -- a union is next: the word, and then a name
@@ -136,12 +136,12 @@ unfoldable pub is_union : Cursor → Bool
 is_union c = is_named c (codes "union") && is_named_next c
 
 -- an item that is there
-abbrev pub item_there : {S : Type 0} → Result (WrittenRead × Cursor) SourceFault × S → Result (Option WrittenRead × Cursor) SourceFault × S
+abbrev pub item_there : {S : Type 0} → Result (DefinitionRead × Cursor) SourceFault × S → Result (Option DefinitionRead × Cursor) SourceFault × S
 item_there = read_on (λ w ns. done (Some w.0, w.1) ns)
 
 -- the item that is next, where it makes a type or is a constant
-unfoldable pub written_read : Rules → Noting (Option WrittenRead)
-written_read rules c known =
+unfoldable pub definition_read : Rules → Noting (Option DefinitionRead)
+definition_read rules c known =
     if is_keyword_next c keyword.Struct then item_there (struct_read rules (passed c 1) known)
     else (if is_keyword_next c keyword.Enum then item_there (enum_read rules (passed c 1) known)
     else (if is_keyword_next c keyword.Type then item_there (by_names known.1 (alias_read (passed c 1) known.0))

@@ -1,4 +1,4 @@
--- What is read within less room, and a turn more of each loop.
+-- What is read one level deeper, and a turn more of each loop.
 use Rattle.std.proofs.Common.{◌≡◌, ℕ, zero, suc, ◌+◌, ◌-◌, ◌<◌, ◌≤◌, Bool, List, [], ◌∷◌, ◌++◌, Err, refl, ap, arith}
 use Rattle.std.specs.Prelude.{if◌then◌else◌}
 use Rattle.rust_source.specs.declared.fault.SourceFaultKind.TheVariants.{ExpectedAngle, ExpectedName, TooDeep}
@@ -10,38 +10,38 @@ use Rattle.rust_source.specs.Cursor.{comma_passed, fault, is_done, is_next, is_k
 use Rattle.rust_source.specs.Operators.{next_operator}
 use Rattle.rust_source.specs.Reading.{read_on}
 use Rattle.rust_source.specs.Syntax.{ArgumentRead, ExprRead, SegmentRead, TypeRead, cast, tuple, type_list}
-use Rattle.rust_source.specs.Terms.{Readers, Known, argument_more, arguments_from, arguments_on, cast_from, choice_read, choice_with, done, expr_from, expr_on, expr_read, expr_with, readers, operand, path_from, path_on, fault_next, segment_read, tuple_behind, tuple_on, type_read, type_next, values_from}
+use Rattle.rust_source.specs.Terms.{Readers, Known, argument_more, arguments_from, arguments_on, cast_from, choice_read, choice_with, done, expr_from, expr_on, expr_read, expr_with, readers, operand, parameter_type, parameter_types_from, path_from, path_on, fault_next, segment_read, tuple_behind, tuple_on, type_read, type_next, values_from}
 use Rattle.rust_source.proofs.Turns.{none_left, turns}
 
-pub type_less : (room left : ℕ) (c : Cursor) (names : Known) → left + 1 ≡ room → type_read room c names ≡ type_next (readers left) c names
+pub type_less : (depth_left left : ℕ) (c : Cursor) (names : Known) → left + 1 ≡ depth_left → type_read depth_left c names ≡ type_next (readers left) c names
 unfolding readers
 type_less zero left c names is = absurd (omega arith)
-type_less (suc room) left c names is = let e : room ≡ left = omega arith in ap (λ r. type_next (readers r) c names) e
+type_less (suc depth_left) left c names is = let e : depth_left ≡ left = omega arith in ap (λ r. type_next (readers r) c names) e
 
-pub type_none : (room : ℕ) (c : Cursor) (names : Known) → room ≡ 0 → type_read room c names ≡ (Err (fault c TooDeep), names)
+pub type_none : (depth_left : ℕ) (c : Cursor) (names : Known) → depth_left ≡ 0 → type_read depth_left c names ≡ (Err (fault c TooDeep), names)
 unfolding readers
 type_none zero c names is = refl
-type_none (suc room) c names is = absurd (omega arith)
+type_none (suc depth_left) c names is = absurd (omega arith)
 
-pub expr_less : (room left : ℕ) (c : Cursor) (names : Known) → left + 1 ≡ room → expr_read room c names ≡ expr_with (readers left) c names
+pub expr_less : (depth_left left : ℕ) (c : Cursor) (names : Known) → left + 1 ≡ depth_left → expr_read depth_left c names ≡ expr_with (readers left) c names
 unfolding readers
 expr_less zero left c names is = absurd (omega arith)
-expr_less (suc room) left c names is = let e : room ≡ left = omega arith in ap (λ r. expr_with (readers r) c names) e
+expr_less (suc depth_left) left c names is = let e : depth_left ≡ left = omega arith in ap (λ r. expr_with (readers r) c names) e
 
-pub expr_none : (room : ℕ) (c : Cursor) (names : Known) → room ≡ 0 → expr_read room c names ≡ (Err (fault c TooDeep), names)
+pub expr_none : (depth_left : ℕ) (c : Cursor) (names : Known) → depth_left ≡ 0 → expr_read depth_left c names ≡ (Err (fault c TooDeep), names)
 unfolding readers
 expr_none zero c names is = refl
-expr_none (suc room) c names is = absurd (omega arith)
+expr_none (suc depth_left) c names is = absurd (omega arith)
 
-pub choice_less : (room left : ℕ) (at : Place) (c : Cursor) (names : Known) → left + 1 ≡ room → choice_read room at c names ≡ choice_with (readers left) at c names
+pub choice_less : (depth_left left : ℕ) (at : Place) (c : Cursor) (names : Known) → left + 1 ≡ depth_left → choice_read depth_left at c names ≡ choice_with (readers left) at c names
 unfolding readers
 choice_less zero left at c names is = absurd (omega arith)
-choice_less (suc room) left at c names is = let e : room ≡ left = omega arith in ap (λ r. choice_with (readers r) at c names) e
+choice_less (suc depth_left) left at c names is = let e : depth_left ≡ left = omega arith in ap (λ r. choice_with (readers r) at c names) e
 
-pub choice_none : (room : ℕ) (at : Place) (c : Cursor) (names : Known) → room ≡ 0 → choice_read room at c names ≡ (Err (fault c TooDeep), names)
+pub choice_none : (depth_left : ℕ) (at : Place) (c : Cursor) (names : Known) → depth_left ≡ 0 → choice_read depth_left at c names ≡ (Err (fault c TooDeep), names)
 unfolding readers
 choice_none zero at c names is = refl
-choice_none (suc room) at c names is = absurd (omega arith)
+choice_none (suc depth_left) at c names is = absurd (omega arith)
 
 module _ (R : Readers) (n i : ℕ) where
   pub tuple_more : (all : List TypeRead) (c : Cursor) (names : Known) → i < n → tuple_behind R (n - i) all c names ≡ (if is_done c then done (tuple (type_list all)) names else read_on (λ (t : TypeRead × Cursor) ns. tuple_on (tuple_behind R (n - (i + 1))) all t.0 t.1 ns) (R.type_in c names))
@@ -49,6 +49,12 @@ module _ (R : Readers) (n i : ℕ) where
 
   pub tuple_done : (all : List TypeRead) (c : Cursor) (names : Known) → n ≤ i → tuple_behind R (n - i) all c names ≡ done (tuple (type_list all)) names
   tuple_done all c names past = ap (λ k. tuple_behind R k all c names) (none_left n i past)
+
+  pub parameters_more : (all : List TypeRead) (c : Cursor) (names : Known) → i < n → parameter_types_from R (n - i) all c names ≡ (if is_done c then done all names else read_on (λ (a : List TypeRead × Cursor) ns. read_on (λ d ms. parameter_types_from R (n - (i + 1)) a.0 d ms) (comma_passed a.1, ns)) (parameter_type R all c names))
+  parameters_more all c names more = ap (λ k. parameter_types_from R k all c names) (turns n i more)
+
+  pub parameters_done : (all : List TypeRead) (c : Cursor) (names : Known) → n ≤ i → parameter_types_from R (n - i) all c names ≡ done all names
+  parameters_done all c names past = ap (λ k. parameter_types_from R k all c names) (none_left n i past)
 
   pub values_more : (all : List ExprRead) (c : Cursor) (names : Known) → i < n → values_from R (n - i) all c names ≡ (if is_done c then done all names else read_on (λ (e : ExprRead × Cursor) ns. read_on (λ d ms. values_from R (n - (i + 1)) (all ++ e.0 ∷ []) d ms) (comma_passed e.1, ns)) (R.expr_in c names))
   values_more all c names more = ap (λ k. values_from R k all c names) (turns n i more)

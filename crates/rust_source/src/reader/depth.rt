@@ -18,13 +18,13 @@ pub(crate) fn most_nested() -> u32
     MOST_NESTED
 }
 
-/// The room that is left within what begins at the next token.
-pub(crate) fn less(cursor: &Cursor<'_>, room: u32) -> Result<u32, SourceFault>
-    ensures ok { IfOk result (λ left. left + 1 ≡ room) }
-    ensures err { IfErr result (λ e. (room ≡ 0) × (e ≡ fault cursor.now SourceFaultKind.TooDeep)) }
+/// How many others may stand in one another within what begins at the next token.
+pub(crate) fn one_level_deeper(cursor: &Cursor<'_>, depth_left: u32) -> Result<u32, SourceFault>
+    ensures ok { IfOk result (λ left. left + 1 ≡ depth_left) }
+    ensures err { IfErr result (λ e. (depth_left ≡ 0) × (e ≡ fault cursor.now SourceFaultKind.TooDeep)) }
 {
-    match room.checked_sub(1) {
-        Some(less) => Ok(less),
+    match depth_left.checked_sub(1) {
+        Some(left) => Ok(left),
         None => Err(fault(cursor, SourceFaultKind::TooDeep)),
     }
 }

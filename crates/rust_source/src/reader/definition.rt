@@ -6,7 +6,7 @@ ghost use Rattle.rust_source.specs.Cursor.{is_constant};
 ghost use Rattle.rust_source.specs.Items.{constant_of};
 ghost use Rattle.rust_source.specs.Names.{texts};
 ghost use Rattle.rust_source.specs.Reading.{Reads};
-ghost use Rattle.rust_source.specs.Written.{alias_head, alias_read, const_read, const_typed, enum_read, head_of, head_read, head_where, is_union, struct_read, struct_tail, tail_read, union_read, where_asked, written_of, written_read};
+ghost use Rattle.rust_source.specs.Definition.{alias_head, alias_read, const_read, const_typed, enum_read, head_of, head_read, head_where, is_union, struct_read, struct_tail, tail_read, union_read, where_asked, definition_of, definition_read};
 
 use crate::fault::{SourceFault, SourceFaultKind};
 use crate::item::{Const, ItemKind, Parameter};
@@ -16,11 +16,11 @@ use crate::reader::attributes::Rules;
 use crate::reader::cursor::{
     Cursor, expect, fault, is_group, is_named_next, is_word, pass, take_group, take_word,
 };
+use crate::reader::depth::most_nested;
 use crate::reader::fields::{read_fields, read_value, read_variants};
 use crate::reader::generics::{pass_asked, read_parameters, read_where};
 use crate::reader::lifetimes::lifetimes_declared;
 use crate::reader::naming::{is_named, take_name};
-use crate::reader::room::most_nested;
 use crate::reader::types::read_type;
 use crate::tokens::keyword::Keyword;
 use crate::tokens::token::Bracket;
@@ -36,13 +36,13 @@ pub(crate) struct Head {
 
 /// An item by itself.
 #[derive(Drop)]
-pub(crate) struct Written {
+pub(crate) struct Definition {
     pub head: Head,
     pub kind: ItemKind,
 }
 
 /// An item's name and parameters.
-#[tactic(auto, unfolding(crate::specs::Written::head_read))]
+#[tactic(auto, unfolding(crate::specs::Definition::head_read))]
 fn read_head(names: &mut Names, cursor: &mut Cursor<'_>) -> Result<Head, SourceFault>
     ensures { Reads (λ head. (head_of head, cursor.new)) (head_read cursor.old (texts names.old))
         (texts names.new) result }
@@ -59,7 +59,7 @@ fn read_head(names: &mut Names, cursor: &mut Cursor<'_>) -> Result<Head, SourceF
 }
 
 /// Reads what `where` asks of an item's parameters, where it is next.
-#[tactic(auto, unfolding(crate::specs::Written::where_asked))]
+#[tactic(auto, unfolding(crate::specs::Definition::where_asked))]
 fn ask_where(names: &mut Names, cursor: &mut Cursor<'_>, head: &mut Head) -> Result<(), SourceFault>
     ensures { Reads (λ _. (head_of head.new, cursor.new))
         (where_asked (head_of head.old) cursor.old (texts names.old)) (texts names.new) result }
@@ -68,7 +68,7 @@ fn ask_where(names: &mut Names, cursor: &mut Cursor<'_>, head: &mut Head) -> Res
 }
 
 /// An item's name and parameters, with what `where` asks of them.
-#[tactic(auto, unfolding(crate::specs::Written::head_where))]
+#[tactic(auto, unfolding(crate::specs::Definition::head_where))]
 fn read_head_where(names: &mut Names, cursor: &mut Cursor<'_>) -> Result<Head, SourceFault>
     ensures { Reads (λ head. (head_of head, cursor.new)) (head_where cursor.old (texts names.old))
         (texts names.new) result }
@@ -79,7 +79,7 @@ fn read_head_where(names: &mut Names, cursor: &mut Cursor<'_>) -> Result<Head, S
 }
 
 /// Reads what `where` asks behind an item, and its `;`.
-#[tactic(auto, unfolding(crate::specs::Written::tail_read))]
+#[tactic(auto, unfolding(crate::specs::Definition::tail_read))]
 fn read_tail(names: &mut Names, cursor: &mut Cursor<'_>, head: &mut Head) -> Result<(), SourceFault>
     ensures { Reads (λ _. (head_of head.new, cursor.new))
         (tail_read (head_of head.old) cursor.old (texts names.old)) (texts names.new) result }
@@ -106,14 +106,14 @@ fn read_struct_tail(
 }
 
 /// A struct, behind its `struct`.
-#[tactic(auto, unfolding(crate::specs::Written::struct_read))]
+#[tactic(auto, unfolding(crate::specs::Definition::struct_read))]
 fn read_struct(
     names: &mut Names,
     unknown: &mut Vec<Symbol>,
     rules: &Rules<'_>,
     cursor: &mut Cursor<'_>,
-) -> Result<Written, SourceFault>
-    ensures { Reads (λ one. (written_of one, cursor.new)) (struct_read rules.now cursor.old (texts names.old, unknown.old.items))
+) -> Result<Definition, SourceFault>
+    ensures { Reads (λ one. (definition_of one, cursor.new)) (struct_read rules.now cursor.old (texts names.old, unknown.old.items))
         (texts names.new, unknown.new.items) result }
 {
     let mut head = read_head_where(names, cursor)?;
@@ -121,18 +121,18 @@ fn read_struct(
     let fields = read_fields(names, unknown, rules, cursor)?;
     read_struct_tail(names, cursor, has_braces, &mut head)?;
     let kind = ItemKind::Struct(fields);
-    Ok(Written { head, kind })
+    Ok(Definition { head, kind })
 }
 
 /// A union, behind its `union`.
-#[tactic(auto, unfolding(crate::specs::Written::union_read))]
+#[tactic(auto, unfolding(crate::specs::Definition::union_read))]
 fn read_union(
     names: &mut Names,
     unknown: &mut Vec<Symbol>,
     rules: &Rules<'_>,
     cursor: &mut Cursor<'_>,
-) -> Result<Written, SourceFault>
-    ensures { Reads (λ one. (written_of one, cursor.new)) (union_read rules.now cursor.old (texts names.old, unknown.old.items))
+) -> Result<Definition, SourceFault>
+    ensures { Reads (λ one. (definition_of one, cursor.new)) (union_read rules.now cursor.old (texts names.old, unknown.old.items))
         (texts names.new, unknown.new.items) result }
 {
     let head = read_head_where(names, cursor)?;
@@ -141,18 +141,18 @@ fn read_union(
     }
     let fields = read_fields(names, unknown, rules, cursor)?;
     let kind = ItemKind::Union(fields);
-    Ok(Written { head, kind })
+    Ok(Definition { head, kind })
 }
 
 /// An enum, behind its `enum`.
-#[tactic(auto, unfolding(crate::specs::Written::enum_read))]
+#[tactic(auto, unfolding(crate::specs::Definition::enum_read))]
 fn read_enum(
     names: &mut Names,
     unknown: &mut Vec<Symbol>,
     rules: &Rules<'_>,
     cursor: &mut Cursor<'_>,
-) -> Result<Written, SourceFault>
-    ensures { Reads (λ one. (written_of one, cursor.new)) (enum_read rules.now cursor.old (texts names.old, unknown.old.items))
+) -> Result<Definition, SourceFault>
+    ensures { Reads (λ one. (definition_of one, cursor.new)) (enum_read rules.now cursor.old (texts names.old, unknown.old.items))
         (texts names.new, unknown.new.items) result }
 {
     let head = read_head_where(names, cursor)?;
@@ -161,11 +161,11 @@ fn read_enum(
     };
     let variants = read_variants(names, unknown, rules, &mut inside)?;
     let kind = ItemKind::Enum(variants);
-    Ok(Written { head, kind })
+    Ok(Definition { head, kind })
 }
 
 /// The name and the parameters of another name of a type, up to its `=`.
-#[tactic(auto, unfolding(crate::specs::Written::alias_head))]
+#[tactic(auto, unfolding(crate::specs::Definition::alias_head))]
 fn read_alias_head(names: &mut Names, cursor: &mut Cursor<'_>) -> Result<Head, SourceFault>
     ensures { Reads (λ head. (head_of head, cursor.new)) (alias_head cursor.old (texts names.old))
         (texts names.new) result }
@@ -178,20 +178,20 @@ fn read_alias_head(names: &mut Names, cursor: &mut Cursor<'_>) -> Result<Head, S
 }
 
 /// Another name of a type, behind its `type`.
-#[tactic(auto, unfolding(crate::specs::Written::alias_read))]
-fn read_alias(names: &mut Names, cursor: &mut Cursor<'_>) -> Result<Written, SourceFault>
-    ensures { Reads (λ one. (written_of one, cursor.new)) (alias_read cursor.old (texts names.old))
+#[tactic(auto, unfolding(crate::specs::Definition::alias_read))]
+fn read_alias(names: &mut Names, cursor: &mut Cursor<'_>) -> Result<Definition, SourceFault>
+    ensures { Reads (λ one. (definition_of one, cursor.new)) (alias_read cursor.old (texts names.old))
         (texts names.new) result }
 {
     let mut head = read_alias_head(names, cursor)?;
     let ty = read_type(names, cursor, most_nested())?;
     read_tail(names, cursor, &mut head)?;
     let kind = ItemKind::Alias(ty);
-    Ok(Written { head, kind })
+    Ok(Definition { head, kind })
 }
 
 /// A constant's type and value, up to its `;`; `owner` is the type whose own it is.
-#[tactic(auto, unfolding(crate::specs::Written::const_typed))]
+#[tactic(auto, unfolding(crate::specs::Definition::const_typed))]
 fn read_const_typed(
     names: &mut Names,
     cursor: &mut Cursor<'_>,
@@ -207,23 +207,23 @@ fn read_const_typed(
 }
 
 /// A constant, behind its `const`; `owner` is the type whose own it is.
-#[tactic(auto, unfolding(crate::specs::Written::const_read))]
+#[tactic(auto, unfolding(crate::specs::Definition::const_read))]
 pub(crate) fn read_const(
     names: &mut Names,
     cursor: &mut Cursor<'_>,
     owner: Option<u32>,
-) -> Result<Written, SourceFault>
-    ensures { Reads (λ one. (written_of one, cursor.new))
+) -> Result<Definition, SourceFault>
+    ensures { Reads (λ one. (definition_of one, cursor.new))
         (const_read owner cursor.old (texts names.old)) (texts names.new) result }
 {
     let head = read_head(names, cursor)?;
     expect(cursor, b':', SourceFaultKind::ExpectedColon)?;
     let kind = ItemKind::Const(read_const_typed(names, cursor, owner)?);
-    Ok(Written { head, kind })
+    Ok(Definition { head, kind })
 }
 
 /// Whether a union is next: the word, and then a name.
-#[tactic(auto, unfolding(crate::specs::Written::is_union))]
+#[tactic(auto, unfolding(crate::specs::Definition::is_union))]
 pub(crate) fn is_union(cursor: &Cursor<'_>) -> bool
     ensures { result ≡ is_union cursor.now }
 {
@@ -238,14 +238,14 @@ pub(crate) fn is_constant(cursor: &Cursor<'_>) -> bool
 }
 
 /// The item that is next, where it makes a type or is a constant; none where it doesn't.
-#[tactic(auto, unfolding(crate::specs::Written::written_read))]
-pub(crate) fn read_written(
+#[tactic(auto, unfolding(crate::specs::Definition::definition_read))]
+pub(crate) fn read_definition(
     names: &mut Names,
     unknown: &mut Vec<Symbol>,
     rules: &Rules<'_>,
     cursor: &mut Cursor<'_>,
-) -> Result<Option<Written>, SourceFault>
-    ensures { Reads (λ one. (option_map written_of one, cursor.new)) (written_read rules.now cursor.old (texts names.old, unknown.old.items))
+) -> Result<Option<Definition>, SourceFault>
+    ensures { Reads (λ one. (option_map definition_of one, cursor.new)) (definition_read rules.now cursor.old (texts names.old, unknown.old.items))
         (texts names.new, unknown.new.items) result }
 {
     let one = if take_word(cursor, Keyword::Struct) {

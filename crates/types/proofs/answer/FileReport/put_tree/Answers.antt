@@ -1,5 +1,5 @@
 use Rattle.abi_tree.specs.Tree.{tree_of}
-use Rattle.types.proofs.answer.Answer.put_tree.Goals as goal
+use Rattle.types.proofs.answer.FileReport.put_tree.Goals as goal
 
 pub put_laid-requires : goal.put_laid-requires
 put_laid-requires c = record {
