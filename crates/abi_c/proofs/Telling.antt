@@ -5,7 +5,7 @@ use Rattle.std.specs.Str.{is_utf8}
 use Rattle.abi_base.specs.declared.data_layout.TargetDataLayout.{TargetDataLayout}
 use Rattle.abi_base.specs.declared.parse_error.TargetDataLayoutError.{TargetDataLayoutError}
 use Rattle.abi_base.specs.declared.parse_error.TargetDataLayoutError.TheVariants as data_layout
-use Rattle.abi_base.specs.DataLayoutFault.{Fault as Flaw, TellsFault}
+use Rattle.abi_base.specs.DataLayoutFault.{Fault as Flaw, NamesFault}
 use Rattle.rustc_abi.specs.declared.error.LayError.{LayError}
 use Rattle.rustc_abi.specs.declared.error.LayError.TheVariants.{OutOfMemory}
 use Rattle.rustc_abi.specs.Fault.{IsRefusedFor}
@@ -47,7 +47,7 @@ under_none P string told utf8 is =
     subst (λ b. MatchBool b (IsToldIn P (data_layout_of string) told) (told ≡ record { status = 2; numbers = 0 ∷ [] })) (sym utf8) is
 
 -- a string with a fault, by the number of the error that tells it
-pub flaw_told : (P : TargetDataLayout → Told → Type 0) (r : Result TargetDataLayout Flaw) (e : TargetDataLayoutError) (told : Told) → TellsFault r e → e ≢ data_layout.OutOfMemory
+pub flaw_told : (P : TargetDataLayout → Told → Type 0) (r : Result TargetDataLayout Flaw) (e : TargetDataLayoutError) (told : Told) → NamesFault r e → e ≢ data_layout.OutOfMemory
     → told ≡ record { status = 1; numbers = data_layout_error_number e ∷ [] } → IsToldIn P r told
 flaw_told P r (data_layout.InvalidAddressSpace text cause err) told is granted same = subst (λ s. IsToldIn P s told) (sym is) same
 flaw_told P r (data_layout.InvalidBits kind text cause err) told is granted same = subst (λ s. IsToldIn P s told) (sym is) same
@@ -60,7 +60,7 @@ flaw_told P r (data_layout.InvalidBitsSize err) told is granted same = absurd is
 flaw_told P r data_layout.OutOfMemory told is granted same = absurd (granted refl)
 
 -- so does the failure that tells it
-pub fails_flawed : (P : TargetDataLayout → Told → Type 0) (r : Result TargetDataLayout Flaw) (e : TargetDataLayoutError) (f : Failure) → TellsFault r e
+pub fails_flawed : (P : TargetDataLayout → Told → Type 0) (r : Result TargetDataLayout Flaw) (e : TargetDataLayoutError) (f : Failure) → NamesFault r e
     → FailsAs (λ told. (e ≢ data_layout.OutOfMemory) × (told ≡ record { status = 1; numbers = data_layout_error_number e ∷ [] })) f → FailsAs (IsToldIn P r) f
 fails_flawed P r e (failure.Refused status number) refusal is = (flaw_told P r e _ refusal is.0.0 is.0.1, is.1)
 fails_flawed P r e failure.OutOfMemory refusal is = is

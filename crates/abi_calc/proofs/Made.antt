@@ -10,7 +10,7 @@ use Rattle.abi_scalar.specs.Lawful.{IsLawfulLayout}
 use Rattle.abi_univariant.specs.Least.{align_by}
 use Rattle.abi_univariant.specs.List.{IsUnivariantAnswer}
 use Rattle.abi_univariant.specs.Placement.{IsNonEmptyIfUnsized, IsSized}
-use Rattle.abi_univariant.proofs.Promised.LeastLemmas.{biased, has_greatest_niche, has_least, has_own_niche, lies_in_order}
+use Rattle.abi_univariant.proofs.Promised.LeastLemmas.{niche_by_bias, has_greatest_niche, has_least, has_own_niche, lies_in_order}
 use Rattle.abi_calc.specs.Enums.Lists.{AreListLayouts}
 use Rattle.abi_calc.specs.Made.{AreFieldLists, IsFieldList}
 use Rattle.abi_calc.proofs.EnumLemmas.Sizes.{tail_of_sized}
@@ -42,7 +42,7 @@ module _ {F V H : Type 0} (layout_of : H → LayoutData F V) (at : ℕ → F) (f
 
   -- their alignments
   pub list_align : (hs : List H) (list : LayoutData F V) → IsUnivariantAnswer layout_of at first dl repr kind hs (Ok list) → list.align.abi ≡ align_by dl repr kind (map layout_of hs)
-  list_align hs list (order, offsets, r) = (biased layout_of at first dl repr kind hs order offsets list r).placed.alignment
+  list_align hs list (order, offsets, r) = (niche_by_bias layout_of at first dl repr kind hs order offsets list r).placed.alignment
 
   pub lists_aligns : (variants : List (List H)) (lists : List (LayoutData F V)) → AreListLayouts layout_of at first dl repr kind variants lists
       → map (λ l. l.align.abi) lists ≡ map (align_by dl repr kind) (map (map layout_of) variants)

@@ -9,7 +9,7 @@ use Rattle.abi_index.proofs.RunsLemmas.{moved-zero}
 use Rattle.abi_tree.specs.declared.parts.PartName.{PartName}
 use Rattle.abi_tree.specs.declared.parts.PartName.TheVariants.{Elements, Lanes, Number, Tag}
 use Rattle.abi_tree.specs.Parts.{Part, all_parts, common_parts, field_parts, parts_of_tagged_variants, placed_part, variant_parts}
-use Rattle.abi_tree.specs.Placed.{Placed, scalar, pair, never, elements, vector, fields, union, single, tagged, states, Parts, no_parts, part, TaggedVariants, no_tagged_variants, tagged_variant, size_of}
+use Rattle.abi_tree.specs.Placed.{Placed, scalar, pair, never, elements, vector, fields, union, single, tagged, states, Parts, no_parts, part, TaggedVariants, nothing_tagged, tagged_variant, size_of}
 use Rattle.abi_tree.specs.Places.{is_data_place, is_place_of_tagged_variant, is_place_of_part}
 use Rattle.abi_tree.specs.Runs.{is_padding_of}
 use Rattle.abi_map.specs.Map.{names_at}
@@ -45,7 +45,7 @@ fields_have v i k no_parts = refl
 fields_have v i k (part offset placed parts) = ap (λ b. (nat_le offset k && is_data_place placed (k - offset)) || b) (fields_have v (suc i) k parts)
 
 tagged_variants_have : (v k : ℕ) (tagged_variants : TaggedVariants) → any_has (parts_of_tagged_variants v tagged_variants) k ≡ is_place_of_tagged_variant tagged_variants k
-tagged_variants_have v k no_tagged_variants = refl
+tagged_variants_have v k nothing_tagged = refl
 tagged_variants_have v k (tagged_variant number layout mark parts tagged_variants) =
     list_any-append (λ (one : Part). one.has k) (field_parts (Some v) 0 parts) (parts_of_tagged_variants (suc v) tagged_variants)
     ∙ ap (λ b. b || any_has (parts_of_tagged_variants (suc v) tagged_variants) k) (fields_have (Some v) 0 k parts) ∙ ap (λ b. is_place_of_part parts k || b) (tagged_variants_have (suc v) k tagged_variants)

@@ -1,7 +1,7 @@
 //! Targets: their data layouts, and what `cfg` asks of them.
 
 ghost use Rattle.std.specs.Prelude.{◌≡◌, IfErr, IfOk, IfSome, bytes_eq, true};
-ghost use Rattle.abi_base.specs.DataLayoutFault.{TellsFault};
+ghost use Rattle.abi_base.specs.DataLayoutFault.{NamesFault};
 ghost use Rattle.abi_rust.specs.Targets.{IsDataLayoutOf, string_said};
 
 use abi_base::{AddressSpace, Integer, TargetDataLayout, TargetDataLayoutError};
@@ -852,7 +852,7 @@ pub fn data_layout_of(
     target: &Target,
 ) -> Result<TargetDataLayout, TargetDataLayoutError<'static>>
     ensures ok { IfOk result (λ dl. IsDataLayoutOf target.now dl) }
-    ensures err { IfErr result (TellsFault (string_said target.now)) }
+    ensures err { IfErr result (NamesFault (string_said target.now)) }
 {
     let mut dl = TargetDataLayout::parse_from_llvm_datalayout_string(
         alloc,

@@ -1,7 +1,7 @@
 //! Reads a data layout string.
 
 ghost use Rattle.std.specs.Prelude.{◌≡◌, IfErr, IfOk, Ok};
-ghost use Rattle.abi_base.specs.DataLayoutFault.{TellsFault};
+ghost use Rattle.abi_base.specs.DataLayoutFault.{NamesFault};
 ghost use Rattle.abi_text.specs.DataLayoutLine.{data_layout_of};
 
 use abi_base::{AddressSpace, TargetDataLayout, TargetDataLayoutError};
@@ -17,7 +17,7 @@ pub fn read_data_layout<'a>(
     text: &'a str,
 ) -> Result<TargetDataLayout, TargetDataLayoutError<'a>>
     ensures ok { IfOk result (λ dl. data_layout_of text.now ≡ Ok dl) }
-    ensures err { IfErr result (TellsFault (data_layout_of text.now)) }
+    ensures err { IfErr result (NamesFault (data_layout_of text.now)) }
 {
     TargetDataLayout::parse_from_llvm_datalayout_string(alloc, text, AddressSpace::ZERO)
 }

@@ -3,7 +3,7 @@ use Rattle.std.specs.Prelude.{ℕ, zero, suc, ◌+◌, ◌-◌, ◌==◌, ◌&&�
 use Rattle.abi_scalar.specs.declared.variants.TagEncoding.{TagEncoding}
 use Rattle.abi_scalar.specs.declared.variants.TagEncoding.TheVariants.{Direct, Niche}
 use Rattle.abi_tree.specs.Value.{Value, number, two, list, variant, state, bytes, Values, no_values, more_values}
-use Rattle.abi_tree.specs.Placed.{Placed, scalar, pair, elements, vector, fields, union, single, tagged, states, Parts, part, TaggedVariants, no_tagged_variants, tagged_variant, size_of}
+use Rattle.abi_tree.specs.Placed.{Placed, scalar, pair, elements, vector, fields, union, single, tagged, states, Parts, part, TaggedVariants, nothing_tagged, tagged_variant, size_of}
 use Rattle.abi_tree.specs.Places.{is_data_place}
 
 -- the variant has a number of its own in the tag: the untagged one has none
@@ -43,6 +43,6 @@ abbrev mutual
 
   -- byte k is covered by the value of some part of the tagged variant with this index
   pub is_tagged_variant_covered : TaggedVariants → (index : ℕ) → Values → (k : ℕ) → Bool
-  is_tagged_variant_covered no_tagged_variants i vs k = false
+  is_tagged_variant_covered nothing_tagged i vs k = false
   is_tagged_variant_covered (tagged_variant code layout mark parts tagged_variants) zero vs k = are_covered parts vs k
   is_tagged_variant_covered (tagged_variant code layout mark parts tagged_variants) (suc i) vs k = is_tagged_variant_covered tagged_variants i vs k

@@ -14,7 +14,7 @@ use Rattle.abi_tree.specs.Tree.{Tree}
 use Rattle.abi_tree.specs.Value.{Value, number, two, list, variant, state, bytes, Values, no_values, more_values}
 use Rattle.abi_tree.specs.Values.{IsValueOf}
 use Rattle.abi_tree.specs.Bytes.{AreBytes, count_picked}
-use Rattle.abi_tree.specs.Placed.{Placed, scalar, pair, never, elements, vector, fields, union, single, tagged, states, Parts, no_parts, part, TaggedVariants, no_tagged_variants, tagged_variant, size_of}
+use Rattle.abi_tree.specs.Placed.{Placed, scalar, pair, never, elements, vector, fields, union, single, tagged, states, Parts, no_parts, part, TaggedVariants, nothing_tagged, tagged_variant, size_of}
 use Rattle.abi_tree.specs.Places.{is_data_place, is_place_of_part}
 use Rattle.abi_tree.specs.Holding.{Holds}
 use Rattle.abi_tree.specs.Covering.{is_byte_at, is_covered}
@@ -68,7 +68,7 @@ each_value value n offset (suc count) place = more_values (value (place_in place
 
 -- the index of the first tagged variant a part of which has the data place, counted from the one given on; else another index
 abbrev pub first_with : TaggedVariants → (k from otherwise : ℕ) → ℕ
-first_with no_tagged_variants k from otherwise = otherwise
+first_with nothing_tagged k from otherwise = otherwise
 first_with (tagged_variant code layout mark parts tagged_variants) k from otherwise = if is_place_of_part parts k then from else first_with tagged_variants k (from + 1) otherwise
 
 -- the first variant that has a number of its own in the tag
@@ -105,7 +105,7 @@ abbrev mutual
 
   -- one value for each part of the tagged variant with this index
   pub tagged_variant_values : TaggedVariants → (index : ℕ) → Option ℕ → Values
-  tagged_variant_values no_tagged_variants i place = no_values
+  tagged_variant_values nothing_tagged i place = no_values
   tagged_variant_values (tagged_variant code layout mark parts tagged_variants) zero place = covering_values parts place
   tagged_variant_values (tagged_variant code layout mark parts tagged_variants) (suc i) place = tagged_variant_values tagged_variants i place
 

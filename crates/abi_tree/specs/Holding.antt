@@ -5,7 +5,7 @@ use Rattle.abi_scalar.specs.declared.variants.TagEncoding.TheVariants.{Direct}
 use Rattle.abi_scalar.specs.Scalar.{IsNumberOf}
 use Rattle.abi_tree.specs.Value.{Value, number, two, list, variant, state, bytes, Values, no_values, more_values, value_count}
 use Rattle.abi_tree.specs.Bytes.{bytes_at, number_of, picked_bytes}
-use Rattle.abi_tree.specs.Placed.{Placed, scalar, pair, elements, vector, fields, union, single, tagged, states, Parts, no_parts, part, TaggedVariants, no_tagged_variants, tagged_variant, size_of}
+use Rattle.abi_tree.specs.Placed.{Placed, scalar, pair, elements, vector, fields, union, single, tagged, states, Parts, no_parts, part, TaggedVariants, nothing_tagged, tagged_variant, size_of}
 use Rattle.abi_tree.specs.Places.{is_data_place}
 use Rattle.abi_tree.specs.Tag.{Names}
 
@@ -55,6 +55,6 @@ module _ (order : Endian) where
 
     -- the parts of the tagged variant with this index hold these values
     pub HoldTaggedVariant : TaggedVariants → (index : ℕ) → List ℕ → Values → Type 0
-    HoldTaggedVariant no_tagged_variants i b vs = ⊥
+    HoldTaggedVariant nothing_tagged i b vs = ⊥
     HoldTaggedVariant (tagged_variant code layout mark parts tagged_variants) zero b vs = HoldParts parts b vs
     HoldTaggedVariant (tagged_variant code layout mark parts tagged_variants) (suc i) b vs = HoldTaggedVariant tagged_variants i b vs

@@ -5,7 +5,7 @@ use Rattle.abi_scalar.specs.declared.variants.TagEncoding.{TagEncoding}
 use Rattle.abi_scalar.specs.declared.variants.TagEncoding.TheVariants.{Direct}
 use Rattle.abi_scalar.specs.declared.variants.Variants.{Variants}
 use Rattle.abi_scalar.specs.declared.variants.Variants.TheVariants.{Single as OneVariant, Multiple}
-use Rattle.abi_tree.specs.Placed.{Placed, scalar, pair, never, elements, vector, fields, union, single, tagged, states, Parts, no_parts, part, TaggedVariants, no_tagged_variants, tagged_variant, layout_of, nothing}
+use Rattle.abi_tree.specs.Placed.{Placed, scalar, pair, never, elements, vector, fields, union, single, tagged, states, Parts, no_parts, part, TaggedVariants, nothing_tagged, tagged_variant, layout_of, nothing}
 use Rattle.abi_scalar.specs.Layout.{Layout}
 use Rattle.abi_tree.specs.declared.mark.Mark.{Mark}
 use Rattle.abi_tree.specs.declared.mark.Mark.TheVariants.{Plain}
@@ -65,7 +65,7 @@ own_tagged_variant number placed tagged_variants = tagged_variant number (layout
 
 -- variants or states beside a tag, each with its number
 abbrev pub tagged_variants_in : List Placed → List (ℕ × ℕ) → TaggedVariants
-tagged_variants_in done [] = no_tagged_variants
+tagged_variants_in done [] = nothing_tagged
 tagged_variants_in done (v ∷ vs) = own_tagged_variant v.0 (placed_in done v.1) (tagged_variants_in done vs)
 
 -- prefix fields, a tag, and states beside it

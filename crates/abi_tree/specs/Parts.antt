@@ -5,7 +5,7 @@ use Rattle.abi_index.specs.Runs.{moved_to}
 use Rattle.abi_tree.specs.declared.parts.PartName.{PartName}
 use Rattle.abi_tree.specs.declared.parts.PartName.TheVariants.{Number, Elements, Lanes, Field, Tag, VariantField}
 use Rattle.abi_tree.specs.declared.parts.PartBytes.{PartBytes}
-use Rattle.abi_tree.specs.Placed.{Placed, scalar, pair, never, elements, vector, fields, union, single, tagged, states, Parts, no_parts, part, TaggedVariants, no_tagged_variants, tagged_variant, size_of}
+use Rattle.abi_tree.specs.Placed.{Placed, scalar, pair, never, elements, vector, fields, union, single, tagged, states, Parts, no_parts, part, TaggedVariants, nothing_tagged, tagged_variant, size_of}
 use Rattle.abi_tree.specs.Places.{is_data_place}
 
 -- A part: its name, and which bytes of the type it has.
@@ -33,7 +33,7 @@ field_parts v i (part offset placed parts) = placed_part (field_name v i) offset
 
 -- the fields of all variants from an index on
 abbrev pub parts_of_tagged_variants : (index : ℕ) → TaggedVariants → List Part
-parts_of_tagged_variants v no_tagged_variants = []
+parts_of_tagged_variants v nothing_tagged = []
 parts_of_tagged_variants v (tagged_variant number layout mark parts tagged_variants) = field_parts (Some v) 0 parts ++ parts_of_tagged_variants (suc v) tagged_variants
 
 -- the parts that a type has whatever its variant

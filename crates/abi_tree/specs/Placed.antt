@@ -39,7 +39,7 @@ mutual
   -- variants or states: each one's number, which is its discriminant or index, the layout that it has as a type of its
   -- own, what it says of itself, and the parts that it has of its own
   pub data TaggedVariants : Type 0 where
-    no_tagged_variants : TaggedVariants
+    nothing_tagged : TaggedVariants
     tagged_variant : (number : ℕ) → Layout → Mark → Parts → TaggedVariants → TaggedVariants
 
 -- the layout of the type itself
@@ -92,7 +92,7 @@ more_parts (part offset placed parts) = parts
 
 -- the parts of the tagged variant with an index
 abbrev pub parts_of_tagged_variant : TaggedVariants → (index : ℕ) → Parts
-parts_of_tagged_variant no_tagged_variants i = no_parts
+parts_of_tagged_variant nothing_tagged i = no_parts
 parts_of_tagged_variant (tagged_variant number layout mark parts tagged_variants) zero = parts
 parts_of_tagged_variant (tagged_variant number layout mark parts tagged_variants) (suc i) = parts_of_tagged_variant tagged_variants i
 

@@ -1,6 +1,6 @@
 -- Data places: the bytes of a type that decide which value they hold. All others are padding.
 use Rattle.std.specs.Prelude.{ℕ, ◌-◌, ◌/◌, ◌%◌, ◌&&◌, ◌||◌, Bool, false, nat_lt, nat_le}
-use Rattle.abi_tree.specs.Placed.{Placed, scalar, pair, never, elements, vector, fields, union, single, tagged, states, Parts, no_parts, part, TaggedVariants, no_tagged_variants, tagged_variant, size_of}
+use Rattle.abi_tree.specs.Placed.{Placed, scalar, pair, never, elements, vector, fields, union, single, tagged, states, Parts, no_parts, part, TaggedVariants, nothing_tagged, tagged_variant, size_of}
 
 abbrev mutual
   -- byte k of the type is a data place
@@ -27,5 +27,5 @@ abbrev mutual
 
   -- byte k is a data place of some tagged variant
   pub is_place_of_tagged_variant : TaggedVariants → (k : ℕ) → Bool
-  is_place_of_tagged_variant no_tagged_variants k = false
+  is_place_of_tagged_variant nothing_tagged k = false
   is_place_of_tagged_variant (tagged_variant number layout mark parts tagged_variants) k = is_place_of_part parts k || is_place_of_tagged_variant tagged_variants k

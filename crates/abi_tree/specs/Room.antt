@@ -1,6 +1,6 @@
 -- Each part ends inside the type that it is a part of.
 use Rattle.std.specs.Prelude.{ℕ, ◌+◌, ◌*◌, ◌==◌, ◌&&◌, Bool, true, nat_le}
-use Rattle.abi_tree.specs.Placed.{Placed, scalar, pair, never, elements, vector, fields, union, single, tagged, states, Parts, no_parts, part, TaggedVariants, no_tagged_variants, tagged_variant, size_of}
+use Rattle.abi_tree.specs.Placed.{Placed, scalar, pair, never, elements, vector, fields, union, single, tagged, states, Parts, no_parts, part, TaggedVariants, nothing_tagged, tagged_variant, size_of}
 
 abbrev mutual
   -- each part of the type, and each part of a part, ends inside the type that it is a part of
@@ -25,5 +25,5 @@ abbrev mutual
 
   -- so do the parts of each of these tagged variants
   pub tagged_variants_have_room : (size : ℕ) → TaggedVariants → Bool
-  tagged_variants_have_room size no_tagged_variants = true
+  tagged_variants_have_room size nothing_tagged = true
   tagged_variants_have_room size (tagged_variant number layout mark parts tagged_variants) = have_room size parts && tagged_variants_have_room size tagged_variants

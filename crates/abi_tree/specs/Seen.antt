@@ -4,7 +4,7 @@ use Rattle.abi_scalar.specs.Shape.{IsListed, field_count, field_offset}
 use Rattle.abi_scalar.specs.Variant.{variants_of}
 use Rattle.abi_types.specs.Ty.Typed.{Marks, Typed, field_in, layout_in, marks_of, no_marks, variant_in}
 use Rattle.abi_tree.specs.Mark.{marks_by}
-use Rattle.abi_tree.specs.Placed.{Placed, scalar, pair, never, elements, vector, fields, union, single, tagged, states, Parts, no_parts, part, TaggedVariants, no_tagged_variants, tagged_variant}
+use Rattle.abi_tree.specs.Placed.{Placed, scalar, pair, never, elements, vector, fields, union, single, tagged, states, Parts, no_parts, part, TaggedVariants, nothing_tagged, tagged_variant}
 use Rattle.abi_scalar.specs.Layout.{Layout}
 
 -- the type has this layout, and says this of itself
@@ -56,7 +56,7 @@ abbrev mutual
   -- each variant from this index on has the tagged variant's layout, says of itself what the tagged variant does, and has the parts that the
   -- tagged variant has of its own, and no others
   pub SeesTaggedVariants : Typed → (index : ℕ) → TaggedVariants → Type 0
-  SeesTaggedVariants t i no_tagged_variants = ⊤
+  SeesTaggedVariants t i nothing_tagged = ⊤
   SeesTaggedVariants t i (tagged_variant number layout mark parts tagged_variants) =
       SeesWhole (variant_in t i) layout (marks_by mark) × IsListOf parts (variant_in t i)
       × SeesParts (variant_in t i) 0 parts × SeesTaggedVariants t (suc i) tagged_variants

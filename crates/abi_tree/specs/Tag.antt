@@ -3,11 +3,11 @@ use Rattle.std.specs.Prelude.{◌≡◌, ◌≢◌, ℕ, zero, suc, ◌+◌, ◌
 use Rattle.abi_scalar.specs.declared.variants.TagEncoding.{TagEncoding}
 use Rattle.abi_scalar.specs.declared.variants.TagEncoding.TheVariants.{Direct, Niche}
 use Rattle.abi_scalar.specs.Range.{numbers_of}
-use Rattle.abi_tree.specs.Placed.{TaggedVariants, no_tagged_variants, tagged_variant, is_flagged}
+use Rattle.abi_tree.specs.Placed.{TaggedVariants, nothing_tagged, tagged_variant, is_flagged}
 
 -- directly: the tagged variant with no part that is flagged, whose number, cut to the tag's width, is the tag's
 abbrev pub NamesDirectly : (width : ℕ) → TaggedVariants → (tag index : ℕ) → Type 0
-NamesDirectly width no_tagged_variants tag i = ⊥
+NamesDirectly width nothing_tagged tag i = ⊥
 NamesDirectly width (tagged_variant number layout mark parts tagged_variants) tag zero =
     (is_flagged parts ≡ false) × (number % numbers_of width ≡ tag)
 NamesDirectly width (tagged_variant number layout mark parts tagged_variants) tag (suc i) = NamesDirectly width tagged_variants tag i

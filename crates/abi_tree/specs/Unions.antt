@@ -3,7 +3,7 @@ use Rattle.std.specs.Prelude.{ℕ, ◌++◌, List, take, ⊤}
 use Rattle.abi_base.specs.declared.endian.Endian.{Endian}
 use Rattle.abi_tree.specs.Value.{Value}
 use Rattle.abi_tree.specs.Bytes.{AreBytes}
-use Rattle.abi_tree.specs.Placed.{Placed, scalar, pair, never, elements, vector, fields, union, single, tagged, states, Parts, no_parts, part, TaggedVariants, no_tagged_variants, tagged_variant, size_of}
+use Rattle.abi_tree.specs.Placed.{Placed, scalar, pair, never, elements, vector, fields, union, single, tagged, states, Parts, no_parts, part, TaggedVariants, nothing_tagged, tagged_variant, size_of}
 use Rattle.abi_tree.specs.Holding.{Holds}
 
 -- bytes that hold a value of the field begin bytes that hold a value of the union
@@ -43,5 +43,5 @@ abbrev mutual
 
   -- and in the parts of each of these tagged variants
   pub InUnionsOfTaggedVariants : (P : (field whole : Placed) → Type 0) → TaggedVariants → Type 0
-  InUnionsOfTaggedVariants P no_tagged_variants = ⊤
+  InUnionsOfTaggedVariants P nothing_tagged = ⊤
   InUnionsOfTaggedVariants P (tagged_variant number layout mark parts tagged_variants) = InUnionsOf P parts × InUnionsOfTaggedVariants P tagged_variants

@@ -4,7 +4,7 @@ use Rattle.abi_base.specs.declared.endian.Endian.{Endian}
 use Rattle.abi_scalar.specs.declared.variants.TagEncoding.{TagEncoding}
 use Rattle.abi_scalar.specs.declared.variants.TagEncoding.TheVariants.{Direct, Niche}
 use Rattle.abi_tree.specs.Value.{Values}
-use Rattle.abi_tree.specs.Placed.{Placed, scalar, pair, never, elements, vector, fields, union, single, tagged, states, Parts, no_parts, part, TaggedVariants, no_tagged_variants, tagged_variant, size_of}
+use Rattle.abi_tree.specs.Placed.{Placed, scalar, pair, never, elements, vector, fields, union, single, tagged, states, Parts, no_parts, part, TaggedVariants, nothing_tagged, tagged_variant, size_of}
 use Rattle.abi_tree.specs.Tag.{NamesByNiche}
 use Rattle.abi_tree.specs.Holding.{HoldTaggedVariant, tag_at}
 
@@ -37,5 +37,5 @@ module _ (order : Endian) where
 
     -- and in the parts of each of these tagged variants
     pub UntaggedNamedOfTaggedVariants : TaggedVariants → Type 0
-    UntaggedNamedOfTaggedVariants no_tagged_variants = ⊤
+    UntaggedNamedOfTaggedVariants nothing_tagged = ⊤
     UntaggedNamedOfTaggedVariants (tagged_variant number layout mark parts tagged_variants) = UntaggedNamedOf parts × UntaggedNamedOfTaggedVariants tagged_variants

@@ -39,7 +39,7 @@ use Rattle.abi_calc.specs.declared.enums.strategy.EnumStrategy.TheVariants.{NoVa
 use Rattle.abi_calc.specs.Enums.Answer.{IsTypeAnswer}
 use Rattle.abi_calc.specs.Enums.Choice.{IsNicheAnswer}
 use Rattle.abi_calc.specs.Enums.Discriminants.{counted_discriminants, counts, meant_by}
-use Rattle.abi_calc.specs.Enums.Growth.{grown_tag, grown_variant, moved, start_align}
+use Rattle.abi_calc.specs.Enums.Growth.{grown_tag, grown_variant, moved_offset, start_align}
 use Rattle.abi_calc.specs.Enums.Lists.{AreListLayouts, align_with_all, behind_tag}
 use Rattle.abi_calc.specs.Enums.Niche.{beside_niche, moved_on, needing_numbers, place_after, room_beside, span_of, untagged_of, variants_from, with_first, without_niche}
 use Rattle.abi_calc.specs.Enums.EnumStrategy.{is_free, strategy_of, variant_at}
@@ -128,7 +128,7 @@ tagged_counts old new view size (l ∷ lists) [] h = absurd h
 tagged_counts old new view size (l ∷ lists) (ps ∷ variants) h =
     let grown : VariantLayout ℕ = grown_variant old new (variant_of l) in (
       ap length (either_keeps _ _ grown refl)
-          ∙ grown_long (nat_lt old new) _ (variant_of l) (length-map (listed_offsets l.fields) (moved old new)) ∙ h.0,
+          ∙ grown_long (nat_lt old new) _ (variant_of l) (length-map (listed_offsets l.fields) (moved_offset old new)) ∙ h.0,
       tagged_counts old new view size lists variants h.1,
     )
 

@@ -36,7 +36,7 @@ use Rattle.abi_calc.specs.Enums.Tagged.{layout_with_view, lists_size}
 use Rattle.abi_tree.specs.declared.mark.Mark.TheVariants.{Never, Unit}
 use Rattle.abi_tree.specs.Mark.{mark_of}
 use Rattle.abi_tree.specs.Nodes.{parts_at, parts_at_0}
-use Rattle.abi_tree.specs.Placed.{Placed, TaggedVariants, no_tagged_variants, tagged_variant, no_parts, part, layout_of, parts_in, elements, fields, never as nowhere}
+use Rattle.abi_tree.specs.Placed.{Placed, TaggedVariants, nothing_tagged, tagged_variant, no_parts, part, layout_of, parts_in, elements, fields, never as nowhere}
 use Rattle.abi_scalar.specs.Layout.{Layout}
 use Rattle.abi_tree.specs.Tree.{Tree, Trees, no_trees, more_trees, Variants, no_variants, more_variants, struct, union, enum, array, never, unit, scalar as number_type}
 use Rattle.rustc_abi.specs.Enums.{IsEnumed, tagged_variants_at, counted, discriminants_of, tag_integer}
@@ -177,8 +177,8 @@ lone_has dl P each p (inr (variants, there, answer)) =
     (each (found.0, b))
 
 fieldless : (tagged_variants : TaggedVariants) → HasTaggedVariantForEach lone tagged_variants → with_fields (variant_fields tagged_variants) ≡ []
-fieldless no_tagged_variants h = absurd h
-fieldless (tagged_variant number layout mark no_parts no_tagged_variants) h = refl
+fieldless nothing_tagged h = absurd h
+fieldless (tagged_variant number layout mark no_parts nothing_tagged) h = refl
 fieldless (tagged_variant number layout mark no_parts (tagged_variant m l k parts tagged_variants)) h = absurd h.2
 fieldless (tagged_variant number layout mark (part offset placed parts) tagged_variants) h = absurd h.1
 

@@ -8,7 +8,7 @@ use Rattle.abi_scalar.specs.Lawful.{IsLawfulLayout}
 use Rattle.abi_tree.specs.declared.laid.Laid.{Laid}
 use Rattle.abi_tree.specs.Laid.{placed_of}
 use Rattle.abi_tree.specs.Nodes.{parts_at, parts_at_0}
-use Rattle.abi_tree.specs.Placed.{Placed, Parts, TaggedVariants, no_tagged_variants, tagged_variant, element_of, first_part, layout_of, more_parts, parts_in, scalar as one_number, pair as two, never as nowhere, elements, vector as lanes_of, fields, union as together, single, tagged, states as in_states}
+use Rattle.abi_tree.specs.Placed.{Placed, Parts, TaggedVariants, nothing_tagged, tagged_variant, element_of, first_part, layout_of, more_parts, parts_in, scalar as one_number, pair as two, never as nowhere, elements, vector as lanes_of, fields, union as together, single, tagged, states as in_states}
 use Rattle.abi_tree.specs.Tree.{Tree, Trees, no_trees, more_trees, Variants, no_variants, more_variants, scalar, pair, never, unit, array, vector, struct, union, enum, coroutine}
 use Rattle.rustc_abi.specs.declared.error.LayError.{LayError}
 use Rattle.rustc_abi.specs.Everywhere.{ByThemselves, Everywhere, OfAbsent, OfTaggedVariants, OfEach, OfVariant, Within}
@@ -68,9 +68,9 @@ module _ (dl : TargetDataLayout) (P Q : Tree → Placed → Type 0) (each : (t :
         ((h.0.0, h.0.1, of_each ts (parts_at_0 h.0.0) h.0.2), of_variant others i parts h.1)
 
     of_tagged_variants : (all : Variants) (tagged_variants : TaggedVariants) → OfTaggedVariants dl P all tagged_variants → OfTaggedVariants dl Q all tagged_variants
-    of_tagged_variants no_variants no_tagged_variants h = tt
+    of_tagged_variants no_variants nothing_tagged h = tt
     of_tagged_variants no_variants (tagged_variant number layout mark parts tagged_variants) h = absurd h
-    of_tagged_variants (more_variants d ts others) no_tagged_variants h = absurd h
+    of_tagged_variants (more_variants d ts others) nothing_tagged h = absurd h
     of_tagged_variants (more_variants d ts others) (tagged_variant number layout mark parts tagged_variants) h = (of_each ts parts h.0, of_tagged_variants others tagged_variants h.1)
 
   pub weaker : (t : Tree) (p : Placed) → Everywhere dl P t p → Everywhere dl Q t p
@@ -170,9 +170,9 @@ module _ (dl : TargetDataLayout) (P Q : Tree → Placed → Type 0) (one : (t : 
         ((h.0.0, h.0.1, both_of_each ts (parts_at_0 h.0.0) h.0.2 (of_same ts h.0 k.0)), both_of_variant others i parts h.1 k.1)
 
     both_of_tagged_variants : (all : Variants) (tagged_variants : TaggedVariants) → OfTaggedVariants dl P all tagged_variants → OfTaggedVariants dl Q all tagged_variants → OfTaggedVariants dl Both all tagged_variants
-    both_of_tagged_variants no_variants no_tagged_variants h k = tt
+    both_of_tagged_variants no_variants nothing_tagged h k = tt
     both_of_tagged_variants no_variants (tagged_variant number layout mark parts tagged_variants) h k = absurd h
-    both_of_tagged_variants (more_variants d ts others) no_tagged_variants h k = absurd h
+    both_of_tagged_variants (more_variants d ts others) nothing_tagged h k = absurd h
     both_of_tagged_variants (more_variants d ts others) (tagged_variant number layout mark parts tagged_variants) h k =
         (both_of_each ts parts h.0 k.0, both_of_tagged_variants others tagged_variants h.1 k.1)
 

@@ -17,7 +17,7 @@ use Rattle.abi_scalar.specs.Range.{full_range}
 use Rattle.abi_calc.specs.Coroutine.Lists.{default_repr}
 use Rattle.abi_tree.specs.declared.mark.Mark.TheVariants.{Plain}
 use Rattle.abi_tree.specs.Tree.{Tree, Trees, no_trees, more_trees, no_variants, more_variants, struct, union, enum, array, scalar as number_type}
-use Rattle.abi_tree.specs.Placed.{Placed, layout_of, scalar, fields, union as together, elements, tagged, no_parts, part, no_tagged_variants, tagged_variant, nothing}
+use Rattle.abi_tree.specs.Placed.{Placed, layout_of, scalar, fields, union as together, elements, tagged, no_parts, part, nothing_tagged, tagged_variant, nothing}
 use Rattle.abi_scalar.specs.Layout.{Layout}
 use Rattle.rustc_abi.specs.Laying.{one_scalar}
 use Rattle.reference.specs.Words.{Extent, HasPartForEach, extent_of, extents_of}
@@ -125,7 +125,7 @@ abbrev either_at : (tag first second : Placed) → (at_first at_second size alig
 either_at tag first second at_first at_second size align =
     tagged (sized size align) Plain 0 tag Direct
     (tagged_variant 0 (sized size align) Plain (part at_first first no_parts)
-    (tagged_variant 1 (sized size align) Plain (part at_second second no_parts) no_tagged_variants))
+    (tagged_variant 1 (sized size align) Plain (part at_second second no_parts) nothing_tagged))
 
 -- the least C enum has four bytes, so that none is less
 abbrev tag_c : Placed

@@ -17,7 +17,7 @@ use Rattle.abi_calc.specs.Coroutine.Lists.{default_repr}
 use Rattle.abi_tree.specs.declared.mark.Mark.TheVariants.{Plain}
 use Rattle.abi_tree.specs.Bytes.{bytes_at, number_of}
 use Rattle.abi_tree.specs.Holding.{Holds}
-use Rattle.abi_tree.specs.Placed.{Placed, layout_of, fields, tagged, no_parts, part, no_tagged_variants, tagged_variant}
+use Rattle.abi_tree.specs.Placed.{Placed, layout_of, fields, tagged, no_parts, part, nothing_tagged, tagged_variant}
 use Rattle.abi_tree.specs.Tag.{NamesByNiche}
 use Rattle.abi_tree.specs.Tree.{Tree, no_trees, more_trees, no_variants, more_variants, struct, scalar as number_type}
 use Rattle.abi_tree.specs.Value.{Value, no_values, more_values, number, two, list, variant, state, bytes}
@@ -117,13 +117,13 @@ inner = one_scalar default_data_layout never_zero
 abbrev in_byte : (start : ℕ) → Placed
 in_byte start =
     tagged (sized 1 0) Plain 0 u8 (Niche 1 (record { start = 0; last = 0 }) start)
-    (tagged_variant 0 (sized 1 0) Plain no_parts (tagged_variant 1 (sized 1 0) Plain (part 0 inner no_parts) no_tagged_variants))
+    (tagged_variant 0 (sized 1 0) Plain no_parts (tagged_variant 1 (sized 1 0) Plain (part 0 inner no_parts) nothing_tagged))
 
 -- behind a tag of its own
 abbrev behind_tag : Placed
 behind_tag =
     tagged (sized 2 0) Plain 0 u8 Direct
-    (tagged_variant 0 (sized 1 0) Plain no_parts (tagged_variant 1 (sized 2 0) Plain (part 1 inner no_parts) no_tagged_variants))
+    (tagged_variant 0 (sized 1 0) Plain no_parts (tagged_variant 1 (sized 2 0) Plain (part 1 inner no_parts) nothing_tagged))
 
 either_order : (t : Tree) → IsOption t 0 1 (more_variants 0 no_trees (more_variants 1 (more_trees t no_trees) no_variants))
     × IsOption t 1 0 (more_variants 0 (more_trees t no_trees) (more_variants 1 no_trees no_variants))
@@ -154,7 +154,7 @@ in_niche = record {
   offset = 0;
   tag = u8;
   start = 0;
-  tagged_variants = tagged_variant 0 (sized 1 0) Plain no_parts (tagged_variant 1 (sized 1 0) Plain (part 0 inner no_parts) no_tagged_variants);
+  tagged_variants = tagged_variant 0 (sized 1 0) Plain no_parts (tagged_variant 1 (sized 1 0) Plain (part 0 inner no_parts) nothing_tagged);
   is = refl;
   at = refl;
   first = refl;

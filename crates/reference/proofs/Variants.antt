@@ -36,7 +36,7 @@ use Rattle.abi_calc.specs.declared.enums.strategy.EnumStrategy.{EnumStrategy}
 use Rattle.abi_calc.specs.declared.enums.strategy.EnumStrategy.TheVariants.{NoValue, OneList, Several}
 use Rattle.abi_calc.specs.Enums.Answer.{IsTypeAnswer}
 use Rattle.abi_calc.specs.Enums.Choice.{IsNicheAnswer, preferred_layout, takes_niche}
-use Rattle.abi_calc.specs.Enums.Growth.{moved}
+use Rattle.abi_calc.specs.Enums.Growth.{moved_offset}
 use Rattle.abi_calc.specs.Enums.Lists.{AreListLayouts, behind_tag}
 use Rattle.abi_calc.specs.Enums.Niche.{if_list, if_niche, if_placed, if_span, needing_numbers, layout_in_niche, niche_layout, room_beside, span_count, span_of, untagged_of, variants_from}
 use Rattle.abi_calc.specs.Enums.EnumStrategy.{strategy_of}
@@ -47,7 +47,7 @@ use Rattle.abi_scalar.specs.Reserve.{reserved}
 use Rattle.abi_tree.specs.declared.mark.Mark.{Mark}
 use Rattle.abi_tree.specs.Mark.{mark_of}
 use Rattle.abi_tree.specs.Nodes.{parts_at}
-use Rattle.abi_tree.specs.Placed.{Placed, Parts, no_parts, part, TaggedVariants, no_tagged_variants, tagged_variant, layout_of, size_of, scalar as one_number, pair as two, never as nowhere, elements, vector as lanes_of, fields, union as together, single, tagged, states as in_states}
+use Rattle.abi_tree.specs.Placed.{Placed, Parts, no_parts, part, TaggedVariants, nothing_tagged, tagged_variant, layout_of, size_of, scalar as one_number, pair as two, never as nowhere, elements, vector as lanes_of, fields, union as together, single, tagged, states as in_states}
 use Rattle.abi_scalar.specs.Layout.{Layout}
 use Rattle.abi_tree.specs.Tree.{Tree, Variants, scalar, pair, never, unit, array, vector, struct, union, enum, coroutine}
 use Rattle.rustc_abi.specs.Enums.{IsEnumed, IsTagIntegerAnswer as IsAsking, tagged_variants_at, discriminants_of, layouts_of, numbered_from}
@@ -236,7 +236,7 @@ module _ (dl : TargetDataLayout) (repr : ReprOptions) (numbers : List ℕ) (vari
 -- ---- the arms
 
 abbrev TaggedVariantsBelow : (whole : ℕ) → TaggedVariants → Type 0
-TaggedVariantsBelow whole no_tagged_variants = ⊤
+TaggedVariantsBelow whole nothing_tagged = ⊤
 TaggedVariantsBelow whole (tagged_variant number layout mark parts tagged_variants) = (most_aligned (map extent_of (fields_of parts)) ≤ whole) × TaggedVariantsBelow whole tagged_variants
 
 some_of : (os : List ℕ) (ps : List Placed) → most_aligned (map extent_of (fields_of (parts_at os ps))) ≤ most_aligned (map extent_of ps)
@@ -323,11 +323,11 @@ module _ (dl : TargetDataLayout) where
   moved_by old new a o false is divides fits = fits
 
   behind_aligned : (repr : ReprOptions) (kind : StructKind) (old new whole : ℕ) → repr.pack ≡ None → old ∣ new → (tagged_variants : TaggedVariants)
-      → AreMovedLists dl repr kind (moved old new) tagged_variants → TaggedVariantsBelow whole tagged_variants → AreAlignedIn whole tagged_variants
-  behind_aligned repr kind old new whole loose divides no_tagged_variants h below = tt
+      → AreMovedLists dl repr kind (moved_offset old new) tagged_variants → TaggedVariantsBelow whole tagged_variants → AreAlignedIn whole tagged_variants
+  behind_aligned repr kind old new whole loose divides nothing_tagged h below = tt
   behind_aligned repr kind old new whole loose divides (tagged_variant number layout mark parts tagged_variants) h below = (
     each_aligned dl whole parts
-        (moved_fit (moved old new) whole (λ a o le fits. moved_by old new a o (o == old) refl divides fits) parts h.0.0 h.0.3 below.0
+        (moved_fit (moved_offset old new) whole (λ a o le fits. moved_by old new a o (o == old) refl divides fits) parts h.0.0 h.0.3 below.0
         (list_fits repr kind parts h.0.0 h.0.1 loose h.0.2)) below.0,
     behind_aligned repr kind old new whole loose divides tagged_variants h.1 below.1,
   )
@@ -341,7 +341,7 @@ module _ (dl : TargetDataLayout) where
 
   beside_aligned : (repr : ReprOptions) (place width size untagged from whole : ℕ) → repr.pack ≡ None → (tagged_variants : TaggedVariants)
       → AreListsBeside dl repr place width size untagged from tagged_variants → TaggedVariantsBelow whole tagged_variants → AreAlignedIn whole tagged_variants
-  beside_aligned repr place width size untagged from whole loose no_tagged_variants h below = tt
+  beside_aligned repr place width size untagged from whole loose nothing_tagged h below = tt
   beside_aligned repr place width size untagged from whole loose (tagged_variant number layout mark parts tagged_variants) h below =
       let align : ℕ = align_by dl repr AlwaysSized (types_of parts) in
       let step : 2 ^ align ∣ h.0.0 = multiple_by (from == untagged) place width size h.0.2 align h.0.0 h.0.5 in (

@@ -2,7 +2,7 @@
 use Rattle.std.specs.Prelude.{◌≡◌, ℕ, ◌+◌, ◌≤◌, ⊤, List, [], ◌∷◌, None, IsPermutation}
 use Rattle.std.specs.Int.{◌∣◌}
 use Rattle.abi_tree.specs.Tree.{Tree, struct, union, enum}
-use Rattle.abi_tree.specs.Placed.{Placed, Parts, no_parts, part, TaggedVariants, no_tagged_variants, tagged_variant, fields, single, tagged, parts_in, size_of}
+use Rattle.abi_tree.specs.Placed.{Placed, Parts, no_parts, part, TaggedVariants, nothing_tagged, tagged_variant, fields, single, tagged, parts_in, size_of}
 use Rattle.reference.specs.Words.{HasPartForEach, align_in_bytes}
 
 -- each offset is a multiple of the field's alignment, and the type's alignment is at least the field's
@@ -13,7 +13,7 @@ ArePartsAligned whole (part offset placed parts) =
 
 -- the same of each variant's fields
 abbrev pub AreAlignedIn : (whole : ℕ) → TaggedVariants → Type 0
-AreAlignedIn whole no_tagged_variants = ⊤
+AreAlignedIn whole nothing_tagged = ⊤
 AreAlignedIn whole (tagged_variant number layout mark parts tagged_variants) = ArePartsAligned whole parts × AreAlignedIn whole tagged_variants
 
 -- of structs, unions and enums that aren't packed

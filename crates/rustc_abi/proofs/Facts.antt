@@ -20,7 +20,7 @@ use Rattle.abi_tree.specs.Tree.{Tree, never, struct, enum, coroutine, no_trees, 
 use Rattle.abi_tree.specs.Value.{Value, number, two, list, variant, state, bytes, no_values, more_values}
 use Rattle.abi_tree.specs.Bytes.{picked_bytes}
 use Rattle.abi_tree.specs.declared.mark.Mark.TheVariants.{Plain}
-use Rattle.abi_tree.specs.Placed.{Placed, layout_of, scalar, never as nowhere, fields, union, single, tagged, states, Parts, no_parts, part, TaggedVariants, no_tagged_variants, tagged_variant, nothing}
+use Rattle.abi_tree.specs.Placed.{Placed, layout_of, scalar, never as nowhere, fields, union, single, tagged, states, Parts, no_parts, part, TaggedVariants, nothing_tagged, tagged_variant, nothing}
 use Rattle.abi_scalar.specs.Layout.{Layout}
 use Rattle.abi_tree.specs.Places.{is_data_place}
 use Rattle.abi_tree.specs.Runs.{padding_of, unused_of}
@@ -119,7 +119,7 @@ byte_each = enum plain_c (more_variants 0 (more_trees (number_type (unsigned I8)
 abbrev on_the_tag : Placed
 on_the_tag =
     tagged (sized 2) Plain 0 u8_placed Direct
-    (plain_tagged_variant 0 1 (part 0 u8_placed no_parts) (plain_tagged_variant 1 2 (part 1 u8_placed no_parts) no_tagged_variants))
+    (plain_tagged_variant 0 1 (part 0 u8_placed no_parts) (plain_tagged_variant 1 2 (part 1 u8_placed no_parts) nothing_tagged))
 
 abbrev one_in_first : Value
 one_in_first = variant 0 (more_values (number 1) no_values)
@@ -139,7 +139,7 @@ byte_beside = coroutine (more_trees (number_type (unsigned I8)) no_trees) (more_
 
 abbrev on_the_prefix : Placed
 on_the_prefix =
-    states (sized 2) (part 0 u8_placed no_parts) 1 u8_placed (plain_tagged_variant 0 1 (part 0 u8_placed no_parts) no_tagged_variants)
+    states (sized 2) (part 0 u8_placed no_parts) 1 u8_placed (plain_tagged_variant 0 1 (part 0 u8_placed no_parts) nothing_tagged)
 
 abbrev zero_beside_one : Value
 zero_beside_one = state 0 (more_values (number 0) no_values) (more_values (number 1) no_values)
@@ -155,7 +155,7 @@ prefix_matters held =
 -- ---- a variant that is missing: values come from the tree, so that one of the second variant is to be held, and no bytes hold it
 
 abbrev first_alone : Placed
-first_alone = tagged (sized 2) Plain 0 u8_placed Direct (plain_tagged_variant 0 2 (part 1 u8_placed no_parts) no_tagged_variants)
+first_alone = tagged (sized 2) Plain 0 u8_placed Direct (plain_tagged_variant 0 2 (part 1 u8_placed no_parts) nothing_tagged)
 
 abbrev one_in_second : Value
 one_in_second = variant 1 (more_values (number 1) no_values)
@@ -172,7 +172,7 @@ none_left held =
     bytes_of.2
 
 -- flagged as one that has no values
-flagged_enum : IsFlagTrue default_data_layout byte_each (tagged (record (sized 2) { uninhabited = true }) Plain 0 u8_placed Direct no_tagged_variants) → ⊥
+flagged_enum : IsFlagTrue default_data_layout byte_each (tagged (record (sized 2) { uninhabited = true }) Plain 0 u8_placed Direct nothing_tagged) → ⊥
 flagged_enum h = h one_in_first (one_is_in_all, tt)
 
 -- ---- values: 01 holds the bool 1, and no byte from 02 on holds any
@@ -217,17 +217,17 @@ wrong_view h = is_out 2 (omega arith) (h (2 ∷ []) (number 2) (refl, refl, two_
 abbrev niche : TagEncoding ℕ
 niche = Niche 1 (record { start = 0; last = 0 }) 2
 
-two_names_first : Names niche 1 no_tagged_variants 2 0
+two_names_first : Names niche 1 nothing_tagged 2 0
 two_names_first = inl ((omega arith, omega arith, λ e. absurd (omega (arith, e))), refl)
 
-one_names_second : Names niche 1 no_tagged_variants 1 1
+one_names_second : Names niche 1 nothing_tagged 1 1
 one_names_second = inr (refl, λ other spanned e. absurd (omega (arith, spanned.0, spanned.1, e)))
 
-two_names_no_other : Names niche 1 no_tagged_variants 2 1 → ⊥
+two_names_no_other : Names niche 1 nothing_tagged 2 1 → ⊥
 two_names_no_other (inl h) = h.0.2 refl
 two_names_no_other (inr h) = h.1 0 (omega arith, omega arith, λ e. absurd (omega (arith, e))) refl
 
-one_names_no_other : Names niche 1 no_tagged_variants 1 0 → ⊥
+one_names_no_other : Names niche 1 nothing_tagged 1 0 → ⊥
 one_names_no_other (inl h) = absurd (omega (arith, h.1))
 one_names_no_other (inr h) = absurd (omega (arith, h.0))
 
@@ -237,7 +237,7 @@ one_names_no_other (inr h) = absurd (omega (arith, h.0))
 abbrev by_tag : Placed
 by_tag =
     tagged (sized 2) Plain 0 u8_placed Direct
-    (plain_tagged_variant (2 ^ 128 - 1) 2 (part 1 u8_placed no_parts) (plain_tagged_variant 1 1 no_parts no_tagged_variants))
+    (plain_tagged_variant (2 ^ 128 - 1) 2 (part 1 u8_placed no_parts) (plain_tagged_variant 1 1 no_parts nothing_tagged))
 
 first_held_by_tag : Holds Little by_tag (255 ∷ 7 ∷ []) (variant 0 (more_values (number 7) no_values))
 first_held_by_tag = (refl, omega arith, (refl, refl), ((omega arith, (refl, refl, seven_is_in)), tt))
@@ -259,7 +259,7 @@ none_held_by_tag (bytes content) h = h
 
 abbrev by_niche : Placed
 by_niche =
-    tagged (sized 1) Plain 0 u8_placed niche (plain_tagged_variant 0 1 no_parts (plain_tagged_variant 1 1 (part 0 bool_placed no_parts) no_tagged_variants))
+    tagged (sized 1) Plain 0 u8_placed niche (plain_tagged_variant 0 1 no_parts (plain_tagged_variant 1 1 (part 0 bool_placed no_parts) nothing_tagged))
 
 first_held_by_niche : Holds Little by_niche (2 ∷ []) (variant 0 no_values)
 first_held_by_niche = (refl, omega arith, two_names_first, tt)
@@ -267,7 +267,7 @@ first_held_by_niche = (refl, omega arith, two_names_first, tt)
 second_held_by_niche : Holds Little by_niche (1 ∷ []) (variant 1 (more_values (number 1) no_values))
 second_held_by_niche = (refl, omega arith, one_names_second, ((omega arith, (refl, refl, one_is_in)), tt))
 
-three_names_no_first : Names niche 1 no_tagged_variants 3 0 → ⊥
+three_names_no_first : Names niche 1 nothing_tagged 3 0 → ⊥
 three_names_no_first (inl h) = absurd (omega (arith, h.1))
 three_names_no_first (inr h) = absurd (omega (arith, h.0))
 
@@ -286,7 +286,7 @@ none_held_by_niche (bytes content) h = h
 -- ---- an untagged variant with a byte in the bool's place: where the byte is 2, it names the other variant
 
 byte_names_other :
-    NamesItself Little 0 u8_placed niche (plain_tagged_variant 0 1 no_parts (plain_tagged_variant 1 1 (part 0 u8_placed no_parts) no_tagged_variants)) → ⊥
+    NamesItself Little 0 u8_placed niche (plain_tagged_variant 0 1 no_parts (plain_tagged_variant 1 1 (part 0 u8_placed no_parts) nothing_tagged)) → ⊥
 byte_names_other h = two_names_no_other (h (2 ∷ []) (more_values (number 2) no_values) ((omega arith, (refl, refl, two_is_in_all)), tt))
 
 -- ---- an enum of which one variant is left: a bool's numbers hold it, and 2 holds nothing
@@ -333,7 +333,7 @@ field_missing h =
 abbrev two_states : Placed
 two_states =
     states (sized 2) no_parts 0 u8_placed
-    (plain_tagged_variant 0 2 (part 1 u8_placed no_parts) (plain_tagged_variant 1 2 (part 1 bool_placed no_parts) no_tagged_variants))
+    (plain_tagged_variant 0 2 (part 1 u8_placed no_parts) (plain_tagged_variant 1 2 (part 1 bool_placed no_parts) nothing_tagged))
 
 first_state_held : Holds Little two_states (0 ∷ 7 ∷ []) (state 0 no_values (more_values (number 7) no_values))
 first_state_held = (refl, tt, omega arith, (refl, refl), ((omega arith, (refl, refl, seven_is_in)), tt))
@@ -379,7 +379,7 @@ abbrev two_variants : Placed
 two_variants =
     tagged (sized 8) Plain 0 u8_placed Direct
     (plain_tagged_variant 0 2 (part 1 u8_placed no_parts)
-    (plain_tagged_variant 1 8 (part 4 (scalar (sized 4) (unsigned I32)) no_parts) no_tagged_variants))
+    (plain_tagged_variant 1 8 (part 4 (scalar (sized 4) (unsigned I32)) no_parts) nothing_tagged))
 
 padding_of_variants : padding_of two_variants ≡ (2, 2) ∷ []
 padding_of_variants = refl
@@ -404,7 +404,7 @@ abbrev suspended : Placed
 suspended =
     states (sized 8) (part 0 u8_placed no_parts) 1 u8_placed
     (plain_tagged_variant 0 3 (part 2 u8_placed no_parts)
-    (plain_tagged_variant 1 8 (part 4 (scalar (sized 4) (unsigned I32)) no_parts) no_tagged_variants))
+    (plain_tagged_variant 1 8 (part 4 (scalar (sized 4) (unsigned I32)) no_parts) nothing_tagged))
 
 padding_of_states : padding_of suspended ≡ (3, 1) ∷ []
 padding_of_states = refl

@@ -7,7 +7,7 @@ use Rattle.abi_tree.specs.declared.node.Node.{Node}
 use Rattle.abi_tree.specs.Tree.{Tree, array, vector, struct, union, enum, coroutine}
 use Rattle.abi_tree.specs.Tree.{Trees, no_trees, more_trees, Variants, no_variants, more_variants}
 use Rattle.abi_tree.specs.Placed.{Placed, pair as two, vector as lanes_of_vector, tagged, states as placed_states}
-use Rattle.abi_tree.specs.Placed.{TaggedVariants, no_tagged_variants, tagged_variant, layout_of}
+use Rattle.abi_tree.specs.Placed.{TaggedVariants, nothing_tagged, tagged_variant, layout_of}
 use Rattle.abi_tree.specs.Deciding.{are_inhabited}
 use Rattle.abi_tree.specs.Nodes.{placed_at}
 use Rattle.rustc_abi.specs.Inhabited.{AreInhabited, EachInhabited, VariantsInhabited}
@@ -15,7 +15,7 @@ use Rattle.rustc_abi.specs.Laying.{IsLaying}
 
 -- how many variants or states stand beside a tag
 abbrev pub tagged_variant_count : TaggedVariants → ℕ
-tagged_variant_count no_tagged_variants = 0
+tagged_variant_count nothing_tagged = 0
 tagged_variant_count (tagged_variant number layout mark parts tagged_variants) = tagged_variant_count tagged_variants + 1
 
 -- the nodes that a laid-out type has beside those of the types in it: one, two for a vector, three for a pair, and with a

@@ -21,7 +21,7 @@ use Rattle.abi_calc.specs.Enums.EnumStrategy.{strategy_of}
 use Rattle.rustc_abi.specs.declared.error.LayError.{LayError}
 use Rattle.abi_tree.specs.Tree.{Variants, no_variants, more_variants}
 use Rattle.abi_tree.specs.declared.mark.Mark.{Mark}
-use Rattle.abi_tree.specs.Placed.{Placed, layout_of, TaggedVariants, no_tagged_variants, tagged_variant}
+use Rattle.abi_tree.specs.Placed.{Placed, layout_of, TaggedVariants, nothing_tagged, tagged_variant}
 use Rattle.abi_scalar.specs.Layout.{Layout}
 use Rattle.abi_tree.specs.Nodes.{parts_at}
 use Rattle.rustc_abi.specs.Error.{lay_error}
@@ -112,4 +112,4 @@ abbrev pub tagged_variants_at : (whole : Layout) → Mark → (index : ℕ) → 
 tagged_variants_at whole mark i (layout ∷ layouts) (n ∷ numbers) (fields ∷ variants) =
     tagged_variant n (variant_layout whole i layout) mark (parts_at layout.field_offsets fields)
     (tagged_variants_at whole mark (i + 1) layouts numbers variants)
-tagged_variants_at whole mark i _ _ _ = no_tagged_variants
+tagged_variants_at whole mark i _ _ _ = nothing_tagged

@@ -6,7 +6,7 @@ use Rattle.abi_tree.specs.Laid.{placed_of}
 use Rattle.abi_tree.specs.Tree.{Tree, scalar, pair, never, unit, array, vector, struct, union, enum, coroutine}
 use Rattle.abi_tree.specs.Tree.{Trees, no_trees, more_trees, Variants, no_variants, more_variants}
 use Rattle.abi_tree.specs.Placed.{Placed, never as nowhere, single, tagged, states as placed_states, Parts, TaggedVariants}
-use Rattle.abi_tree.specs.Placed.{no_tagged_variants, tagged_variant}
+use Rattle.abi_tree.specs.Placed.{nothing_tagged, tagged_variant}
 use Rattle.abi_tree.specs.Placed.{element_of, parts_in, first_part, more_parts}
 use Rattle.abi_tree.specs.Nodes.{parts_at_0, placed_in}
 use Rattle.rustc_abi.specs.Laying.{AreLaying}
@@ -18,7 +18,7 @@ ByThemselves dl ts each = (ps : List Placed) × AreLaying dl ts (Ok ps) × each 
 
 -- each state has those of these locals that it holds, and no other
 abbrev pub HaveLocals : (locals : List Placed) → (states : List (List ℕ)) → TaggedVariants → Type 0
-HaveLocals locals [] no_tagged_variants = ⊤
+HaveLocals locals [] nothing_tagged = ⊤
 HaveLocals locals (state ∷ states) (tagged_variant number layout mark parts tagged_variants) =
     (fields_of parts ≡ map (placed_in locals) state) × HaveLocals locals states tagged_variants
 HaveLocals locals _ _ = ⊥
@@ -64,7 +64,7 @@ module _ (dl : TargetDataLayout) (P : Tree → Placed → Type 0) where
 
     -- of each field of each variant beside a tag
     pub OfTaggedVariants : Variants → TaggedVariants → Type 0
-    OfTaggedVariants no_variants no_tagged_variants = ⊤
+    OfTaggedVariants no_variants nothing_tagged = ⊤
     OfTaggedVariants (more_variants discriminant ts others) (tagged_variant number layout mark parts tagged_variants) =
         OfEach ts parts × OfTaggedVariants others tagged_variants
     OfTaggedVariants _ _ = ⊥

@@ -23,7 +23,7 @@ use Rattle.abi_tree.specs.Tree.{no_trees, more_trees, Variants, no_variants, mor
 use Rattle.abi_tree.specs.Placed.{Placed, scalar as one_number, pair as two, never as nowhere, elements}
 use Rattle.abi_tree.specs.Placed.{vector as lanes_of_vector, fields, union as together, single, tagged}
 use Rattle.abi_tree.specs.Placed.{states as placed_states}
-use Rattle.abi_tree.specs.Placed.{Parts, no_parts, part, TaggedVariants, no_tagged_variants, tagged_variant, element_of, layout_of, size_of}
+use Rattle.abi_tree.specs.Placed.{Parts, no_parts, part, TaggedVariants, nothing_tagged, tagged_variant, element_of, layout_of, size_of}
 use Rattle.rustc_abi.specs.ScalarFault.{scalar_fault}
 use Rattle.rustc_abi.specs.Coroutines.{conflicts_of}
 use Rattle.rustc_abi.specs.Enums.{IsTagIntegerAnswer, counted, discriminants_of, layouts_of}
@@ -37,7 +37,7 @@ fields_of (part offset placed parts) = placed ∷ fields_of parts
 
 -- the laid-out fields of variants beside a tag
 abbrev pub fields_of_tagged_variants : TaggedVariants → List (List Placed)
-fields_of_tagged_variants no_tagged_variants = []
+fields_of_tagged_variants nothing_tagged = []
 fields_of_tagged_variants (tagged_variant number layout mark parts tagged_variants) = fields_of parts ∷ fields_of_tagged_variants tagged_variants
 
 -- several variants with these discriminants have the size that their lists allow: with a niche, where these leave room for one, else

@@ -14,14 +14,14 @@ use Rattle.abi_calc.specs.Coroutine.Lists.{default_repr, first_list, own_list}
 use Rattle.abi_calc.specs.Coroutine.Promotion.{promoted_of}
 use Rattle.abi_calc.specs.Coroutine.Sizes.{behind_first}
 use Rattle.abi_calc.specs.Coroutine.States.{state_offsets}
-use Rattle.abi_calc.specs.Enums.Growth.{moved}
+use Rattle.abi_calc.specs.Enums.Growth.{moved_offset}
 use Rattle.abi_calc.specs.Enums.Lists.{behind_tag}
 use Rattle.abi_calc.specs.Enums.Several.{IsAskedFor}
 use Rattle.abi_univariant.specs.Least.{IsLeastSize, IsPlacedBy, align_by}
 use Rattle.abi_tree.specs.Tree.{Tree, struct, enum, coroutine}
 use Rattle.abi_tree.specs.Placed.{Placed, fields, single, tagged, states as placed_states}
 use Rattle.abi_scalar.specs.Layout.{Layout}
-use Rattle.abi_tree.specs.Placed.{Parts, no_parts, part, TaggedVariants, no_tagged_variants, tagged_variant, layout_of, size_of}
+use Rattle.abi_tree.specs.Placed.{Parts, no_parts, part, TaggedVariants, nothing_tagged, tagged_variant, layout_of, size_of}
 use Rattle.rustc_abi.specs.Coroutines.{conflicts_of}
 use Rattle.rustc_abi.specs.Enums.{IsTagIntegerAnswer, counted, discriminants_of, layouts_of}
 use Rattle.rustc_abi.specs.Laying.{AreLaying, kind_of}
@@ -48,7 +48,7 @@ pub record IsLeastList (dl : TargetDataLayout) (repr : ReprOptions) (kind : Stru
 
 -- each variant comes from such a list, each of whose fields is moved so
 abbrev pub AreMovedLists : TargetDataLayout → ReprOptions → StructKind → (move : ℕ → ℕ) → TaggedVariants → Type 0
-AreMovedLists dl repr kind move no_tagged_variants = ⊤
+AreMovedLists dl repr kind move nothing_tagged = ⊤
 AreMovedLists dl repr kind move (tagged_variant number layout mark parts tagged_variants) =
     ((offsets : List ℕ) × (size : ℕ) × IsLeastList dl repr kind (types_of parts) offsets size
     × (offsets_of parts ≡ map move offsets))
@@ -65,7 +65,7 @@ MayMove place width whole size align by =
 -- beside its niche
 abbrev pub AreListsBeside : TargetDataLayout → ReprOptions → (place width whole : ℕ) → (untagged from : ℕ) → TaggedVariants
     → Type 0
-AreListsBeside dl repr place width whole untagged from no_tagged_variants = ⊤
+AreListsBeside dl repr place width whole untagged from nothing_tagged = ⊤
 AreListsBeside dl repr place width whole untagged from (tagged_variant number layout mark parts tagged_variants) =
     ((by : ℕ) × (offsets : List ℕ) × (size : ℕ) × IsLeastList dl repr AlwaysSized (types_of parts) offsets size
     × (offsets_of parts ≡ map (λ o. by + o) offsets)
@@ -83,7 +83,7 @@ AreLeastVariants dl repr numbers whole place tag Direct tagged_variants =
     × IsAskedFor dl repr (IsTagIntegerAnswer dl repr) (counted repr numbers (fields_of_tagged_variants tagged_variants)) asked signed
     × (integer_size asked ≤ size_of tag)
     × AreMovedLists dl repr (behind_tag dl repr asked (layouts_of (fields_of_tagged_variants tagged_variants)))
-    (moved (integer_size asked) (size_of tag)) tagged_variants
+    (moved_offset (integer_size asked) (size_of tag)) tagged_variants
 AreLeastVariants dl repr numbers whole place tag (Niche untagged span start) tagged_variants =
     AreListsBeside dl repr place (size_of tag) whole untagged 0 tagged_variants
 
@@ -92,7 +92,7 @@ AreLeastVariants dl repr numbers whole place tag (Niche untagged span start) tag
 -- each state comes from a list of its other locals, of this kind; promoted ones lie at these offsets, by rank
 abbrev pub AreStateLists : TargetDataLayout → StructKind → (locals : List Layout) → (promoted : List Bool)
     → (shared : List ℕ) → (states : List (List ℕ)) → TaggedVariants → Type 0
-AreStateLists dl kind locals promoted shared [] no_tagged_variants = ⊤
+AreStateLists dl kind locals promoted shared [] nothing_tagged = ⊤
 AreStateLists dl kind locals promoted shared (state ∷ states) (tagged_variant number layout mark parts tagged_variants) =
     ((own : List ℕ) × (size : ℕ) × IsLeastList dl default_repr kind (own_list locals promoted state) own size
     × (offsets_of parts ≡ state_offsets promoted shared own state))

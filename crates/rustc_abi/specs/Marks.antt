@@ -10,7 +10,7 @@ use Rattle.abi_tree.specs.declared.mark.Mark.{Mark}
 use Rattle.abi_tree.specs.declared.mark.Mark.TheVariants.{Never, Plain, Unit}
 use Rattle.abi_tree.specs.Mark.{mark_of}
 use Rattle.abi_tree.specs.Tree.{Tree, never, unit, struct, union, enum, coroutine}
-use Rattle.abi_tree.specs.Placed.{Placed, never as nowhere, fields, union as together, single, tagged, TaggedVariants, no_tagged_variants}
+use Rattle.abi_tree.specs.Placed.{Placed, never as nowhere, fields, union as together, single, tagged, TaggedVariants, nothing_tagged}
 use Rattle.abi_tree.specs.Placed.{tagged_variant, states as placed_states, layout_of}
 use Rattle.rustc_abi.specs.Aligns.{IsKindOfVariants, repr_with}
 use Rattle.rustc_abi.specs.Coroutines.{conflicts_of}
@@ -21,7 +21,7 @@ use Rattle.rustc_abi.specs.Lists.{types_of}
 
 -- each variant or state says this of itself
 abbrev pub AreMarked : Mark → TaggedVariants → Type 0
-AreMarked mark no_tagged_variants = ⊤
+AreMarked mark nothing_tagged = ⊤
 AreMarked mark (tagged_variant number layout own parts tagged_variants) = (own ≡ mark) × AreMarked mark tagged_variants
 
 module _ (dl : TargetDataLayout) where

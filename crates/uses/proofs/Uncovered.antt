@@ -15,7 +15,7 @@ use Rattle.abi_tree.specs.Covering.{are_covered, each_covered, is_tagged_variant
 use Rattle.abi_tree.specs.Holding.{HoldTaggedVariant, HoldEach, HoldParts, Holds, IsAt, tag_at}
 use Rattle.abi_tree.specs.Laid.{endian_of, placed_of}
 use Rattle.abi_tree.specs.OfTree.{IsOfTree}
-use Rattle.abi_tree.specs.Placed.{Placed, scalar, pair, never, elements, vector, fields, union, single, tagged, states, Parts, no_parts, part, TaggedVariants, no_tagged_variants, tagged_variant, size_of}
+use Rattle.abi_tree.specs.Placed.{Placed, scalar, pair, never, elements, vector, fields, union, single, tagged, states, Parts, no_parts, part, TaggedVariants, nothing_tagged, tagged_variant, size_of}
 use Rattle.abi_tree.specs.Places.{is_data_place}
 use Rattle.abi_tree.specs.Reading.{Finds, KeepsValues}
 use Rattle.abi_tree.specs.Tag.{Names}
@@ -199,7 +199,7 @@ module _ (order : Endian) where
         )
 
     rests_tagged_variant : (tagged_variants : TaggedVariants) (i : ℕ) (vs : Values) → UntaggedNamedOfTaggedVariants order tagged_variants → RestsOn (is_tagged_variant_covered tagged_variants i vs) (λ b. HoldTaggedVariant order tagged_variants i b vs)
-    rests_tagged_variant no_tagged_variants i vs u b w same h = absurd h
+    rests_tagged_variant nothing_tagged i vs u b w same h = absurd h
     rests_tagged_variant (tagged_variant code layout mark parts tagged_variants) zero vs u b w same h = rests_parts parts vs u.0 b w same h
     rests_tagged_variant (tagged_variant code layout mark parts tagged_variants) (suc i) vs u b w same h = rests_tagged_variant tagged_variants i vs u.1 b w same h
 

@@ -25,7 +25,7 @@ use Rattle.abi_univariant.specs.Apart.{AreAligned}
 use Rattle.abi_univariant.specs.List.{IsUnivariantAnswer}
 use Rattle.abi_univariant.specs.Part.{parts_of}
 use Rattle.abi_univariant.specs.Placement.{IsNonEmptyIfUnsized, IsSized, cut, fields_repr, prefix_align}
-use Rattle.abi_univariant.proofs.Promised.LeastLemmas.{ascends, biased, has_places, lies_aligned, lies_in_order}
+use Rattle.abi_univariant.proofs.Promised.LeastLemmas.{ascends, niche_by_bias, has_places, lies_aligned, lies_in_order}
 use Rattle.abi_univariant.proofs.Sorted.Least.{allowed_permutes}
 use Rattle.abi_univariant.proofs.Offsets.Rounding.{pow_dvd, rounded_to}
 use Rattle.abi_univariant.proofs.Sorted.Sorting.{within_order}
@@ -206,7 +206,7 @@ module _ {F V H : Type 0} (layout_of : H → LayoutData F V) (at : ℕ → F) (n
   -- a field's alignment is no greater than its list's
   below_list : (v : List H) (l : LayoutData F V) → IsUnivariantAnswer layout_of at first dl repr kind v (Ok l) → All (λ a. a ≤ l.align.abi) (map (λ f. f.align.abi) (map layout_of v))
   below_list v l (order, offsets, r) =
-      let b = biased layout_of at first dl repr kind v order offsets l r in
+      let b = niche_by_bias layout_of at first dl repr kind v order offsets l r in
       let all = greatest_above (λ (p : Part). cut repr.pack p.align) (max (fields_repr dl repr kind).align (prefix_align repr.pack kind)) (parts_of dl (map layout_of v)) in
       subst (All (λ a. a ≤ l.align.abi)) (uncut_parts v) (All-map (λ a. a ≤ l.align.abi) (λ (p : Part). cut repr.pack p.align) (parts_of dl (map layout_of v)) (λ k d short. omega (arith, all k d short, b.placed.alignment)))
     where

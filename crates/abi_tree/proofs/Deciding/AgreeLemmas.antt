@@ -9,7 +9,7 @@ use Rattle.abi_scalar.specs.declared.variants.TagEncoding.{TagEncoding}
 use Rattle.abi_scalar.specs.declared.variants.TagEncoding.TheVariants.{Direct, Niche}
 use Rattle.abi_tree.specs.Bytes.{AreBytes, bytes_at, number_of}
 use Rattle.abi_tree.specs.Value.{Value, number, two, list, variant, state, bytes, Values, no_values, more_values}
-use Rattle.abi_tree.specs.Placed.{Placed, scalar, pair, never, elements, vector, fields, union, single, tagged, states, Parts, no_parts, part, TaggedVariants, no_tagged_variants, tagged_variant, size_of}
+use Rattle.abi_tree.specs.Placed.{Placed, scalar, pair, never, elements, vector, fields, union, single, tagged, states, Parts, no_parts, part, TaggedVariants, nothing_tagged, tagged_variant, size_of}
 use Rattle.abi_tree.specs.Places.{is_data_place}
 use Rattle.abi_tree.specs.Tag.{Names, NamesDirectly}
 use Rattle.abi_tree.specs.Holding.{IsAt, HoldEach, Holds, HoldParts, HoldTaggedVariant, tag_at}
@@ -67,7 +67,7 @@ agree_each P covered n same offset (more_values v vs) b w bb bw h g =
 
 -- numbers that name one tagged variant directly are equal
 one_direct : (width : ℕ) (tagged_variants : TaggedVariants) (t s i : ℕ) → NamesDirectly width tagged_variants t i → NamesDirectly width tagged_variants s i → t ≡ s
-one_direct width no_tagged_variants t s i h g = absurd h
+one_direct width nothing_tagged t s i h g = absurd h
 one_direct width (tagged_variant code layout mark parts tagged_variants) t s zero h g = sym h.1 ∙ g.1
 one_direct width (tagged_variant code layout mark parts tagged_variants) t s (suc i) h g = one_direct width tagged_variants t s i h g
 
@@ -143,7 +143,7 @@ module _ (order : Endian) where
 
     -- and with the parts of a tagged variant
     agree_tagged_variant : (tagged_variants : TaggedVariants) (i : ℕ) (vs : Values) → AgreeIn (is_tagged_variant_covered tagged_variants i vs) (λ b. HoldTaggedVariant order tagged_variants i b vs)
-    agree_tagged_variant no_tagged_variants i vs b w bb bw h g = absurd h
+    agree_tagged_variant nothing_tagged i vs b w bb bw h g = absurd h
     agree_tagged_variant (tagged_variant code layout mark parts tagged_variants) zero vs b w bb bw h g = agree_parts parts vs b w bb bw h g
     agree_tagged_variant (tagged_variant code layout mark parts tagged_variants) (suc i) vs b w bb bw h g = agree_tagged_variant tagged_variants i vs b w bb bw h g
 

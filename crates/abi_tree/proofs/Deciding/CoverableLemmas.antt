@@ -8,7 +8,7 @@ use Rattle.abi_scalar.specs.declared.scalar.Scalar.{Scalar}
 use Rattle.abi_scalar.specs.declared.variants.TagEncoding.{TagEncoding}
 use Rattle.abi_scalar.specs.declared.variants.TagEncoding.TheVariants.{Direct, Niche}
 use Rattle.abi_tree.specs.declared.mark.Mark.{Mark}
-use Rattle.abi_tree.specs.Placed.{Placed, scalar, pair, never, elements, vector, fields, union, single, tagged, states, Parts, no_parts, part, TaggedVariants, no_tagged_variants, tagged_variant, size_of}
+use Rattle.abi_tree.specs.Placed.{Placed, scalar, pair, never, elements, vector, fields, union, single, tagged, states, Parts, no_parts, part, TaggedVariants, nothing_tagged, tagged_variant, size_of}
 use Rattle.abi_scalar.specs.Layout.{Layout}
 use Rattle.abi_tree.specs.Places.{is_data_place, is_place_of_tagged_variant, is_place_of_part}
 use Rattle.abi_tree.specs.Room.{tagged_variants_have_room, has_room, have_room}
@@ -26,7 +26,7 @@ PartsCover no_parts = ⊤
 PartsCover (part offset p parts) = Covers p × PartsCover parts
 
 abbrev pub TaggedVariantsCover : TaggedVariants → Type 0
-TaggedVariantsCover no_tagged_variants = ⊤
+TaggedVariantsCover nothing_tagged = ⊤
 TaggedVariantsCover (tagged_variant code layout mark parts tagged_variants) = PartsCover parts × TaggedVariantsCover tagged_variants
 
 -- a place of what lies at an offset, and is as large as n bytes
@@ -57,7 +57,7 @@ parts_covered size (part o p parts) k covers room place =
 -- the first tagged variant that has the place covers it
 tagged_variants_covered : (size : ℕ) (tagged_variants : TaggedVariants) (k from otherwise : ℕ) → TaggedVariantsCover tagged_variants → tagged_variants_have_room size tagged_variants ≡ true → is_place_of_tagged_variant tagged_variants k ≡ true →
     (j : ℕ) × (first_with tagged_variants k from otherwise ≡ from + j) × (is_tagged_variant_covered tagged_variants j (tagged_variant_values tagged_variants j (Some k)) k ≡ true)
-tagged_variants_covered size no_tagged_variants k from otherwise covers room place = absurd (true≢false (sym place))
+tagged_variants_covered size nothing_tagged k from otherwise covers room place = absurd (true≢false (sym place))
 tagged_variants_covered size (tagged_variant code layout mark parts tagged_variants) k from otherwise covers room place =
     let both = and_parts (have_room size parts) (tagged_variants_have_room size tagged_variants) room in
     ⊎_elim
@@ -75,7 +75,7 @@ tagged_variants_covered size (tagged_variant code layout mark parts tagged_varia
 
 -- where none has it, another index is answered
 none_with : (tagged_variants : TaggedVariants) (k from otherwise : ℕ) → is_place_of_tagged_variant tagged_variants k ≡ false → first_with tagged_variants k from otherwise ≡ otherwise
-none_with no_tagged_variants k from otherwise none = refl
+none_with nothing_tagged k from otherwise none = refl
 none_with (tagged_variant code layout mark parts tagged_variants) k from otherwise none =
     let each = or_parts (is_place_of_part parts k) (is_place_of_tagged_variant tagged_variants k) none in
     ap (λ b. if b then from else first_with tagged_variants k (from + 1) otherwise) each.0 ∙ none_with tagged_variants k (from + 1) otherwise each.1

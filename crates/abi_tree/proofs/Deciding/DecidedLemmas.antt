@@ -9,7 +9,7 @@ use Rattle.abi_scalar.specs.declared.variants.TagEncoding.{TagEncoding}
 use Rattle.abi_scalar.specs.declared.variants.TagEncoding.TheVariants.{Direct, Niche}
 use Rattle.abi_tree.specs.Bytes.{bytes_at, number_of}
 use Rattle.abi_tree.specs.Value.{Value, number, two, list, variant, state, bytes, Values, no_values, more_values}
-use Rattle.abi_tree.specs.Placed.{Placed, scalar, pair, never, elements, vector, fields, union, single, tagged, states, Parts, no_parts, part, TaggedVariants, no_tagged_variants, tagged_variant, size_of}
+use Rattle.abi_tree.specs.Placed.{Placed, scalar, pair, never, elements, vector, fields, union, single, tagged, states, Parts, no_parts, part, TaggedVariants, nothing_tagged, tagged_variant, size_of}
 use Rattle.abi_tree.specs.Places.{is_data_place}
 use Rattle.abi_tree.specs.Tag.{Names, NamesDirectly, NamesByNiche}
 use Rattle.abi_tree.specs.Holding.{IsAt, HoldEach, Holds, HoldParts, HoldTaggedVariant, tag_at}
@@ -144,6 +144,6 @@ module _ (order : Endian) where
     -- and with the parts of a tagged variant
     decides_tagged_variant : (tagged_variants : TaggedVariants) → UntaggedNamedOfTaggedVariants order tagged_variants → (i : ℕ) (vs : Values) (b w : List ℕ) → length w ≡ length b → HoldTaggedVariant order tagged_variants i b vs →
         ((k : ℕ) → is_tagged_variant_covered tagged_variants i vs k ≡ true → get_or w k 0 ≡ get_or b k 0) → HoldTaggedVariant order tagged_variants i w vs
-    decides_tagged_variant no_tagged_variants named i vs b w long h same = absurd h
+    decides_tagged_variant nothing_tagged named i vs b w long h same = absurd h
     decides_tagged_variant (tagged_variant code layout mark parts tagged_variants) named zero vs b w long h same = decides_parts parts named.0 vs b w long h same
     decides_tagged_variant (tagged_variant code layout mark parts tagged_variants) named (suc i) vs b w long h same = decides_tagged_variant tagged_variants named.1 i vs b w long h same

@@ -5,7 +5,7 @@ use Rattle.std.proofs.lemmas.Bool.{ltb-true, leb-true, eqb-true, and_parts, or_c
 use Rattle.std.proofs.lemmas.List.Elements.{All-nil, All-cons}
 use Rattle.std.proofs.lemmas.Nat.{mul-add-lt}
 use Rattle.std.proofs.Math.Bool.{or-true}
-use Rattle.abi_tree.specs.Placed.{Placed, scalar, pair, never, elements, vector, fields, union, single, tagged, states, Parts, no_parts, part, TaggedVariants, no_tagged_variants, tagged_variant, size_of, nothing}
+use Rattle.abi_tree.specs.Placed.{Placed, scalar, pair, never, elements, vector, fields, union, single, tagged, states, Parts, no_parts, part, TaggedVariants, nothing_tagged, tagged_variant, size_of, nothing}
 use Rattle.abi_scalar.specs.Layout.{Layout}
 use Rattle.abi_tree.specs.Places.{is_data_place, is_place_of_part, is_place_of_tagged_variant}
 use Rattle.abi_tree.specs.Room.{has_room, have_room, tagged_variants_have_room}
@@ -78,7 +78,7 @@ mutual
       (or_cases (nat_le offset k && is_data_place placed (k - offset)) (is_place_of_part parts k) place)
 
   within_tagged_variants : (size : ℕ) (tagged_variants : TaggedVariants) (k : ℕ) → tagged_variants_have_room size tagged_variants ≡ true → is_place_of_tagged_variant tagged_variants k ≡ true → k < size
-  within_tagged_variants size no_tagged_variants k room place = absurd (cc)
+  within_tagged_variants size nothing_tagged k room place = absurd (cc)
   within_tagged_variants size (tagged_variant number layout mark parts tagged_variants) k room place =
       let both = and_parts (have_room size parts) (tagged_variants_have_room size tagged_variants) room in
       ⊎_elim (within_have size parts k both.0) (within_tagged_variants size tagged_variants k both.1) (or_cases (is_place_of_part parts k) (is_place_of_tagged_variant tagged_variants k) place)

@@ -10,7 +10,7 @@ use Rattle.abi_scalar.specs.Variant.{variant_layout}
 use Rattle.abi_univariant.specs.Apart.{AreApart, IsBeside}
 use Rattle.abi_tree.specs.Tree.{Trees, no_trees, more_trees}
 use Rattle.abi_tree.specs.declared.mark.Mark.TheVariants.{Plain}
-use Rattle.abi_tree.specs.Placed.{Placed, TaggedVariants, no_tagged_variants, tagged_variant, size_of}
+use Rattle.abi_tree.specs.Placed.{Placed, TaggedVariants, nothing_tagged, tagged_variant, size_of}
 use Rattle.abi_scalar.specs.Layout.{Layout}
 use Rattle.abi_tree.specs.Values.{LocalsHaveValues, LocalsOfEach}
 use Rattle.abi_tree.specs.Room.{tagged_variants_have_room}
@@ -37,7 +37,7 @@ abbrev pub state_tagged_variants : (whole : Layout) → List (VariantLayout ℕ)
 state_tagged_variants whole (l ∷ layouts) ps from (ks ∷ all) =
     tagged_variant from (variant_layout whole from l) Plain (parts_at l.field_offsets (picked_types ps ks))
     (state_tagged_variants whole layouts ps (from + 1) all)
-state_tagged_variants whole _ ps from _ = no_tagged_variants
+state_tagged_variants whole _ ps from _ = nothing_tagged
 
 -- they are the variants with the indices as numbers
 pub state_tagged_variants_at : (whole : Layout) (layouts : List (VariantLayout ℕ)) (ps : List Placed) (from : ℕ) (all : List (List ℕ))

@@ -11,7 +11,7 @@ use Rattle.abi_scalar.specs.Scalar.{IsNumberOf}
 use Rattle.abi_tree.specs.Tree.{Tree, never, Trees, no_trees, more_trees}
 use Rattle.abi_tree.specs.Bytes.{AreBytes, bytes_at, number_of}
 use Rattle.abi_tree.specs.Value.{Value, Values, no_values, more_values}
-use Rattle.abi_tree.specs.Placed.{Placed, Parts, no_parts, part, TaggedVariants, no_tagged_variants, tagged_variant, size_of, parts_of_tagged_variant}
+use Rattle.abi_tree.specs.Placed.{Placed, Parts, no_parts, part, TaggedVariants, nothing_tagged, tagged_variant, size_of, parts_of_tagged_variant}
 use Rattle.abi_tree.specs.Places.{is_place_of_part, is_place_of_tagged_variant}
 use Rattle.abi_tree.specs.Tag.{NamesDirectly}
 use Rattle.abi_tree.specs.Values.{EachAt, IsValueOf, AreValuesOf, IsValueAt}
@@ -71,7 +71,7 @@ AreBeside (part o placed parts) others = LieBeside o (size_of placed) others × 
 -- each tagged variant has its state's index as number, counted from the first one's on, and its state's locals, which fit together, beside a
 -- tag of w bytes at the offset and beside the prefix fields
 abbrev pub StateTaggedVariantsFit : TargetDataLayout → (size offset w : ℕ) → (prefix : Parts) → (locals : Trees) → (from : ℕ) → List (List ℕ) → TaggedVariants → Type 0
-StateTaggedVariantsFit dl size offset w prefix locals from [] no_tagged_variants = ⊤
+StateTaggedVariantsFit dl size offset w prefix locals from [] nothing_tagged = ⊤
 StateTaggedVariantsFit dl size offset w prefix locals from (ks ∷ more) (tagged_variant n layout mark parts tagged_variants) =
     (n ≡ from) × FitTogether dl size (picked_trees locals ks) parts × LieBeside offset w parts × AreBeside prefix parts
     × StateTaggedVariantsFit dl size offset w prefix locals (from + 1) more tagged_variants
@@ -94,9 +94,9 @@ module _ (dl : TargetDataLayout) (size offset w : ℕ) (prefix : Parts) (locals 
   -- the tagged variants have numbers of the tag where the states' indices are such
   pub states_numbers : (from : ℕ) (all : List (List ℕ)) (tagged_variants : TaggedVariants) → StateTaggedVariantsFit dl size offset w prefix locals from all tagged_variants →
       ((i : ℕ) → i < length all → IsNumberOf w tag (from + i)) → HaveNumbers w tag tagged_variants
-  states_numbers from [] no_tagged_variants fit numbers = tt
+  states_numbers from [] nothing_tagged fit numbers = tt
   states_numbers from [] (tagged_variant n layout mark parts tagged_variants) fit numbers = absurd fit
-  states_numbers from (ks ∷ all) no_tagged_variants fit numbers = absurd fit
+  states_numbers from (ks ∷ all) nothing_tagged fit numbers = absurd fit
   states_numbers from (ks ∷ all) (tagged_variant n layout mark parts tagged_variants) fit numbers =
       let at : from + 0 ≡ n = omega (arith, fit.0) in
       let own : IsNumberOf w tag n = subst (IsNumberOf w tag) at (numbers 0 (omega arith)) in (
@@ -107,9 +107,9 @@ module _ (dl : TargetDataLayout) (size offset w : ℕ) (prefix : Parts) (locals 
 
   -- an earlier number is no tagged variant's
   earlier : (k from : ℕ) (all : List (List ℕ)) (tagged_variants : TaggedVariants) → StateTaggedVariantsFit dl size offset w prefix locals from all tagged_variants → from + length all ≤ numbers_of w → k < from → IsNoNumber w k tagged_variants
-  earlier k from [] no_tagged_variants fit few before = tt
+  earlier k from [] nothing_tagged fit few before = tt
   earlier k from [] (tagged_variant n layout mark parts tagged_variants) fit few before = absurd fit
-  earlier k from (ks ∷ all) no_tagged_variants fit few before = absurd fit
+  earlier k from (ks ∷ all) nothing_tagged fit few before = absurd fit
   earlier k from (ks ∷ all) (tagged_variant n layout mark parts tagged_variants) fit few before =
       let own : n < numbers_of w = omega (arith, few, fit.0) in
       let cut : n % numbers_of w ≡ n = mod-eq_of_lt own in
@@ -117,9 +117,9 @@ module _ (dl : TargetDataLayout) (size offset w : ℕ) (prefix : Parts) (locals 
 
   -- no two states have one number
   pub states_differ : (from : ℕ) (all : List (List ℕ)) (tagged_variants : TaggedVariants) → StateTaggedVariantsFit dl size offset w prefix locals from all tagged_variants → from + length all ≤ numbers_of w → NumbersDiffer w tagged_variants
-  states_differ from [] no_tagged_variants fit few = tt
+  states_differ from [] nothing_tagged fit few = tt
   states_differ from [] (tagged_variant n layout mark parts tagged_variants) fit few = absurd fit
-  states_differ from (ks ∷ all) no_tagged_variants fit few = absurd fit
+  states_differ from (ks ∷ all) nothing_tagged fit few = absurd fit
   states_differ from (ks ∷ all) (tagged_variant n layout mark parts tagged_variants) fit few =
       let own : n < numbers_of w = omega (arith, few, fit.0) in
       let cut : n % numbers_of w ≡ n = mod-eq_of_lt own in (
@@ -138,9 +138,9 @@ module _ (dl : TargetDataLayout) (size offset w : ℕ) (prefix : Parts) (locals 
   -- a tagged variant holds only its state's values
   pub state_only : (from : ℕ) (all : List (List ℕ)) (tagged_variants : TaggedVariants) → StateTaggedVariantsFit dl size offset w prefix locals from all tagged_variants → (i : ℕ) (b : List ℕ) (vs : Values) → AreBytes b →
       HoldTaggedVariant dl.endian tagged_variants i b vs → (i < length all) × EachAt (IsValueAt dl locals) (get_or all i []) (parts_of_tagged_variant tagged_variants i) vs
-  state_only from [] no_tagged_variants fit i b vs are h = absurd h
+  state_only from [] nothing_tagged fit i b vs are h = absurd h
   state_only from [] (tagged_variant n layout mark parts tagged_variants) fit i b vs are h = absurd fit
-  state_only from (ks ∷ all) no_tagged_variants fit i b vs are h = absurd fit
+  state_only from (ks ∷ all) nothing_tagged fit i b vs are h = absurd fit
   state_only from (ks ∷ all) (tagged_variant n layout mark parts tagged_variants) fit zero b vs are h =
       (omega arith, values_each dl locals ks parts vs (only dl size (picked_trees locals ks) parts fit.1 b vs are h))
   state_only from (ks ∷ all) (tagged_variant n layout mark parts tagged_variants) fit (suc i) b vs are h =
@@ -150,9 +150,9 @@ module _ (dl : TargetDataLayout) (size offset w : ℕ) (prefix : Parts) (locals 
   -- no bytes hold two lists of values of one tagged variant
   pub state_unique : (from : ℕ) (all : List (List ℕ)) (tagged_variants : TaggedVariants) → StateTaggedVariantsFit dl size offset w prefix locals from all tagged_variants → (i : ℕ) (b : List ℕ) (vs ws : Values) →
       HoldTaggedVariant dl.endian tagged_variants i b vs → HoldTaggedVariant dl.endian tagged_variants i b ws → vs ≡ ws
-  state_unique from [] no_tagged_variants fit i b vs ws h g = absurd h
+  state_unique from [] nothing_tagged fit i b vs ws h g = absurd h
   state_unique from [] (tagged_variant n layout mark parts tagged_variants) fit i b vs ws h g = absurd fit
-  state_unique from (ks ∷ all) no_tagged_variants fit i b vs ws h g = absurd fit
+  state_unique from (ks ∷ all) nothing_tagged fit i b vs ws h g = absurd fit
   state_unique from (ks ∷ all) (tagged_variant n layout mark parts tagged_variants) fit zero b vs ws h g = unique dl size (picked_trees locals ks) parts fit.1 b vs ws h g
   state_unique from (ks ∷ all) (tagged_variant n layout mark parts tagged_variants) fit (suc i) b vs ws h g = state_unique (from + 1) all tagged_variants fit.4 i b vs ws h g
 
@@ -160,9 +160,9 @@ module _ (dl : TargetDataLayout) (size offset w : ℕ) (prefix : Parts) (locals 
   pub state_padding : (from : ℕ) (all : List (List ℕ)) (tagged_variants : TaggedVariants) → StateTaggedVariantsFit dl size offset w prefix locals from all tagged_variants → (xs ys : List ℕ) → length xs ≡ length ys →
       ((k : ℕ) → is_place_of_tagged_variant tagged_variants k ≡ true → get_or xs k 0 ≡ get_or ys k 0) → (i : ℕ) (vs : Values) →
       HoldTaggedVariant dl.endian tagged_variants i xs vs → HoldTaggedVariant dl.endian tagged_variants i ys vs
-  state_padding from [] no_tagged_variants fit xs ys same agree i vs h = absurd h
+  state_padding from [] nothing_tagged fit xs ys same agree i vs h = absurd h
   state_padding from [] (tagged_variant n layout mark parts tagged_variants) fit xs ys same agree i vs h = absurd fit
-  state_padding from (ks ∷ all) no_tagged_variants fit xs ys same agree i vs h = absurd fit
+  state_padding from (ks ∷ all) nothing_tagged fit xs ys same agree i vs h = absurd fit
   state_padding from (ks ∷ all) (tagged_variant n layout mark parts tagged_variants) fit xs ys same agree zero vs h =
       padding dl size (picked_trees locals ks) parts fit.1 xs ys vs same (λ k place. agree k (ap (λ x. x || is_place_of_tagged_variant tagged_variants k) place)) h
   state_padding from (ks ∷ all) (tagged_variant n layout mark parts tagged_variants) fit xs ys same agree (suc i) vs h =
@@ -221,9 +221,9 @@ module _ (dl : TargetDataLayout) (size offset w : ℕ) (prefix_trees : Trees) (p
   pub in_state : (from : ℕ) (all : List (List ℕ)) (tagged_variants : TaggedVariants) → StateTaggedVariantsFit dl size offset w prefix locals from all tagged_variants → from + length all ≤ numbers_of w → (ps : Values) →
       AreValuesOf dl prefix_trees prefix ps → (i : ℕ) (vs : Values) → i < length all → EachAt (IsValueAt dl locals) (get_or all i []) (parts_of_tagged_variant tagged_variants i) vs →
       InState dl size offset w prefix tagged_variants i ps vs
-  in_state from [] no_tagged_variants fit few ps has i vs below h = absurd (omega (arith, below))
+  in_state from [] nothing_tagged fit few ps has i vs below h = absurd (omega (arith, below))
   in_state from [] (tagged_variant n layout mark parts tagged_variants) fit few ps has i vs below h = absurd fit
-  in_state from (ks ∷ all) no_tagged_variants fit few ps has i vs below h = absurd fit
+  in_state from (ks ∷ all) nothing_tagged fit few ps has i vs below h = absurd fit
   in_state from (ks ∷ all) (tagged_variant n layout mark parts tagged_variants) fit few ps has zero vs below h =
       let values : AreValuesOf dl (picked_trees locals ks) parts vs = values_picked dl locals ks parts vs h in
       let start = exist dl size (picked_trees locals ks) parts fit.1 vs values in

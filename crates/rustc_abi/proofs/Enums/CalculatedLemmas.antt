@@ -29,7 +29,7 @@ use Rattle.abi_calc.specs.Enums.Several.{AreWellFormedTags}
 use Rattle.abi_calc.specs.Enums.Single.{IsSingleAnswer, single_layout}
 use Rattle.abi_calc.proofs.EnumLemmas.Deep.{enum_flag, enum_lawful, enum_told}
 use Rattle.abi_calc.proofs.EnumLemmas.Single.{single_lawful}
-use Rattle.abi_calc.proofs.EnumLemmas.Whole.{index_within, several_some}
+use Rattle.abi_calc.proofs.EnumLemmas.EnumExtent.{index_within, several_some}
 use Rattle.abi_calc.proofs.EnumLemmas.GoodLists.{good_list}
 use Rattle.abi_tree.specs.Tree.{Variants, enum, struct}
 use Rattle.abi_tree.specs.Mark.{mark_of}

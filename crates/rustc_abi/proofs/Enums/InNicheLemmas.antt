@@ -18,7 +18,7 @@ use Rattle.abi_tree.specs.Tree.{Tree, enum, Variants, no_variants, more_variants
 use Rattle.abi_tree.specs.Bytes.{AreBytes, bytes_at, number_of}
 use Rattle.abi_tree.specs.Value.{Value, number, two, list, variant, state, bytes, Values}
 use Rattle.abi_tree.specs.Mark.{mark_of}
-use Rattle.abi_tree.specs.Placed.{Placed, TaggedVariants, no_tagged_variants, tagged_variant, size_of, tagged, parts_of_tagged_variant, is_flagged}
+use Rattle.abi_tree.specs.Placed.{Placed, TaggedVariants, nothing_tagged, tagged_variant, size_of, tagged, parts_of_tagged_variant, is_flagged}
 use Rattle.abi_scalar.specs.Layout.{Layout}
 use Rattle.abi_tree.specs.Places.{is_data_place, is_place_of_part, is_place_of_tagged_variant}
 use Rattle.abi_tree.specs.Tag.{NamesByNiche, niche_number}
@@ -35,7 +35,7 @@ use Rattle.rustc_abi.proofs.Enums.TaggedLemmas.{none_flagged}
 -- each tagged variant, counted up from an index, has its variant's number and fields, which fit together; those of each but the untagged one lie
 -- beside a niche of w bytes at the offset
 abbrev pub TaggedVariantsBeside : TargetDataLayout → (size offset w untagged from : ℕ) → Variants → TaggedVariants → Type 0
-TaggedVariantsBeside dl size offset w untagged from no_variants no_tagged_variants = ⊤
+TaggedVariantsBeside dl size offset w untagged from no_variants nothing_tagged = ⊤
 TaggedVariantsBeside dl size offset w untagged from (more_variants d ts others) (tagged_variant n layout mark parts tagged_variants) =
     (n ≡ d) × FitTogether dl size ts parts × ((from == untagged) ≡ false → LieBeside offset w parts)
     × TaggedVariantsBeside dl size offset w untagged (from + 1) others tagged_variants
@@ -43,7 +43,7 @@ TaggedVariantsBeside dl size offset w untagged from _ _ = ⊥
 
 -- there is a tagged variant with this index
 abbrev pub IsThere : TaggedVariants → (index : ℕ) → Type 0
-IsThere no_tagged_variants i = ⊥
+IsThere nothing_tagged i = ⊥
 IsThere (tagged_variant n layout mark parts tagged_variants) zero = ⊤
 IsThere (tagged_variant n layout mark parts tagged_variants) (suc i) = IsThere tagged_variants i
 
@@ -91,18 +91,18 @@ module _ (dl : TargetDataLayout) (size offset w untagged : ℕ) where
   -- a tagged variant holds only its variant's values
   tagged_variant_only : (from : ℕ) (all : Variants) (tagged_variants : TaggedVariants) → TaggedVariantsBeside dl size offset w untagged from all tagged_variants → (i : ℕ) (b : List ℕ) (vs : Values) → AreBytes b →
       HoldTaggedVariant dl.endian tagged_variants i b vs → AreValuesOfVariant dl all i (parts_of_tagged_variant tagged_variants i) vs
-  tagged_variant_only from no_variants no_tagged_variants fit i b vs are h = h
+  tagged_variant_only from no_variants nothing_tagged fit i b vs are h = h
   tagged_variant_only from no_variants (tagged_variant n layout mark parts tagged_variants) fit i b vs are h = absurd fit
-  tagged_variant_only from (more_variants d ts others) no_tagged_variants fit i b vs are h = absurd fit
+  tagged_variant_only from (more_variants d ts others) nothing_tagged fit i b vs are h = absurd fit
   tagged_variant_only from (more_variants d ts others) (tagged_variant n layout mark parts tagged_variants) fit zero b vs are h = only dl size ts parts fit.1 b vs are h
   tagged_variant_only from (more_variants d ts others) (tagged_variant n layout mark parts tagged_variants) fit (suc i) b vs are h = tagged_variant_only (from + 1) others tagged_variants fit.3 i b vs are h
 
   -- no bytes hold two lists of values of one tagged variant
   tagged_variant_unique : (from : ℕ) (all : Variants) (tagged_variants : TaggedVariants) → TaggedVariantsBeside dl size offset w untagged from all tagged_variants → (i : ℕ) (b : List ℕ) (vs ws : Values) →
       HoldTaggedVariant dl.endian tagged_variants i b vs → HoldTaggedVariant dl.endian tagged_variants i b ws → vs ≡ ws
-  tagged_variant_unique from no_variants no_tagged_variants fit i b vs ws h g = absurd h
+  tagged_variant_unique from no_variants nothing_tagged fit i b vs ws h g = absurd h
   tagged_variant_unique from no_variants (tagged_variant n layout mark parts tagged_variants) fit i b vs ws h g = absurd fit
-  tagged_variant_unique from (more_variants d ts others) no_tagged_variants fit i b vs ws h g = absurd fit
+  tagged_variant_unique from (more_variants d ts others) nothing_tagged fit i b vs ws h g = absurd fit
   tagged_variant_unique from (more_variants d ts others) (tagged_variant n layout mark parts tagged_variants) fit zero b vs ws h g = unique dl size ts parts fit.1 b vs ws h g
   tagged_variant_unique from (more_variants d ts others) (tagged_variant n layout mark parts tagged_variants) fit (suc i) b vs ws h g = tagged_variant_unique (from + 1) others tagged_variants fit.3 i b vs ws h g
 
@@ -110,9 +110,9 @@ module _ (dl : TargetDataLayout) (size offset w untagged : ℕ) where
   tagged_variant_padding : (from : ℕ) (all : Variants) (tagged_variants : TaggedVariants) → TaggedVariantsBeside dl size offset w untagged from all tagged_variants → (xs ys : List ℕ) → length xs ≡ length ys →
       ((k : ℕ) → is_place_of_tagged_variant tagged_variants k ≡ true → get_or xs k 0 ≡ get_or ys k 0) → (i : ℕ) (vs : Values) →
       HoldTaggedVariant dl.endian tagged_variants i xs vs → HoldTaggedVariant dl.endian tagged_variants i ys vs
-  tagged_variant_padding from no_variants no_tagged_variants fit xs ys same agree i vs h = h
+  tagged_variant_padding from no_variants nothing_tagged fit xs ys same agree i vs h = h
   tagged_variant_padding from no_variants (tagged_variant n layout mark parts tagged_variants) fit xs ys same agree i vs h = absurd fit
-  tagged_variant_padding from (more_variants d ts others) no_tagged_variants fit xs ys same agree i vs h = absurd fit
+  tagged_variant_padding from (more_variants d ts others) nothing_tagged fit xs ys same agree i vs h = absurd fit
   tagged_variant_padding from (more_variants d ts others) (tagged_variant n layout mark parts tagged_variants) fit xs ys same agree zero vs h =
       padding dl size ts parts fit.1 xs ys vs same (λ k place. agree k (ap (λ x. x || is_place_of_tagged_variant tagged_variants k) place)) h
   tagged_variant_padding from (more_variants d ts others) (tagged_variant n layout mark parts tagged_variants) fit xs ys same agree (suc i) vs h =
@@ -122,27 +122,27 @@ module _ (dl : TargetDataLayout) (size offset w untagged : ℕ) where
   -- where bytes hold values of a tagged variant, a niche of its parts is true
   tagged_variant_niche : (from : ℕ) (all : Variants) (tagged_variants : TaggedVariants) → TaggedVariantsBeside dl size offset w untagged from all tagged_variants → (n : Niche) (i : ℕ) → IsPartNiche (parts_of_tagged_variant tagged_variants i) n →
       (b : List ℕ) (vs : Values) → HoldTaggedVariant dl.endian tagged_variants i b vs → IsIn (niche_size dl n) n.valid_range (tag_at dl.endian b n.offset (niche_size dl n))
-  tagged_variant_niche from no_variants no_tagged_variants fit n i has b vs h = absurd h
+  tagged_variant_niche from no_variants nothing_tagged fit n i has b vs h = absurd h
   tagged_variant_niche from no_variants (tagged_variant m layout mark parts tagged_variants) fit n i has b vs h = absurd fit
-  tagged_variant_niche from (more_variants d ts others) no_tagged_variants fit n i has b vs h = absurd fit
+  tagged_variant_niche from (more_variants d ts others) nothing_tagged fit n i has b vs h = absurd fit
   tagged_variant_niche from (more_variants d ts others) (tagged_variant m layout mark parts tagged_variants) fit n zero has b vs h = part_niche dl size ts parts fit.1 n has b vs h
   tagged_variant_niche from (more_variants d ts others) (tagged_variant m layout mark parts tagged_variants) fit n (suc i) has b vs h = tagged_variant_niche (from + 1) others tagged_variants fit.3 n i has b vs h
 
   -- a variant with values has a tagged variant, which isn't flagged
   tagged_variant_open : (from : ℕ) (all : Variants) (tagged_variants : TaggedVariants) → TaggedVariantsBeside dl size offset w untagged from all tagged_variants → (i : ℕ) (vs : Values) →
       AreValuesOfVariant dl all i (parts_of_tagged_variant tagged_variants i) vs → IsThere tagged_variants i × (is_flagged (parts_of_tagged_variant tagged_variants i) ≡ false)
-  tagged_variant_open from no_variants no_tagged_variants fit i vs h = absurd h
+  tagged_variant_open from no_variants nothing_tagged fit i vs h = absurd h
   tagged_variant_open from no_variants (tagged_variant n layout mark parts tagged_variants) fit i vs h = absurd fit
-  tagged_variant_open from (more_variants d ts others) no_tagged_variants fit i vs h = absurd fit
+  tagged_variant_open from (more_variants d ts others) nothing_tagged fit i vs h = absurd fit
   tagged_variant_open from (more_variants d ts others) (tagged_variant n layout mark parts tagged_variants) fit zero vs h = (tt, none_flagged dl size ts parts fit.1 vs h)
   tagged_variant_open from (more_variants d ts others) (tagged_variant n layout mark parts tagged_variants) fit (suc i) vs h = tagged_variant_open (from + 1) others tagged_variants fit.3 i vs h
 
   -- the values of a variant have bytes that hold them
   tagged_variant_exists : (from : ℕ) (all : Variants) (tagged_variants : TaggedVariants) → TaggedVariantsBeside dl size offset w untagged from all tagged_variants → (i : ℕ) (vs : Values) →
       AreValuesOfVariant dl all i (parts_of_tagged_variant tagged_variants i) vs → (b : List ℕ) × (length b ≡ size) × AreBytes b × HoldTaggedVariant dl.endian tagged_variants i b vs
-  tagged_variant_exists from no_variants no_tagged_variants fit i vs h = absurd h
+  tagged_variant_exists from no_variants nothing_tagged fit i vs h = absurd h
   tagged_variant_exists from no_variants (tagged_variant n layout mark parts tagged_variants) fit i vs h = absurd fit
-  tagged_variant_exists from (more_variants d ts others) no_tagged_variants fit i vs h = absurd fit
+  tagged_variant_exists from (more_variants d ts others) nothing_tagged fit i vs h = absurd fit
   tagged_variant_exists from (more_variants d ts others) (tagged_variant n layout mark parts tagged_variants) fit zero vs h = exist dl size ts parts fit.1 vs h
   tagged_variant_exists from (more_variants d ts others) (tagged_variant n layout mark parts tagged_variants) fit (suc i) vs h = tagged_variant_exists (from + 1) others tagged_variants fit.3 i vs h
 
@@ -150,9 +150,9 @@ module _ (dl : TargetDataLayout) (size offset w untagged : ℕ) where
   tagged_variant_exists_with : offset + w ≤ size → (m : ℕ) → m < numbers_of w → (from : ℕ) (all : Variants) (tagged_variants : TaggedVariants) → TaggedVariantsBeside dl size offset w untagged from all tagged_variants →
       (i : ℕ) → (from + i == untagged) ≡ false → (vs : Values) → AreValuesOfVariant dl all i (parts_of_tagged_variant tagged_variants i) vs →
       (b : List ℕ) × (length b ≡ size) × AreBytes b × (tag_at dl.endian b offset w ≡ m) × HoldTaggedVariant dl.endian tagged_variants i b vs
-  tagged_variant_exists_with inside m below from no_variants no_tagged_variants fit i other vs h = absurd h
+  tagged_variant_exists_with inside m below from no_variants nothing_tagged fit i other vs h = absurd h
   tagged_variant_exists_with inside m below from no_variants (tagged_variant n layout mark parts tagged_variants) fit i other vs h = absurd fit
-  tagged_variant_exists_with inside m below from (more_variants d ts others) no_tagged_variants fit i other vs h = absurd fit
+  tagged_variant_exists_with inside m below from (more_variants d ts others) nothing_tagged fit i other vs h = absurd fit
   tagged_variant_exists_with inside m below from (more_variants d ts others) (tagged_variant n layout mark parts tagged_variants) fit zero other vs h =
       let at : from + 0 ≡ from = omega arith in
       let beside : LieBeside offset w parts = fit.2 (subst (λ k. (k == untagged) ≡ false) at other) in

@@ -17,7 +17,7 @@ use Rattle.abi_tree.specs.Tree.{Tree, enum, Trees, no_trees, more_trees, Variant
 use Rattle.abi_tree.specs.Bytes.{AreBytes, bytes_at, number_of}
 use Rattle.abi_tree.specs.Value.{Value, number, two, list, variant, state, bytes, Values, no_values, more_values}
 use Rattle.abi_tree.specs.Mark.{mark_of}
-use Rattle.abi_tree.specs.Placed.{Placed, Parts, no_parts, part, TaggedVariants, no_tagged_variants, tagged_variant, layout_of, size_of, tagged, parts_of_tagged_variant, is_flagged}
+use Rattle.abi_tree.specs.Placed.{Placed, Parts, no_parts, part, TaggedVariants, nothing_tagged, tagged_variant, layout_of, size_of, tagged, parts_of_tagged_variant, is_flagged}
 use Rattle.abi_scalar.specs.Layout.{Layout}
 use Rattle.abi_tree.specs.Places.{is_data_place, is_place_of_part, is_place_of_tagged_variant}
 use Rattle.abi_tree.specs.Tag.{NamesDirectly}
@@ -31,29 +31,29 @@ use Rattle.rustc_abi.proofs.Values.PartsLemmas.{LieBeside, FitTogether, HoldPart
 
 -- each tagged variant has its variant's number and fields, which fit together, beside a tag of w bytes at the offset
 abbrev pub TaggedVariantsFit : TargetDataLayout → (size offset w : ℕ) → Variants → TaggedVariants → Type 0
-TaggedVariantsFit dl size offset w no_variants no_tagged_variants = ⊤
+TaggedVariantsFit dl size offset w no_variants nothing_tagged = ⊤
 TaggedVariantsFit dl size offset w (more_variants d ts others) (tagged_variant n layout mark parts tagged_variants) =
     (n ≡ d) × FitTogether dl size ts parts × LieBeside offset w parts × TaggedVariantsFit dl size offset w others tagged_variants
 TaggedVariantsFit dl size offset w _ _ = ⊥
 
 -- the number of each tagged variant that isn't flagged, cut to w bytes, is one of the tag's
 abbrev pub HaveNumbers : (w : ℕ) → Scalar → TaggedVariants → Type 0
-HaveNumbers w tag no_tagged_variants = ⊤
+HaveNumbers w tag nothing_tagged = ⊤
 HaveNumbers w tag (tagged_variant n layout mark parts tagged_variants) = (is_flagged parts ≡ false → IsNumberOf w tag (n % numbers_of w)) × HaveNumbers w tag tagged_variants
 
 -- k isn't the number of a tagged variant, cut to w bytes, unless that is flagged
 abbrev pub IsNoNumber : (w k : ℕ) → TaggedVariants → Type 0
-IsNoNumber w k no_tagged_variants = ⊤
+IsNoNumber w k nothing_tagged = ⊤
 IsNoNumber w k (tagged_variant n layout mark parts tagged_variants) = (is_flagged parts ≡ false → k ≢ n % numbers_of w) × IsNoNumber w k tagged_variants
 
 -- the numbers of two tagged variants that aren't flagged differ, cut to w bytes
 abbrev pub NumbersDiffer : (w : ℕ) → TaggedVariants → Type 0
-NumbersDiffer w no_tagged_variants = ⊤
+NumbersDiffer w nothing_tagged = ⊤
 NumbersDiffer w (tagged_variant n layout mark parts tagged_variants) = (is_flagged parts ≡ false → IsNoNumber w (n % numbers_of w) tagged_variants) × NumbersDiffer w tagged_variants
 
 -- the numbers of the tagged variants that aren't flagged
 abbrev pub open_numbers : TaggedVariants → List ℕ
-open_numbers no_tagged_variants = []
+open_numbers nothing_tagged = []
 open_numbers (tagged_variant n layout mark parts tagged_variants) = if is_flagged parts then open_numbers tagged_variants else n ∷ open_numbers tagged_variants
 
 -- what holds of the numbers that are listed holds of the first, where it is listed, and of the others
@@ -63,14 +63,14 @@ split false n xs P h = (λ e. All-head P n xs h, All-tail P n xs h)
 
 -- the tagged variants have numbers of the tag where the listed numbers are such
 pub have_numbers : (w : ℕ) (tag : Scalar) (tagged_variants : TaggedVariants) → All (λ n. IsNumberOf w tag (n % numbers_of w)) (open_numbers tagged_variants) → HaveNumbers w tag tagged_variants
-have_numbers w tag no_tagged_variants h = tt
+have_numbers w tag nothing_tagged h = tt
 have_numbers w tag (tagged_variant n layout mark parts tagged_variants) h =
     let both = split (is_flagged parts) n (open_numbers tagged_variants) (λ m. IsNumberOf w tag (m % numbers_of w)) h in
     (both.0, have_numbers w tag tagged_variants both.1)
 
 -- a number that is none of those listed is no tagged variant's
 no_number : (w k : ℕ) (tagged_variants : TaggedVariants) → All (λ n. k ≢ n % numbers_of w) (open_numbers tagged_variants) → IsNoNumber w k tagged_variants
-no_number w k no_tagged_variants h = tt
+no_number w k nothing_tagged h = tt
 no_number w k (tagged_variant n layout mark parts tagged_variants) h =
     let both = split (is_flagged parts) n (open_numbers tagged_variants) (λ m. k ≢ m % numbers_of w) h in
     (both.0, no_number w k tagged_variants both.1)
@@ -86,20 +86,20 @@ split_pairs false n xs R h = (
 
 -- the tagged variants' numbers differ where the listed ones do
 pub numbers_differ : (w : ℕ) (tagged_variants : TaggedVariants) → AllPairs (λ n m. n % numbers_of w ≢ m % numbers_of w) (open_numbers tagged_variants) → NumbersDiffer w tagged_variants
-numbers_differ w no_tagged_variants h = tt
+numbers_differ w nothing_tagged h = tt
 numbers_differ w (tagged_variant n layout mark parts tagged_variants) h =
     let both = split_pairs (is_flagged parts) n (open_numbers tagged_variants) (λ a b. a % numbers_of w ≢ b % numbers_of w) h in
     (λ clear. no_number w (n % numbers_of w) tagged_variants (both.0 clear), numbers_differ w tagged_variants both.1)
 
 -- a number that no tagged variant has names none
 names_none : (w k : ℕ) (tagged_variants : TaggedVariants) → IsNoNumber w k tagged_variants → (i : ℕ) → NamesDirectly w tagged_variants k i → ⊥
-names_none w k no_tagged_variants none i h = h
+names_none w k nothing_tagged none i h = h
 names_none w k (tagged_variant n layout mark parts tagged_variants) none zero h = none.0 h.0 (sym h.1)
 names_none w k (tagged_variant n layout mark parts tagged_variants) none (suc i) h = names_none w k tagged_variants none.1 i h
 
 -- a number names one tagged variant
 pub names_one : (w k : ℕ) (tagged_variants : TaggedVariants) → NumbersDiffer w tagged_variants → (i j : ℕ) → NamesDirectly w tagged_variants k i → NamesDirectly w tagged_variants k j → i ≡ j
-names_one w k no_tagged_variants differ i j h g = absurd h
+names_one w k nothing_tagged differ i j h g = absurd h
 names_one w k (tagged_variant n layout mark parts tagged_variants) differ zero zero h g = refl
 names_one w k (tagged_variant n layout mark parts tagged_variants) differ zero (suc j) h g =
     absurd (names_none w k tagged_variants (subst (λ m. IsNoNumber w m tagged_variants) h.1 (differ.0 h.0)) j g)
@@ -109,7 +109,7 @@ names_one w k (tagged_variant n layout mark parts tagged_variants) differ (suc i
 
 -- a number that names a tagged variant is one of the tag's
 pub names_number : (w : ℕ) (tag : Scalar) (k : ℕ) (tagged_variants : TaggedVariants) → HaveNumbers w tag tagged_variants → (i : ℕ) → NamesDirectly w tagged_variants k i → IsNumberOf w tag k
-names_number w tag k no_tagged_variants numbers i h = absurd h
+names_number w tag k nothing_tagged numbers i h = absurd h
 names_number w tag k (tagged_variant n layout mark parts tagged_variants) numbers zero h = subst (IsNumberOf w tag) h.1 (numbers.0 h.0)
 names_number w tag k (tagged_variant n layout mark parts tagged_variants) numbers (suc i) h = names_number w tag k tagged_variants numbers.1 i h
 
@@ -135,18 +135,18 @@ module _ (dl : TargetDataLayout) (size offset w : ℕ) where
   -- a tagged variant holds only its variant's values
   tagged_variant_only : (all : Variants) (tagged_variants : TaggedVariants) → TaggedVariantsFit dl size offset w all tagged_variants → (i : ℕ) (b : List ℕ) (vs : Values) → AreBytes b →
       HoldTaggedVariant dl.endian tagged_variants i b vs → AreValuesOfVariant dl all i (parts_of_tagged_variant tagged_variants i) vs
-  tagged_variant_only no_variants no_tagged_variants fit i b vs are h = h
+  tagged_variant_only no_variants nothing_tagged fit i b vs are h = h
   tagged_variant_only no_variants (tagged_variant n layout mark parts tagged_variants) fit i b vs are h = absurd fit
-  tagged_variant_only (more_variants d ts others) no_tagged_variants fit i b vs are h = absurd fit
+  tagged_variant_only (more_variants d ts others) nothing_tagged fit i b vs are h = absurd fit
   tagged_variant_only (more_variants d ts others) (tagged_variant n layout mark parts tagged_variants) fit zero b vs are h = only dl size ts parts fit.1 b vs are h
   tagged_variant_only (more_variants d ts others) (tagged_variant n layout mark parts tagged_variants) fit (suc i) b vs are h = tagged_variant_only others tagged_variants fit.3 i b vs are h
 
   -- no bytes hold two lists of values of one tagged variant
   tagged_variant_unique : (all : Variants) (tagged_variants : TaggedVariants) → TaggedVariantsFit dl size offset w all tagged_variants → (i : ℕ) (b : List ℕ) (vs ws : Values) →
       HoldTaggedVariant dl.endian tagged_variants i b vs → HoldTaggedVariant dl.endian tagged_variants i b ws → vs ≡ ws
-  tagged_variant_unique no_variants no_tagged_variants fit i b vs ws h g = absurd h
+  tagged_variant_unique no_variants nothing_tagged fit i b vs ws h g = absurd h
   tagged_variant_unique no_variants (tagged_variant n layout mark parts tagged_variants) fit i b vs ws h g = absurd fit
-  tagged_variant_unique (more_variants d ts others) no_tagged_variants fit i b vs ws h g = absurd fit
+  tagged_variant_unique (more_variants d ts others) nothing_tagged fit i b vs ws h g = absurd fit
   tagged_variant_unique (more_variants d ts others) (tagged_variant n layout mark parts tagged_variants) fit zero b vs ws h g = unique dl size ts parts fit.1 b vs ws h g
   tagged_variant_unique (more_variants d ts others) (tagged_variant n layout mark parts tagged_variants) fit (suc i) b vs ws h g = tagged_variant_unique others tagged_variants fit.3 i b vs ws h g
 
@@ -154,9 +154,9 @@ module _ (dl : TargetDataLayout) (size offset w : ℕ) where
   tagged_variant_padding : (all : Variants) (tagged_variants : TaggedVariants) → TaggedVariantsFit dl size offset w all tagged_variants → (xs ys : List ℕ) → length xs ≡ length ys →
       ((k : ℕ) → is_place_of_tagged_variant tagged_variants k ≡ true → get_or xs k 0 ≡ get_or ys k 0) → (i : ℕ) (vs : Values) →
       HoldTaggedVariant dl.endian tagged_variants i xs vs → HoldTaggedVariant dl.endian tagged_variants i ys vs
-  tagged_variant_padding no_variants no_tagged_variants fit xs ys same agree i vs h = h
+  tagged_variant_padding no_variants nothing_tagged fit xs ys same agree i vs h = h
   tagged_variant_padding no_variants (tagged_variant n layout mark parts tagged_variants) fit xs ys same agree i vs h = absurd fit
-  tagged_variant_padding (more_variants d ts others) no_tagged_variants fit xs ys same agree i vs h = absurd fit
+  tagged_variant_padding (more_variants d ts others) nothing_tagged fit xs ys same agree i vs h = absurd fit
   tagged_variant_padding (more_variants d ts others) (tagged_variant n layout mark parts tagged_variants) fit xs ys same agree zero vs h =
       padding dl size ts parts fit.1 xs ys vs same (λ k place. agree k (ap (λ x. x || is_place_of_tagged_variant tagged_variants k) place)) h
   tagged_variant_padding (more_variants d ts others) (tagged_variant n layout mark parts tagged_variants) fit xs ys same agree (suc i) vs h =
@@ -167,9 +167,9 @@ module _ (dl : TargetDataLayout) (size offset w : ℕ) where
 tagged_variant_exists : (dl : TargetDataLayout) (size offset w : ℕ) → offset + w ≤ size → (all : Variants) (tagged_variants : TaggedVariants) → TaggedVariantsFit dl size offset w all tagged_variants →
     (i : ℕ) (vs : Values) → AreValuesOfVariant dl all i (parts_of_tagged_variant tagged_variants i) vs →
     (b : List ℕ) × (length b ≡ size) × AreBytes b × NamesDirectly w tagged_variants (tag_at dl.endian b offset w) i × HoldTaggedVariant dl.endian tagged_variants i b vs
-tagged_variant_exists dl size offset w inside no_variants no_tagged_variants fit i vs h = absurd h
+tagged_variant_exists dl size offset w inside no_variants nothing_tagged fit i vs h = absurd h
 tagged_variant_exists dl size offset w inside no_variants (tagged_variant n layout mark parts tagged_variants) fit i vs h = absurd fit
-tagged_variant_exists dl size offset w inside (more_variants d ts others) no_tagged_variants fit i vs h = absurd fit
+tagged_variant_exists dl size offset w inside (more_variants d ts others) nothing_tagged fit i vs h = absurd fit
 tagged_variant_exists dl size offset w inside (more_variants d ts others) (tagged_variant n layout mark parts tagged_variants) fit zero vs h =
     let m : ℕ = n % numbers_of w in
     let own : List ℕ = spelled_in dl.endian w m in

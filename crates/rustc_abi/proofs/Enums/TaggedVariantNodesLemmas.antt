@@ -16,7 +16,7 @@ use Rattle.abi_scalar.specs.Variant.{variant_layout, variants_of}
 use Rattle.abi_tree.specs.declared.node.Shape.TheVariants.{Fields, Tagged}
 use Rattle.abi_tree.specs.declared.node.Node.{Node}
 use Rattle.abi_tree.specs.declared.mark.Mark.{Mark}
-use Rattle.abi_tree.specs.Placed.{Placed, layout_of, size_of, tagged, Parts, TaggedVariants, no_tagged_variants, tagged_variant}
+use Rattle.abi_tree.specs.Placed.{Placed, layout_of, size_of, tagged, Parts, TaggedVariants, nothing_tagged, tagged_variant}
 use Rattle.abi_scalar.specs.Layout.{Layout}
 use Rattle.abi_tree.specs.Nodes.{placed_in, parts_at, tagged_variants_in, own_tagged_variant, own_fields, own_mark, encoding_of, tag_offset, meaning, types_in, placed_at, Keeps}
 use Rattle.rustc_abi.specs.Enums.{tagged_variants_at}
@@ -35,7 +35,7 @@ use Rattle.rustc_abi.proofs.Sizes.CountLemmas.{flagged_there}
 
 -- tagged variants with one more
 abbrev push_tagged_variant : TaggedVariants → (number : ℕ) → Layout → Mark → Parts → TaggedVariants
-push_tagged_variant no_tagged_variants n layout mark parts = tagged_variant n layout mark parts no_tagged_variants
+push_tagged_variant nothing_tagged n layout mark parts = tagged_variant n layout mark parts nothing_tagged
 push_tagged_variant (tagged_variant m own tag_distinguishes fields tagged_variants) n layout mark parts = tagged_variant m own tag_distinguishes fields (push_tagged_variant tagged_variants n layout mark parts)
 
 -- with one more, which has a node of its own
@@ -55,7 +55,7 @@ tagged_variants_at-push : (whole : Layout) (mark : Mark) (first : ℕ) (layouts 
     (parts_at layout.field_offsets fields)
 tagged_variants_at-push whole mark first [] [] [] layout n fields index as_many as_long at =
     let here : first ≡ index = omega arith in
-    ap (λ k. tagged_variant n (variant_layout whole k layout) mark (parts_at layout.field_offsets fields) no_tagged_variants) here
+    ap (λ k. tagged_variant n (variant_layout whole k layout) mark (parts_at layout.field_offsets fields) nothing_tagged) here
 tagged_variants_at-push whole mark first [] [] (v ∷ variants) layout n fields index as_many as_long at = absurd (omega arith)
 tagged_variants_at-push whole mark first [] (m ∷ numbers) variants layout n fields index as_many as_long at = absurd (omega arith)
 tagged_variants_at-push whole mark first (l ∷ layouts) [] variants layout n fields index as_many as_long at = absurd (omega arith)

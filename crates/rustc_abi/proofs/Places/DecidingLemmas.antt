@@ -31,13 +31,13 @@ use Rattle.abi_calc.specs.declared.enums.strategy.EnumStrategy.TheVariants.{NoVa
 use Rattle.abi_calc.specs.Enums.EnumStrategy.{strategy_of, variant_at}
 use Rattle.abi_calc.specs.Coroutine.Layout.{IsStateTag}
 use Rattle.abi_calc.proofs.EnumLemmas.Deep.{HasOwnNumber, enum_span}
-use Rattle.abi_calc.proofs.EnumLemmas.Whole.{several_some}
+use Rattle.abi_calc.proofs.EnumLemmas.EnumExtent.{several_some}
 use Rattle.abi_tree.specs.declared.mark.Mark.{Mark}
 use Rattle.abi_tree.specs.declared.mark.Mark.TheVariants.{Never, Plain, Unit}
 use Rattle.abi_tree.specs.Mark.{mark_of}
 use Rattle.abi_tree.specs.Bytes.{AreBytes, count_picked}
 use Rattle.abi_tree.specs.Tree.{Tree, scalar, pair, never, unit, array, vector, struct, union, enum, coroutine, Trees, no_trees, more_trees, Variants, no_variants, more_variants}
-use Rattle.abi_tree.specs.Placed.{Placed, layout_of, size_of, elements, fields, no_parts, never as placed_never, vector as placed_vector, Parts, part, TaggedVariants, no_tagged_variants, tagged_variant, parts_of_tagged_variant}
+use Rattle.abi_tree.specs.Placed.{Placed, layout_of, size_of, elements, fields, no_parts, never as placed_never, vector as placed_vector, Parts, part, TaggedVariants, nothing_tagged, tagged_variant, parts_of_tagged_variant}
 use Rattle.abi_scalar.specs.Layout.{Layout}
 use Rattle.abi_tree.specs.Places.{is_data_place, is_place_of_part}
 use Rattle.abi_tree.specs.Value.{Value, value_count, Each}
@@ -185,7 +185,7 @@ module _ (dl : TargetDataLayout) where
 
 -- the tagged variant that is chosen is one of those that are there
 with_below : (tagged_variants : TaggedVariants) (k from otherwise bound : ℕ) → otherwise < bound → from + tagged_variant_count tagged_variants ≤ bound → first_with tagged_variants k from otherwise < bound
-with_below no_tagged_variants k from otherwise bound other fits = other
+with_below nothing_tagged k from otherwise bound other fits = other
 with_below (tagged_variant code layout mark parts tagged_variants) k from otherwise bound other fits = either (is_place_of_part parts k) (omega (arith, fits)) (with_below tagged_variants k (from + 1) otherwise bound other (omega (arith, fits)))
   where
     either : (b : Bool) → from < bound → first_with tagged_variants k (from + 1) otherwise < bound → (if b then from else first_with tagged_variants k (from + 1) otherwise) < bound
@@ -290,21 +290,21 @@ module _ (dl : TargetDataLayout) (law : IsLawfulDataLayout dl) where
     states_values : (states : List (List ℕ)) (tagged_variants : TaggedVariants) (i : ℕ) (place : Option ℕ) → All (All (λ k. k < length ps)) states → HaveLocals ps states tagged_variants → i < length states →
         EachAt (IsValueAt dl ts) (get_or states i []) (parts_of_tagged_variant tagged_variants i) (tagged_variant_values tagged_variants i place)
     states_values [] tagged_variants i place known held lt = absurd (omega (arith, lt))
-    states_values (s ∷ states) no_tagged_variants i place known held lt = absurd held
+    states_values (s ∷ states) nothing_tagged i place known held lt = absurd held
     states_values (s ∷ states) (tagged_variant code layout mark parts tagged_variants) zero place known held lt = state_values s parts place (All-head (All (λ k. k < length ps)) s states known) held.0
     states_values (s ∷ states) (tagged_variant code layout mark parts tagged_variants) (suc i) place known held lt =
         states_values states tagged_variants i place (All-tail (All (λ k. k < length ps)) s states known) held.1 (omega (arith, lt))
 
     states_cover : (states : List (List ℕ)) (tagged_variants : TaggedVariants) → All (All (λ k. k < length ps)) states → HaveLocals ps states tagged_variants → TaggedVariantsCover tagged_variants
-    states_cover states no_tagged_variants known held = tt
+    states_cover states nothing_tagged known held = tt
     states_cover [] (tagged_variant code layout mark parts tagged_variants) known held = absurd held
     states_cover (s ∷ states) (tagged_variant code layout mark parts tagged_variants) known held =
         (state_cover s parts (All-head (All (λ k. k < length ps)) s states known) held.0, states_cover states tagged_variants (All-tail (All (λ k. k < length ps)) s states known) held.1)
 
     states_count : (states : List (List ℕ)) (tagged_variants : TaggedVariants) → HaveLocals ps states tagged_variants → tagged_variant_count tagged_variants ≡ length states
-    states_count [] no_tagged_variants held = refl
+    states_count [] nothing_tagged held = refl
     states_count [] (tagged_variant code layout mark parts tagged_variants) held = absurd held
-    states_count (s ∷ states) no_tagged_variants held = absurd held
+    states_count (s ∷ states) nothing_tagged held = absurd held
     states_count (s ∷ states) (tagged_variant code layout mark parts tagged_variants) held = let rest = states_count states tagged_variants held.1 in omega (arith, rest)
 
   -- ---- each kind

@@ -45,7 +45,7 @@ use Rattle.abi_calc.specs.Coroutine.States.{state_layout, state_layouts, state_o
 use Rattle.abi_calc.specs.Enums.Answer.{IsTypeAnswer}
 use Rattle.abi_calc.specs.Enums.Choice.{IsNicheAnswer, preferred_layout, takes_niche}
 use Rattle.abi_calc.specs.Enums.Discriminants.{counted_discriminants}
-use Rattle.abi_calc.specs.Enums.Growth.{grown_tag, grown_variant, moved, start_align}
+use Rattle.abi_calc.specs.Enums.Growth.{grown_tag, grown_variant, moved_offset, start_align}
 use Rattle.abi_calc.specs.Enums.Lists.{AreGoodLists, AreListLayouts, IsGoodList, behind_tag}
 use Rattle.abi_calc.specs.Enums.Niche.{beside_niche, moved_on, niche_layout, place_after, room_beside, untagged_of, variants_from, with_first, without_niche}
 use Rattle.abi_calc.specs.Enums.EnumStrategy.{strategy_of}
@@ -58,7 +58,7 @@ use Rattle.abi_calc.proofs.CoroutineLemmas.Promotion.{promoted_count}
 use Rattle.abi_calc.proofs.EnumLemmas.NicheLawful.{niche_parts}
 use Rattle.abi_calc.proofs.EnumLemmas.Places.{AreClear, AreClearAmong, IsClear, clear_grown, greatest_within, new_fits}
 use Rattle.abi_calc.proofs.EnumLemmas.Several.{by_both}
-use Rattle.abi_calc.proofs.EnumLemmas.Whole.{several_some}
+use Rattle.abi_calc.proofs.EnumLemmas.EnumExtent.{several_some}
 use Rattle.abi_calc.proofs.EnumLemmas.GoodLists.{good_list, good_lists, tag_prefix}
 use Rattle.abi_calc.proofs.CoroutineLemmas.OneCoroutine.{lists_own}
 use Rattle.abi_tree.specs.Placed.{Placed, layout_of, size_of}
@@ -117,7 +117,7 @@ end_moved old new small o m true (inr far) h = omega (arith, far, h)
 end_moved old new small o m false clear h = omega (arith, h)
 
 -- and so do all of them
-ends_moved : (old new small : ℕ) (offsets sizes : List ℕ) → AreClear old new offsets sizes → EndInside small offsets sizes → EndInside (max small new) (map (moved old new) offsets) sizes
+ends_moved : (old new small : ℕ) (offsets sizes : List ℕ) → AreClear old new offsets sizes → EndInside small offsets sizes → EndInside (max small new) (map (moved_offset old new) offsets) sizes
 ends_moved old new small [] [] clear h = tt
 ends_moved old new small [] (m ∷ sizes) clear h = absurd h
 ends_moved old new small (o ∷ offsets) [] clear h = absurd h
@@ -146,7 +146,7 @@ grown_inside : (old new whole : ℕ) (fields : List Placed) (list : Layout) → 
     → (old < new → AreClear old new (listed_offsets list.fields) (map size_of fields)) → ByField list fields → IsInside whole fields (grown_variant old new (variant_of list))
 grown_inside old new whole fields list less fits ends clear flag = by (nat_lt old new) refl
   where
-    by : (b : Bool) → nat_lt old new ≡ b → IsInside whole fields (if b then (record (variant_of list) { size = max list.size new; field_offsets = map (moved old new) (listed_offsets list.fields) }) else variant_of list)
+    by : (b : Bool) → nat_lt old new ≡ b → IsInside whole fields (if b then (record (variant_of list) { size = max list.size new; field_offsets = map (moved_offset old new) (listed_offsets list.fields) }) else variant_of list)
     by true grows = (omega (arith, less, fits), ends_moved old new list.size (listed_offsets list.fields) (map size_of fields) (clear (ltb-true old new grows)) ends, flag)
     by false stays = (less, ends, flag)
 

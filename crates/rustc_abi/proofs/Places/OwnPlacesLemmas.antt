@@ -21,7 +21,7 @@ use Rattle.abi_tree.specs.Bytes.{bytes_at}
 use Rattle.abi_tree.specs.Covering.{are_covered, each_covered, is_tagged_variant_covered, is_byte_at, is_covered, is_tagged}
 use Rattle.abi_tree.specs.Holding.{HoldTaggedVariant, HoldEach, HoldParts, Holds}
 use Rattle.abi_tree.specs.Nodes.{parts_at, parts_at_0}
-use Rattle.abi_tree.specs.Placed.{TaggedVariants, Placed, tagged_variant, elements, fields, layout_of, never, no_tagged_variants, pair, parts_of_tagged_variant}
+use Rattle.abi_tree.specs.Placed.{TaggedVariants, Placed, tagged_variant, elements, fields, layout_of, never, nothing_tagged, pair, parts_of_tagged_variant}
 use Rattle.abi_tree.specs.Placed.{single, size_of, states, tagged, union, vector}
 use Rattle.abi_tree.specs.Places.{is_data_place, is_place_of_tagged_variant, is_place_of_part}
 use Rattle.abi_tree.specs.Runs.{is_place_of_variant}
@@ -113,7 +113,7 @@ module _ (order : Endian) where
 
   -- a place of one tagged variant is one of the tagged variants
   of_tagged_variants : (tagged_variants : TaggedVariants) (i k : ℕ) → is_place_of_part (parts_of_tagged_variant tagged_variants i) k ≡ true → is_place_of_tagged_variant tagged_variants k ≡ true
-  of_tagged_variants no_tagged_variants i k place = absurd (true≢false (sym place))
+  of_tagged_variants nothing_tagged i k place = absurd (true≢false (sym place))
   of_tagged_variants (tagged_variant code layout mark parts tagged_variants) zero k place =
       or_left (is_place_of_part parts k) (is_place_of_tagged_variant tagged_variants k) place
   of_tagged_variants (tagged_variant code layout mark parts tagged_variants) (suc i) k place =

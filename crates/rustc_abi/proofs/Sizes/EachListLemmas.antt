@@ -35,7 +35,7 @@ use Rattle.abi_calc.specs.Coroutine.Promotion.{promoted_of}
 use Rattle.abi_calc.specs.Coroutine.Sizes.{behind_first, own_lists}
 use Rattle.abi_calc.specs.Coroutine.States.{rank_of, ranks_of, state_offsets}
 use Rattle.abi_calc.specs.Enums.Discriminants.{counted_discriminants}
-use Rattle.abi_calc.specs.Enums.Growth.{grown_tag, moved, start_align}
+use Rattle.abi_calc.specs.Enums.Growth.{grown_tag, moved_offset, start_align}
 use Rattle.abi_calc.specs.Enums.Lists.{behind_tag}
 use Rattle.abi_calc.specs.Enums.Made.{AreBehindTag, AreBesideNiche, IsBesideNiche}
 use Rattle.abi_calc.specs.Enums.Niche.{room_beside, span_count, untagged_of}
@@ -143,7 +143,7 @@ module _ (dl : TargetDataLayout) (repr : ReprOptions) where
         (lists : List Layout) (layouts : List (VariantLayout ℕ)) → EachApart size variants layouts
         → length numbers ≡ length variants → AreFieldLists (λ i. i) dl repr kind (layouts_of variants) lists
         → AreBehindTag old new size lists layouts
-        → AreMovedLists dl repr kind (moved old new) (tagged_variants_at whole mark first layouts numbers variants)
+        → AreMovedLists dl repr kind (moved_offset old new) (tagged_variants_at whole mark first layouts numbers variants)
     moved_tagged_variants kind old new first numbers [] lists [] apart long own places = tt
     moved_tagged_variants kind old new first numbers [] lists (l ∷ layouts) apart long own places = absurd apart
     moved_tagged_variants kind old new first numbers (ps ∷ variants) lists [] apart long own places = absurd apart
@@ -266,7 +266,7 @@ module _ (dl : TargetDataLayout) (law : IsLawfulDataLayout dl) (repr : ReprOptio
         subst (λ vs. IsAskedFor dl repr (IsTagIntegerAnswer dl repr) (counted repr numbers vs) asked signed) (sym back) is,
         no_less,
         subst (λ vs. AreMovedLists dl repr (behind_tag dl repr asked (layouts_of vs))
-            (moved (integer_size asked) (scalar_size dl tag))
+            (moved_offset (integer_size asked) (scalar_size dl tag))
             (tagged_variants_at l (mark_of true repr) 0 layouts numbers variants))
             (sym back)
             (moved_tagged_variants dl repr l (mark_of true repr) l.size (behind_tag dl repr asked (layouts_of variants))

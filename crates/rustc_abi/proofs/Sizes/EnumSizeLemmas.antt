@@ -31,7 +31,7 @@ use Rattle.abi_calc.specs.Enums.Several.{IsAlwaysTooLarge, IsAskedTooLarge, IsSe
 use Rattle.abi_calc.specs.Enums.Single.{IsSingleAnswer}
 use Rattle.abi_calc.specs.Enums.Sizes.{IsTaggedTooLarge}
 use Rattle.abi_calc.proofs.EnumLemmas.Deep.{enum_refused, enum_size, enum_told, enum_too_large}
-use Rattle.abi_calc.proofs.EnumLemmas.Whole.{index_within, several_some}
+use Rattle.abi_calc.proofs.EnumLemmas.EnumExtent.{index_within, several_some}
 use Rattle.abi_calc.proofs.EnumLemmas.GoodLists.{good_list}
 use Rattle.abi_calc.proofs.EnumLemmas.OneEnum.{one_asked_for}
 use Rattle.rustc_abi.specs.declared.error.LayError.{LayError}

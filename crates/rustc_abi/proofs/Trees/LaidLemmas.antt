@@ -57,7 +57,7 @@ use Rattle.abi_calc.specs.Enums.Several.{AreWellFormedTags}
 use Rattle.abi_calc.specs.Enums.Answer.{HasOneEach, IsTypeAnswer}
 use Rattle.abi_calc.specs.Enums.EnumStrategy.{variant_at, strategy_of}
 use Rattle.abi_calc.proofs.EnumLemmas.Deep.{enum_sized}
-use Rattle.abi_calc.proofs.EnumLemmas.Whole.{several_some}
+use Rattle.abi_calc.proofs.EnumLemmas.EnumExtent.{several_some}
 use Rattle.rustc_abi.specs.declared.error.LayError.{LayError}
 use Rattle.rustc_abi.specs.declared.error.LayError.TheVariants.{SizeOverflow}
 use Rattle.abi_types.specs.Ty.Walks.{is_sized}

@@ -45,7 +45,7 @@ use Rattle.abi_calc.proofs.CoroutineLemmas.OneCoroutine.{one_tag}
 use Rattle.abi_calc.proofs.CoroutineLemmas.Seen.{coroutine_align, coroutine_marks, coroutine_niche}
 use Rattle.abi_calc.proofs.EnumLemmas.Deep.{enum_told}
 use Rattle.abi_calc.proofs.EnumLemmas.Made.{niche_made, several_holds, tagged_made}
-use Rattle.abi_calc.proofs.EnumLemmas.Whole.{several_some}
+use Rattle.abi_calc.proofs.EnumLemmas.EnumExtent.{several_some}
 use Rattle.abi_calc.proofs.Handed.{handed_marks}
 use Rattle.abi_calc.proofs.Made.{field_list}
 use Rattle.abi_calc.proofs.Seen.{single_seen}

@@ -9,7 +9,7 @@ use Rattle.abi_base.specs.declared.endian.Endian.{Endian}
 use Rattle.abi_tree.specs.Bytes.{bytes_at, picked_bytes}
 use Rattle.abi_tree.specs.Value.{number, two, list, variant, state, bytes}
 use Rattle.abi_tree.specs.declared.mark.Mark.{Mark}
-use Rattle.abi_tree.specs.Placed.{Placed, scalar, pair, never, elements, vector, fields, union, single, tagged, states, Parts, no_parts, part, TaggedVariants, no_tagged_variants, tagged_variant, size_of}
+use Rattle.abi_tree.specs.Placed.{Placed, scalar, pair, never, elements, vector, fields, union, single, tagged, states, Parts, no_parts, part, TaggedVariants, nothing_tagged, tagged_variant, size_of}
 use Rattle.abi_scalar.specs.Layout.{Layout}
 use Rattle.abi_tree.specs.Places.{is_data_place, is_place_of_part}
 use Rattle.abi_tree.specs.Room.{has_room, have_room, tagged_variants_have_room}
@@ -64,7 +64,7 @@ module _ (order : Endian) where
         (begins_room placed here.1, begins_have size parts both.1)
 
     begins_tagged_variants : (size : ℕ) (tagged_variants : TaggedVariants) → tagged_variants_have_room size tagged_variants ≡ true → InUnionsOfTaggedVariants (Begins order) tagged_variants
-    begins_tagged_variants size no_tagged_variants room = tt
+    begins_tagged_variants size nothing_tagged room = tt
     begins_tagged_variants size (tagged_variant code layout mark parts tagged_variants) room =
         let both = and_parts (have_room size parts) (tagged_variants_have_room size tagged_variants) room in
         (begins_have size parts both.0, begins_tagged_variants size tagged_variants both.1)

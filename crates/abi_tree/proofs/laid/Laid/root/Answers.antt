@@ -15,7 +15,7 @@ returns-clause-seen c =
     let laid = c.args.self.now in
     let ns : List Node = laid.nodes in
     let last : length ns - 1 < length ns = omega (arith, laid.some) in
-    let tag_layout : tree_type c.handle_at.result ≡ typed_of laid = c.handle_at.ensures.tag_layout ∙ ap (λ n. typed_at ns (n - 1)) (c.len.ensures ∙ ap length c.nodes.ensures.same) in
+    let tag_layout : tree_type c.handle_at.result ≡ typed_of laid = c.handle_at.ensures.typed ∙ ap (λ n. typed_at ns (n - 1)) (c.len.ensures ∙ ap length c.nodes.ensures.same) in
     subst (λ t. Sees t (placed_of laid)) (sym tag_layout) (seen_at ns laid.earlier laid.laws (length ns - 1) last)
 
 pub returns-clause-layout : goal.returns-clause-layout
@@ -23,7 +23,7 @@ returns-clause-layout c =
     let laid = c.args.self.now in
     let ns : List Node = laid.nodes in
     let last : length ns - 1 < length ns = omega (arith, laid.some) in
-    let tag_layout : tree_type c.handle_at.result ≡ typed_of laid = c.handle_at.ensures.tag_layout ∙ ap (λ n. typed_at ns (n - 1)) (c.len.ensures ∙ ap length c.nodes.ensures.same) in
+    let tag_layout : tree_type c.handle_at.result ≡ typed_of laid = c.handle_at.ensures.typed ∙ ap (λ n. typed_at ns (n - 1)) (c.len.ensures ∙ ap length c.nodes.ensures.same) in
     sym c.handle_at.ensures.valid.layout ∙ ap layout_in tag_layout ∙ layout-placed ns (length ns - 1) last
 
 pub returns-clause-within : goal.returns-clause-within
