@@ -81,10 +81,10 @@ own_count dl kind ps promoted (state ∷ all) (l ∷ lists) h = ap (λ n. suc n)
 -- ---- the whole
 
 module _ (dl : TargetDataLayout) (law : IsLawfulDataLayout dl) (pres ps : List Placed) (all : List (List ℕ)) (pairs : List (ℕ × ℕ)) (tag : Scalar)
-    (none : coroutine_fault (length pres) (length ps) all pairs ≡ None) (tells : IsStateTag (length all) tag)
+    (none : coroutine_fault (length pres) (length ps) all pairs ≡ None) (is_state_tag : IsStateTag (length all) tag)
     (before : All (λ p. IsLawfulLayout dl (layout_of p)) pres) (there : All (λ p. IsLawfulLayout dl (layout_of p)) ps) where
   abbrev asked : IsAsked layout_of 0 dl pres tag (one_scalar dl tag) ps all
-  asked = record { law = law; before = before; all = there; tells = tells; holds = refl }
+  asked = record { law = law; before = before; all = there; is_state_tag = is_state_tag; holds = refl }
 
   abbrev promoted : List Bool
   promoted = promoted_of all (conflicts_of (length ps) pairs)
@@ -143,14 +143,14 @@ module _ (dl : TargetDataLayout) (law : IsLawfulDataLayout dl) (pres ps : List P
     pub IsAdded-coroutine : (old new : List Node) (i : ℕ) (prefix_trees locals : Trees) → IsPut old new i (placed_coroutine dl pres tag ps all layout) → AreLaying dl prefix_trees (Ok pres) →
         AreLaying dl locals (Ok ps) → EachFits dl prefix_trees pres → EachFits dl locals ps → IsAdded dl old new i (coroutine prefix_trees locals all pairs)
     IsAdded-coroutine old new i prefix_trees locals put first own fits fit =
-        let answer : IsCoroutineOf dl pres ps all pairs (Ok (placed_coroutine dl pres tag ps all layout)) = rw none (tag, tells, inr (layout, laid, refl)) in
+        let answer : IsCoroutineOf dl pres ps all pairs (Ok (placed_coroutine dl pres tag ps all layout)) = rw none (tag, is_state_tag, inr (layout, laid, refl)) in
         IsAdded-put dl old new i (placed_coroutine dl pres tag ps all layout) (coroutine prefix_trees locals all pairs) put (inr (pres, first, inr (ps, own, answer)))
         (coroutine_fits prefix_trees locals fits fit)
 
   -- the calculator's refusal is the coroutine's
   pub coroutine_refused : (e : LayError) → IsRefused (IsCoroutined dl pres tag (one_scalar dl tag) ps all pairs) e → IsRefused (IsCoroutineOf dl pres ps all pairs) e
   coroutine_refused e (inl memory) = inl memory
-  coroutine_refused e (inr refused) = inr (rw none (tag, tells, inl (e, refused, refl)))
+  coroutine_refused e (inr refused) = inr (rw none (tag, is_state_tag, inl (e, refused, refl)))
 
 -- an own fault is the coroutine's refusal
 pub own_coroutine_fault : (dl : TargetDataLayout) (pres ps : List Placed) (all : List (List ℕ)) (pairs : List (ℕ × ℕ)) (e : LayError) → coroutine_fault (length pres) (length ps) all pairs ≡ Some e →

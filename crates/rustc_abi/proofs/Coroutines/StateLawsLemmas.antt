@@ -21,8 +21,8 @@ use Rattle.rustc_abi.proofs.Places.LawsLemmas.{ends_in, lengths_in}
 pub state_places : (dl : TargetDataLayout) → IsLawfulDataLayout dl → (pres ps : List Placed) (states : List (List ℕ)) (conflicts : List (ℕ × ℕ)) → All (λ p. IsLawfulLayout dl (layout_of p)) pres →
     All (λ p. IsLawfulLayout dl (layout_of p)) ps → coroutine_fault (length pres) (length ps) states conflicts ≡ None → (tag : Scalar) → IsStateTag (length states) tag → (layout : Layout) →
     IsCoroutined dl pres tag (one_scalar dl tag) ps states conflicts (Ok layout) → have_places layout.size layout.fields (map size_of pres ++ size_of (one_scalar dl tag) ∷ []) ≡ true
-state_places dl law pres ps states conflicts before there none tag tells layout h =
-    let found = coroutine_places dl law pres ps states conflicts before there none tag tells layout h in
+state_places dl law pres ps states conflicts before there none tag is_state_tag layout h =
+    let found = coroutine_places dl law pres ps states conflicts before there none tag is_state_tag layout h in
     let sizes : List ℕ = map size_of pres ++ size_of (one_scalar dl tag) ∷ [] in
     let count : length (listed_offsets layout.fields) ≡ length sizes = lengths_in layout.size (listed_offsets layout.fields) sizes found.0 in
     let few : length pres + 1 + length ps ≤ most_fields = inline_items (length pres) (length ps) states conflicts none in

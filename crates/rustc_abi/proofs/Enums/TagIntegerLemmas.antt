@@ -386,10 +386,10 @@ module _ (dl : TargetDataLayout) (repr : ReprOptions) where
     differ_by : (i : Integer) (P : ℕ → Type 0) → ((a b : ℕ) → P a → P b → a ≢ b → a % 2 ^ (integer_size i * 8) ≢ b % 2 ^ (integer_size i * 8)) → has_equal numbers ≡ false
         → All P (inhabited_of (λ i. i) layouts (numbered_from 0 numbers))
         → AllPairs (λ v w. v % numbers_of (integer_size i) ≢ w % numbers_of (integer_size i)) (inhabited_of (λ i. i) layouts (numbered_from 0 numbers))
-    differ_by i P tells apart all = λ j k d before short.
+    differ_by i P is_state_tag apart all = λ j k d before short.
         let values = inhabited_of (λ i. i) layouts (numbered_from 0 numbers) in
         subst (λ whole. get_or values j d % whole ≢ get_or values k d % whole) (sym (numbers_are i))
-        (tells (get_or values j d) (get_or values k d) (all j d (omega (arith, before, short))) (all k d short) (inhabited_apart apart j k d before short))
+        (is_state_tag (get_or values j d) (get_or values k d) (all j d (omega (arith, before, short))) (all k d short) (inhabited_apart apart j k d before short))
 
     -- what each of 0 and what the counted ones stand for is holds of both ends
     end_holds : (P : ℤ → Type 0) (least : ℤ) (greatest : ℕ) → IsAskedWith dl repr (counted_discriminants (λ i. i) repr layouts (numbered_from 0 numbers)) least greatest

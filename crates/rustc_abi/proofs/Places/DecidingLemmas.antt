@@ -373,11 +373,11 @@ module _ (dl : TargetDataLayout) (law : IsLawfulDataLayout dl) where
   coroutine_coverable : (prefix locals : Trees) (states : List (List ℕ)) (conflicts : List (ℕ × ℕ)) (pres ps : List Placed) → coroutine_fault (length pres) (length ps) states conflicts ≡ None →
       All (IsWhole dl) pres → All (IsWhole dl) ps → (tag : Scalar) → IsStateTag (length states) tag → (layout : Layout) → IsStated dl pres tag (one_scalar dl tag) ps states conflicts (Ok layout) →
       AreCoverable dl prefix pres → AreCoverable dl locals ps → IsCoverable dl (coroutine prefix locals states conflicts) (placed_coroutine dl pres tag ps states layout)
-  coroutine_coverable prefix locals states conflicts pres ps none first others tag tells layout stated own_prefix own_locals =
+  coroutine_coverable prefix locals states conflicts pres ps none first others tag is_state_tag layout stated own_prefix own_locals =
       let before = whole_lawful dl pres first in
       let there = whole_lawful dl ps others in
-      let count = stated_offsets dl law pres ps states conflicts before there none tag tells layout stated in
-      let held = coroutine_has dl law pres ps states conflicts before there tag tells layout stated in
+      let count = stated_offsets dl law pres ps states conflicts before there none tag is_state_tag layout stated in
+      let held = coroutine_has dl law pres ps states conflicts before there tag is_state_tag layout stated in
       let known = states_within (length pres) (length ps) states conflicts none in
       let tagged_variants : TaggedVariants = tagged_variants_at layout Plain 0 (layouts_in layout.variants) (source_order (length states)) (map (map (placed_in ps)) states) in
       let os : List ℕ = listed_offsets layout.fields in

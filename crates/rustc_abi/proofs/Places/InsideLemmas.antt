@@ -322,7 +322,7 @@ behind_fits dl repr size align fields list good =
     omega (arith, begins, ends, rounded, good.placed.2.extent)
 
 module _ (dl : TargetDataLayout) (law : IsLawfulDataLayout dl) (pres ps : List Placed) (states : List (List ℕ)) (conflicts : List (ℕ × ℕ)) (before : All (λ p. IsLawfulLayout dl (layout_of p)) pres) (there : All (λ p. IsLawfulLayout dl (layout_of p)) ps)
-    (none : coroutine_fault (length pres) (length ps) states conflicts ≡ None) (tag : Scalar) (tells : IsStateTag (length states) tag) where
+    (none : coroutine_fault (length pres) (length ps) states conflicts ≡ None) (tag : Scalar) (is_state_tag : IsStateTag (length states) tag) where
   -- the locals that are promoted
   abbrev promoted : List Bool
   promoted = promoted_of states (conflicts_of (length ps) conflicts)
@@ -347,7 +347,7 @@ module _ (dl : TargetDataLayout) (law : IsLawfulDataLayout dl) (pres ps : List P
   good_first : (first : Layout) → IsUnivariantAnswer layout_of (λ i. i) 0 dl default_repr AlwaysSized (first_list pres (one_scalar dl tag) ps promoted) (Ok first) → IsGoodFirst first
   good_first first h =
       good_list layout_of (λ i. i) 0 dl default_repr AlwaysSized (first_list pres (one_scalar dl tag) ps promoted) first law
-      (first_lawful layout_of (λ i. i) (λ i. i) 0 dl pres tag (one_scalar dl tag) ps states promoted (coroutine_asked dl law pres ps states conflicts before there tag tells)) aligns tt tt h
+      (first_lawful layout_of (λ i. i) (λ i. i) 0 dl pres tag (one_scalar dl tag) ps states promoted (coroutine_asked dl law pres ps states conflicts before there tag is_state_tag)) aligns tt tt h
 
   good_own : (first : Layout) (lists : List Layout) → IsLawfulLayout dl first → AreOwnLists layout_of (λ i. i) 0 dl (state_list_kind first) ps promoted states lists → AreGoodOwn first states lists
   good_own first lists lawful h =
@@ -404,7 +404,7 @@ module _ (dl : TargetDataLayout) (law : IsLawfulDataLayout dl) (pres ps : List P
   pub coroutine_field_count : (layout : Layout) → IsCoroutined dl pres tag (one_scalar dl tag) ps states conflicts (Ok layout) → field_count layout.fields ≡ length pres + 1
   coroutine_field_count layout h =
       let listed : field_count layout.fields ≡ length (listed_offsets layout.fields) = ap (λ (l : Layout). field_count l.fields) h.5 ∙ sym (ap (λ (l : Layout). length (listed_offsets l.fields)) h.5) in
-      listed ∙ stated_offsets dl law pres ps states conflicts before there none tag tells layout h
+      listed ∙ stated_offsets dl law pres ps states conflicts before there none tag is_state_tag layout h
 
   -- each of them ends inside the coroutine
   pub coroutine_places : (layout : Layout) → IsCoroutined dl pres tag (one_scalar dl tag) ps states conflicts (Ok layout)

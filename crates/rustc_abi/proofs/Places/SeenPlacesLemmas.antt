@@ -121,8 +121,8 @@ shared_by t k (Arbitrary offsets order) e listed =
 -- ---- fields that are seen
 
 covers_seen : (t : Typed) (k i offset : ℕ) (p : Placed) → TellsPlaces p → HasOffset t i offset → Sees (field_in t i) p → covers_at t k i ≡ (nat_le offset k && is_data_place p (k - offset))
-covers_seen t k i offset p tells at seen =
-    ap (λ o. nat_le o k && is_place (field_in t i) (k - o)) at ∙ ap (λ b. nat_le offset k && b) (tells (field_in t i) seen (k - offset))
+covers_seen t k i offset p is_state_tag at seen =
+    ap (λ o. nat_le o k && is_place (field_in t i) (k - o)) at ∙ ap (λ b. nat_le offset k && b) (is_state_tag (field_in t i) seen (k - offset))
 
 parts_cover : (t : Typed) (k i : ℕ) (offsets : List ℕ) (ps : List Placed) → length ps ≤ length offsets → All TellsPlaces ps → SeesParts t i (parts_at offsets ps) →
     list_any (covers_at t k) (range_with_len i (length ps)) ≡ is_place_of_part (parts_at offsets ps) k
@@ -213,7 +213,7 @@ scalar_places dl s t seen k =
     place_alone t k (ap (λ (l : Layout). variants_of l.variants) seen.0) ∙ shared_as t k Primitive (ap (λ (l : Layout). l.fields) seen.0) ∙ ap (λ (l : Layout). nat_lt k l.size) seen.0
 
 module _ (layout : Layout) (kind : Mark) (offsets : List ℕ) (pres : List Placed) (tag : Placed) (mark : Scalar) (numbers : List ℕ) (layouts : List (VariantLayout ℕ)) (variants : List (List Placed))
-    (beside : AreBeside layout offsets pres mark numbers layouts variants) (tells : TellsPlaces tag) (own : All TellsPlaces pres) (each : All (All TellsPlaces) variants)
+    (beside : AreBeside layout offsets pres mark numbers layouts variants) (is_state_tag : TellsPlaces tag) (own : All TellsPlaces pres) (each : All (All TellsPlaces) variants)
     (t : Typed) (same : layout_in t ≡ layout) (front : SeesParts t 0 (parts_at offsets pres)) (offset : ℕ) (at : HasOffset t (length pres) offset) (seen : Sees (field_in t (length pres)) tag)
     (held : SeesTaggedVariants t 0 (tagged_variants_at layout kind 0 layouts numbers variants)) where
   shape : (layout_in t).fields ≡ Arbitrary offsets beside.order
@@ -226,7 +226,7 @@ module _ (layout : Layout) (kind : Mark) (offsets : List ℕ) (pres : List Place
   beside_shared k =
       shared_by t k (Arbitrary offsets beside.order) shape tt ∙ ap (λ n. list_any (covers_at t k) (range_with_len 0 n)) beside.count ∙ any_more (covers_at t k) (length pres)
       ∙ ap (λ b. b || covers_at t k (length pres)) (parts_cover t k 0 offsets pres (omega (arith, beside.count)) own front)
-      ∙ ap (λ b. is_place_of_part (parts_at offsets pres) k || b) (covers_seen t k (length pres) offset tag tells at seen)
+      ∙ ap (λ b. is_place_of_part (parts_at offsets pres) k || b) (covers_seen t k (length pres) offset tag is_state_tag at seen)
 
   beside_places : (k : ℕ) → is_place t k ≡ (is_place_of_part (parts_at offsets pres) k || ((nat_le offset k && is_data_place tag (k - offset)) || is_place_of_tagged_variant (tagged_variants_at layout kind 0 layouts numbers variants) k))
   beside_places k =

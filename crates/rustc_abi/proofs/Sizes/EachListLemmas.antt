@@ -389,7 +389,7 @@ module _ (dl : TargetDataLayout) (kind : StructKind) (ps : List Placed) (promote
 module _ (dl : TargetDataLayout) (law : IsLawfulDataLayout dl) where
   module _ (prefix locals : Trees) (pres ps : List Placed) (states : List (List ℕ)) (conflicts : List (ℕ × ℕ))
       (before : AreLaying dl prefix (Ok pres)) (there : AreLaying dl locals (Ok ps))
-      (tag : Scalar) (tells : IsStateTag (length states) tag) (layout : Layout) where
+      (tag : Scalar) (is_state_tag : IsStateTag (length states) tag) (layout : Layout) where
     abbrev promoted : List Bool
     promoted = promoted_of states (conflicts_of (length ps) conflicts)
 
@@ -455,7 +455,7 @@ module _ (dl : TargetDataLayout) (law : IsLawfulDataLayout dl) where
       made_least =
           let own : AreLists (drop count offsets) made.first.size pres tag offsets
           = subst (λ t. AreLists (drop count offsets) made.first.size pres t offsets)
-          (one_tag (length states) made.tag tag made.tells tells) made_lists in
+          (one_tag (length states) made.tag tag made.is_state_tag is_state_tag) made_lists in
           let there_too : AreLists (drop count offsets) made.first.size pres tag places
           = subst (λ os. AreLists (drop count offsets) made.first.size pres tag os) (sym places_are) own in
           let of_parts = subst (λ qs. AreLists (drop count offsets) made.first.size qs tag places) (sym back)

@@ -432,21 +432,21 @@ module _ (dl : TargetDataLayout) (law : IsLawfulDataLayout dl) where
     -- what is promised of the calculator's answer
     promised : (tag : Scalar) → IsStateTag (length states) tag → (r : Result Layout (LayoutCalculatorError Placed)) → IsStated dl pres tag (one_scalar dl tag) ps states conflicts r
         → IsPromised layout_of (λ i. i) (λ i. i) 0 dl pres tag (one_scalar dl tag) ps states (promoted_of states (conflicts_of (length ps) conflicts)) r
-    promised tag tells r h = stated_promised dl law pres ps states conflicts (whole_lawful dl pres (all_whole dl law prefix pres before)) (whole_lawful dl ps (all_whole dl law locals ps there)) tag tells r h
+    promised tag is_state_tag r h = stated_promised dl law pres ps states conflicts (whole_lawful dl pres (all_whole dl law prefix pres before)) (whole_lawful dl ps (all_whole dl law locals ps there)) tag is_state_tag r h
 
     module _ (none : coroutine_fault (length pres) (length ps) states conflicts ≡ None) (tag : Scalar)
-        (tells : IsStateTag (length states) tag) (layout : Layout)
+        (is_state_tag : IsStateTag (length states) tag) (layout : Layout)
         (stated : IsStated dl pres tag (one_scalar dl tag) ps states conflicts (Ok layout)) where
       -- the prefix fields are there
       prefix_back : fields_of (parts_at (listed_offsets layout.fields) pres) ≡ pres
       prefix_back =
           let offsets = stated_offsets dl law pres ps states conflicts
           (whole_lawful dl pres (all_whole dl law prefix pres before))
-          (whole_lawful dl ps (all_whole dl law locals ps there)) none tag tells layout stated in
+          (whole_lawful dl ps (all_whole dl law locals ps there)) none tag is_state_tag layout stated in
           fields_back (listed_offsets layout.fields) pres (omega (arith, offsets))
 
       stated_sized : IsCoroutineSized dl pres ps states conflicts layout.size
-      stated_sized = (tag, tells, IsSizedPromoted.size (IsPromised.sized (promised tag tells (Ok layout) stated)))
+      stated_sized = (tag, is_state_tag, IsSizedPromoted.size (IsPromised.sized (promised tag is_state_tag (Ok layout) stated)))
 
     -- a coroutine has the size that its lists allow
     least_coroutine : (fault : Option LayError) → coroutine_fault (length pres) (length ps) states conflicts ≡ fault → (p : Placed) → CoroutineAnswersBy dl pres ps states conflicts fault (Ok p)
@@ -465,11 +465,11 @@ module _ (dl : TargetDataLayout) (law : IsLawfulDataLayout dl) where
     -- one that is refused for its size is too large
     large_coroutine : (fault : Option LayError) → coroutine_fault (length pres) (length ps) states conflicts ≡ fault → CoroutineAnswersBy dl pres ps states conflicts fault (Err SizeOverflow)
         → (coroutine_fault (length pres) (length ps) states conflicts ≡ None) × IsCoroutineTooLarge dl pres ps states conflicts
-    large_coroutine None none (tag, tells, inl (e, (error, stated, other, name), is)) =
+    large_coroutine None none (tag, is_state_tag, inl (e, (error, stated, other, name), is)) =
         let same : SizeOverflow ≡ e = cc in
         let size : error ≡ calculator.SizeOverflow = size_error error (same ∙ name) in
-        (none, (tag, tells, IsSizedPromoted.too_large (IsPromised.sized (promised tag tells (Err error) stated)) (ap (λ x. Err x) size)))
-    large_coroutine None none (tag, tells, inr (layout, stated, is)) = absurd (cc)
+        (none, (tag, is_state_tag, IsSizedPromoted.too_large (IsPromised.sized (promised tag is_state_tag (Err error) stated)) (ap (λ x. Err x) size)))
+    large_coroutine None none (tag, is_state_tag, inr (layout, stated, is)) = absurd (cc)
     large_coroutine (Some f) fault e =
         absurd (no_coroutine_size (nat_lt most_fields (length pres + 1 + length ps) || has_bad_index states) (nat_lt (length states) 1) (names_unknown (length ps) states conflicts) (list_any has_equal states) (fault ∙ cc))
 
@@ -484,15 +484,15 @@ module _ (dl : TargetDataLayout) (law : IsLawfulDataLayout dl) where
 
     -- and one that is too large is refused for it
     refused_coroutine : (fault : Option LayError) (r : Result Placed LayError) → fault ≡ None → IsCoroutineTooLarge dl pres ps states conflicts → CoroutineAnswersBy dl pres ps states conflicts fault r → r ≡ Err SizeOverflow
-    refused_coroutine None r none (asked, also, large) (tag, tells, answer) = by answer
+    refused_coroutine None r none (asked, also, large) (tag, is_state_tag, answer) = by answer
       where
         here : IsTooLargeWith dl (map layout_of pres) (layout_of (one_scalar dl tag)) (map layout_of ps) states (promoted_of states (conflicts_of (length ps) conflicts))
         here =
-            let same : asked ≡ tag = one_tag (length states) asked tag also tells in
+            let same : asked ≡ tag = one_tag (length states) asked tag also is_state_tag in
             subst (λ t. IsTooLargeWith dl (map layout_of pres) (layout_of (one_scalar dl t)) (map layout_of ps) states (promoted_of states (conflicts_of (length ps) conflicts))) same large
 
         tag_distinguishes : (answer : Result Layout (LayoutCalculatorError Placed)) → IsStated dl pres tag (one_scalar dl tag) ps states conflicts answer → IsAnswer (Err calculator.SizeOverflow) answer
-        tag_distinguishes answer h = IsSizedPromoted.refused (IsPromised.sized (promised tag tells answer h)) (asked_sized dl pres (all_whole dl law prefix pres before)) (asked_sized dl ps (all_whole dl law locals ps there)) here
+        tag_distinguishes answer h = IsSizedPromoted.refused (IsPromised.sized (promised tag is_state_tag answer h)) (asked_sized dl pres (all_whole dl law prefix pres before)) (asked_sized dl ps (all_whole dl law locals ps there)) here
 
         by : Follows (IsCoroutined dl pres tag (one_scalar dl tag) ps states conflicts) (λ layout z. z ≡ Ok (placed_coroutine dl pres tag ps states layout)) r → r ≡ Err SizeOverflow
         by (inl (e, (error, stated, other, name), is)) = is ∙ ap (λ x. Err x) (size_or_memory e error (tag_distinguishes (Err error) stated) other name)
@@ -531,12 +531,12 @@ module _ (dl : TargetDataLayout) (law : IsLawfulDataLayout dl) where
   overlapped : (pres ps : List Placed) (states : List (List ℕ)) (conflicts : List (ℕ × ℕ)) (layout : Layout)
       → IsCoroutineSized dl pres ps states conflicts layout.size
       → IsOverlapSized dl pres ps states conflicts layout.size
-  overlapped pres ps states conflicts layout (tag, tells, size) may =
+  overlapped pres ps states conflicts layout (tag, is_state_tag, size) may =
       let rules = conflicts_of (length ps) conflicts in
       let known = subst (λ n. MayOverlap n states rules) (sym (conflict_rows (length ps) conflicts)) may in
       let answer : Result Layout (LayoutCalculatorError Placed) = Ok layout in
       let own = layout_of (one_scalar dl tag) in
-      (tag, tells, overlap_promised dl (map layout_of pres) own (map layout_of ps) states rules answer known size)
+      (tag, is_state_tag, overlap_promised dl (map layout_of pres) own (map layout_of ps) states rules answer known size)
 
   overlap_of : (t : Tree) (p : Placed) → IsLeast dl t p → HasOverlapSize dl t p
   overlap_of (coroutine prefix locals all conflicts) (placed_states layout pre offset tag tagged_variants) (ps, there, least) =

@@ -180,8 +180,8 @@ three_by start (m ∷ n ∷ []) is h =
 three_by start (m ∷ n ∷ k ∷ sizes) is h = absurd h.1.1.1
 
 no_place_each : IsCoroutineSized default_data_layout [] (byte ∷ byte ∷ []) each_own [] 3 → ⊥
-no_place_each (t, tells, (start, least, sizes, others, size)) =
-    let same : t ≡ tag = one_tag 2 t tag tells is_tag in
+no_place_each (t, is_state_tag, (start, least, sizes, others, size)) =
+    let same : t ≡ tag = one_tag 2 t tag is_state_tag is_tag in
     let all : AreSizes tag start sizes = subst (λ s. AreSizes s start sizes) same (least, others, size) in
     let first : start ≡ 1 = all.0.some.2
     ∙ ap (size_by default_data_layout default_repr AlwaysSized (alone tag)) (one_order all.0.some.0 all.0.some.1.0) in

@@ -86,9 +86,9 @@ module _ (dl : TargetDataLayout) (law : IsLawfulDataLayout dl) where
       → IsStated dl pres tag (one_scalar dl tag) ps states conflicts (Ok layout)
       → HaveLocals ps states (tagged_variants_at layout Plain 0 (layouts_in layout.variants) (source_order (length states))
       (map (map (placed_in ps)) states))
-  coroutine_has pres ps states conflicts before there tag tells layout stated =
+  coroutine_has pres ps states conflicts before there tag is_state_tag layout stated =
       let rules = conflicts_of (length ps) conflicts in
-      let asked = coroutine_asked dl law pres ps states conflicts before there tag tells in
+      let asked = coroutine_asked dl law pres ps states conflicts before there tag is_state_tag in
       let made : IsMadeOfStates (λ i. i) (λ i. i) 0 dl (map layout_of pres) (map layout_of ps) states rules layout =
       coroutine_made layout_of (λ i. i) (λ i. i) 0 dl pres tag (one_scalar dl tag) ps states rules refl asked
       (Ok layout) stated in

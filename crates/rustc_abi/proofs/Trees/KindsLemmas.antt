@@ -247,7 +247,7 @@ module _ (dl : TargetDataLayout) (law : IsLawfulDataLayout dl) (P : Placed → T
   kept_coroutine : (pres ps : List Placed) (states : List (List ℕ)) (conflicts : List (ℕ × ℕ)) → All (IsWhole dl) pres → All (IsWhole dl) ps → coroutine_fault (length pres) (length ps) states conflicts ≡ None →
       (tag : Scalar) → IsStateTag (length states) tag → (layout : Layout) → IsStated dl pres tag (one_scalar dl tag) ps states conflicts (Ok layout) → All P pres → All P ps →
       P (placed_coroutine dl pres tag ps states layout)
-  kept_coroutine pres ps states conflicts before there none tag tells layout h own_pres own =
+  kept_coroutine pres ps states conflicts before there none tag is_state_tag layout h own_pres own =
       let front = whole_lawful dl pres before in
       let locals = whole_lawful dl ps there in
       let variants : List (List Placed) = map (map (placed_in ps)) states in
@@ -257,12 +257,12 @@ module _ (dl : TargetDataLayout) (law : IsLawfulDataLayout dl) (P : Placed → T
       kept.of_states layout (listed_offsets layout.fields) pres tag (source_order (length states)) layouts variants
       (record {
         order = listed_order layout.fields;
-        shape = (coroutine_places dl law pres ps states conflicts front locals none tag tells layout h).1;
-        count = stated_offsets dl law pres ps states conflicts front locals none tag tells layout h;
+        shape = (coroutine_places dl law pres ps states conflicts front locals none tag is_state_tag layout h).1;
+        count = stated_offsets dl law pres ps states conflicts front locals none tag is_state_tag layout h;
         encoding = Direct;
         field = length pres;
         tag_distinguishes = several ∙ ap (Multiple tag Direct (length pres)) (sym (ap variants_of several));
-        inside = inside_coroutine dl law pres ps states conflicts front locals none tag tells layout h;
+        inside = inside_coroutine dl law pres ps states conflicts front locals none tag is_state_tag layout h;
         number_variants = many;
       })
       (λ s e. memory_none true s (sym (ap (λ (l : Layout). l.backend_repr) h.5) ∙ e)) own_pres

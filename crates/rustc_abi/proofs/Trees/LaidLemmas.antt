@@ -414,25 +414,25 @@ module _ (dl : TargetDataLayout) (law : IsLawfulDataLayout dl) where
   pub coroutine_laid : (pres ps : List Placed) (states : List (List ℕ)) (conflicts : List (ℕ × ℕ)) (fault : Option LayError) (p : Placed) → CoroutineAnswersBy dl pres ps states conflicts fault (Ok p)
       → (tag : Scalar) × IsStateTag (length states) tag × (layout : Layout) × IsStated dl pres tag (one_scalar dl tag) ps states conflicts (Ok layout)
       × (placed_coroutine dl pres tag ps states layout ≡ p) × (fault ≡ None)
-  coroutine_laid pres ps states conflicts None p (tag, tells, inl f) = absurd (cc f.2)
-  coroutine_laid pres ps states conflicts None p (tag, tells, inr (layout, stated, e)) = (tag, tells, layout, stated, cc, refl)
+  coroutine_laid pres ps states conflicts None p (tag, is_state_tag, inl f) = absurd (cc f.2)
+  coroutine_laid pres ps states conflicts None p (tag, is_state_tag, inr (layout, stated, e)) = (tag, is_state_tag, layout, stated, cc, refl)
   coroutine_laid pres ps states conflicts (Some f) p e = absurd (cc)
 
   module _ (pres ps : List Placed) (states : List (List ℕ)) (conflicts : List (ℕ × ℕ)) (before : All (λ p. IsLawfulLayout dl (layout_of p)) pres) (there : All (λ p. IsLawfulLayout dl (layout_of p)) ps) where
     -- what a coroutine's layout is asked of
     pub coroutine_asked : (tag : Scalar) → IsStateTag (length states) tag → IsAsked layout_of 0 dl pres tag (one_scalar dl tag) ps states
-    coroutine_asked tag tells = record { law = law; before = before; all = there; tells = tells; holds = refl }
+    coroutine_asked tag is_state_tag = record { law = law; before = before; all = there; is_state_tag = is_state_tag; holds = refl }
 
     -- and what is promised of the answer
     pub stated_promised : (tag : Scalar) → IsStateTag (length states) tag → (r : Result Layout (LayoutCalculatorError Placed)) → IsStated dl pres tag (one_scalar dl tag) ps states conflicts r
         → IsPromised layout_of (λ i. i) (λ i. i) 0 dl pres tag (one_scalar dl tag) ps states (promoted_of states (conflicts_of (length ps) conflicts)) r
-    stated_promised tag tells r h = coroutine_promised layout_of dl pres tag (one_scalar dl tag) ps states (conflicts_of (length ps) conflicts) (coroutine_asked tag tells) r h
+    stated_promised tag is_state_tag r h = coroutine_promised layout_of dl pres tag (one_scalar dl tag) ps states (conflicts_of (length ps) conflicts) (coroutine_asked tag is_state_tag) r h
 
     -- its layout is lawful, and it is sized
     stated_whole : (tag : Scalar) → IsStateTag (length states) tag → (layout : Layout) → IsStated dl pres tag (one_scalar dl tag) ps states conflicts (Ok layout)
         → IsWhole dl (placed_coroutine dl pres tag ps states layout)
-    stated_whole tag tells layout h =
-        let sized : is_unsized layout.backend_repr ≡ false = ap (λ (l : Layout). is_unsized l.backend_repr) h.5 in (IsPromised.lawful (stated_promised tag tells (Ok layout) h), sized)
+    stated_whole tag is_state_tag layout h =
+        let sized : is_unsized layout.backend_repr ≡ false = ap (λ (l : Layout). is_unsized l.backend_repr) h.5 in (IsPromised.lawful (stated_promised tag is_state_tag (Ok layout) h), sized)
 
     coroutine_whole : (fault : Option LayError) (p : Placed) → CoroutineAnswersBy dl pres ps states conflicts fault (Ok p) → IsWhole dl p
     coroutine_whole fault p h =
@@ -442,9 +442,9 @@ module _ (dl : TargetDataLayout) (law : IsLawfulDataLayout dl) where
     -- its prefix fields and its tag have offsets
     pub stated_offsets : coroutine_fault (length pres) (length ps) states conflicts ≡ None → (tag : Scalar) → IsStateTag (length states) tag → (layout : Layout) → IsStated dl pres tag (one_scalar dl tag) ps states conflicts (Ok layout)
         → length (listed_offsets layout.fields) ≡ length pres + 1
-    stated_offsets none tag tells layout h =
+    stated_offsets none tag is_state_tag layout h =
         let tag_distinguishes =
-        coroutine_told layout_of dl pres tag (one_scalar dl tag) ps states (conflicts_of (length ps) conflicts) (coroutine_asked tag tells) (states_within (length pres) (length ps) states conflicts none) (conflict_rows (length ps) conflicts)
+        coroutine_told layout_of dl pres tag (one_scalar dl tag) ps states (conflicts_of (length ps) conflicts) (coroutine_asked tag is_state_tag) (states_within (length pres) (length ps) states conflicts none) (conflict_rows (length ps) conflicts)
         (states_once (length pres) (length ps) states conflicts none) layout h in
         ap (λ shape. length (listed_offsets shape)) tag_distinguishes.fields ∙ tag_distinguishes.count ∙ ap (λ n. n + 1) (length-map pres layout_of)
 

@@ -212,8 +212,8 @@ module _ (dl : TargetDataLayout) where
     IsTagged r tag = Follows (IsCoroutined dl pres tag (one_scalar dl tag) ps states conflicts) (λ layout z. z ≡ Ok (placed_coroutine dl pres tag ps states layout)) r
 
     one_stated_by : (fault : Option LayError) (r s : Result Placed LayError) → CoroutineAnswersBy dl pres ps states conflicts fault r → CoroutineAnswersBy dl pres ps states conflicts fault s → r ≡ s
-    one_stated_by None r s (tag, tells, h) (other, also, k) =
-        let same : other ≡ tag = one_tag (length states) other tag also tells in
+    one_stated_by None r s (tag, is_state_tag, h) (other, also, k) =
+        let same : other ≡ tag = one_tag (length states) other tag also is_state_tag in
         follows_one (IsCoroutined dl pres tag (one_scalar dl tag) ps states conflicts) (λ layout z. z ≡ Ok (placed_coroutine dl pres tag ps states layout)) r s (λ x y p q. one_coroutined tag x y p q)
         (λ layout (a : r ≡ Ok (placed_coroutine dl pres tag ps states layout)) b. a ∙ sym b) h (subst (IsTagged s) same k)
     one_stated_by (Some f) r s h k = h ∙ sym k

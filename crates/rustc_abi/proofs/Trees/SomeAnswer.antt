@@ -259,8 +259,8 @@ module _ (dl : TargetDataLayout) (law : IsLawfulDataLayout dl) where
     stated_so tag (Err error) h made = (Err (lay_error error), (error, h, (λ e. made (ap (λ x. Err x) e)), refl))
 
     some_coroutined : (tag : Scalar) → IsStateTag (length states) tag → HasAnswer (IsCoroutined dl pres tag (one_scalar dl tag) ps states conflicts)
-    some_coroutined tag tells =
-        let answer = some_coroutine layout_of dl pres tag (one_scalar dl tag) ps states (conflicts_of (length ps) conflicts) (coroutine_asked dl law pres ps states conflicts (whole_lawful dl pres before) (whole_lawful dl ps there) tag tells) in
+    some_coroutined tag is_state_tag =
+        let answer = some_coroutine layout_of dl pres tag (one_scalar dl tag) ps states (conflicts_of (length ps) conflicts) (coroutine_asked dl law pres ps states conflicts (whole_lawful dl pres before) (whole_lawful dl ps there) tag is_state_tag) in
         stated_so tag answer.0 answer.1 answer.2
 
     some_stated : (fault : Option LayError) → coroutine_fault (length pres) (length ps) states conflicts ≡ fault → HasAnswer (CoroutineAnswersBy dl pres ps states conflicts fault)

@@ -28,9 +28,9 @@ returns-in_err-layout-clause-err c =
     let all = map (λ (state : Vec ℕ Global). state.items) c.args.state_nodes.states.now in
     let tag = c.state_tag-tag.result in
     let none = fault_of_nodes ns c.args.prefix.items c.args.state_nodes.locals.now all c.args.state_nodes.pairs.now ∙ c.requires.faultless in
-    let tells : IsStateTag (length all) tag = subst (λ n. IsStateTag n tag) (sym (length-map c.args.state_nodes.states.now (λ (state : Vec ℕ Global). state.items))) c.state_tag-tag.ensures in
+    let is_state_tag : IsStateTag (length all) tag = subst (λ n. IsStateTag n tag) (sym (length-map c.args.state_nodes.states.now (λ (state : Vec ℕ Global). state.items))) c.state_tag-tag.ensures in
     let refused = rw c.deref.ensures.value at c.in_err-layout.ensures.err in
-    passed_on _ _ _ c.from_residual.ensures.1 (coroutine_refused c.args.cx.dl.now c.requires.data_layout pres ps all c.args.state_nodes.pairs.now tag none tells c.requires.prefix c.requires.locals _ refused)
+    passed_on _ _ _ c.from_residual.ensures.1 (coroutine_refused c.args.cx.dl.now c.requires.data_layout pres ps all c.args.state_nodes.pairs.now tag none is_state_tag c.requires.prefix c.requires.locals _ refused)
 
 pub add_states-requires-clause-tag : goal.add_states-requires-clause-tag
 add_states-requires-clause-tag c =
@@ -44,9 +44,9 @@ add_states-requires-clause-each c =
     let all = map (λ (state : Vec ℕ Global). state.items) c.args.state_nodes.states.now in
     let tag = c.state_tag-tag.result in
     let none = fault_of_nodes ns c.args.prefix.items c.args.state_nodes.locals.now all c.args.state_nodes.pairs.now ∙ c.requires.faultless in
-    let tells : IsStateTag (length all) tag = subst (λ n. IsStateTag n tag) (sym (length-map c.args.state_nodes.states.now (λ (state : Vec ℕ Global). state.items))) c.state_tag-tag.ensures in
+    let is_state_tag : IsStateTag (length all) tag = subst (λ n. IsStateTag n tag) (sym (length-map c.args.state_nodes.states.now (λ (state : Vec ℕ Global). state.items))) c.state_tag-tag.ensures in
     let laid = rw c.deref.ensures.value at c.in_ok-layout.ensures.ok in
-    coroutine_variants c.args.cx.dl.now c.requires.data_layout pres ps all c.args.state_nodes.pairs.now tag none tells c.requires.prefix c.requires.locals c.in_ok-layout.layout laid
+    coroutine_variants c.args.cx.dl.now c.requires.data_layout pres ps all c.args.state_nodes.pairs.now tag none is_state_tag c.requires.prefix c.requires.locals c.in_ok-layout.layout laid
     ∙ length-map c.args.state_nodes.states.now (λ (state : Vec ℕ Global). state.items)
 
 pub add_states-requires-clause-few : goal.add_states-requires-clause-few
@@ -68,9 +68,9 @@ add_states-requires-clause-places c =
     let all = map (λ (state : Vec ℕ Global). state.items) c.args.state_nodes.states.now in
     let tag = c.state_tag-tag.result in
     let none = fault_of_nodes ns c.args.prefix.items c.args.state_nodes.locals.now all c.args.state_nodes.pairs.now ∙ c.requires.faultless in
-    let tells : IsStateTag (length all) tag = subst (λ n. IsStateTag n tag) (sym (length-map c.args.state_nodes.states.now (λ (state : Vec ℕ Global). state.items))) c.state_tag-tag.ensures in
+    let is_state_tag : IsStateTag (length all) tag = subst (λ n. IsStateTag n tag) (sym (length-map c.args.state_nodes.states.now (λ (state : Vec ℕ Global). state.items))) c.state_tag-tag.ensures in
     let laid = rw c.deref.ensures.value at c.in_ok-layout.ensures.ok in
-    state_places c.args.cx.dl.now c.requires.data_layout pres ps all c.args.state_nodes.pairs.now c.requires.prefix c.requires.locals none tag tells c.in_ok-layout.layout laid
+    state_places c.args.cx.dl.now c.requires.data_layout pres ps all c.args.state_nodes.pairs.now c.requires.prefix c.requires.locals none tag is_state_tag c.in_ok-layout.layout laid
 
 pub add_states-requires-clause-inside : goal.add_states-requires-clause-inside
 add_states-requires-clause-inside c =
@@ -80,10 +80,10 @@ add_states-requires-clause-inside c =
     let all = map (λ (state : Vec ℕ Global). state.items) c.args.state_nodes.states.now in
     let tag = c.state_tag-tag.result in
     let none = fault_of_nodes ns c.args.prefix.items c.args.state_nodes.locals.now all c.args.state_nodes.pairs.now ∙ c.requires.faultless in
-    let tells : IsStateTag (length all) tag = subst (λ n. IsStateTag n tag) (sym (length-map c.args.state_nodes.states.now (λ (state : Vec ℕ Global). state.items))) c.state_tag-tag.ensures in
+    let is_state_tag : IsStateTag (length all) tag = subst (λ n. IsStateTag n tag) (sym (length-map c.args.state_nodes.states.now (λ (state : Vec ℕ Global). state.items))) c.state_tag-tag.ensures in
     let laid = rw c.deref.ensures.value at c.in_ok-layout.ensures.ok in
     subst (VariantsInside c.in_ok-layout.layout.size (variants_of c.in_ok-layout.layout.variants)) (map-map (map (placed_in ps)) (λ (state : Vec ℕ Global). state.items) c.args.state_nodes.states.now)
-    (inside_coroutine c.args.cx.dl.now c.requires.data_layout pres ps all c.args.state_nodes.pairs.now c.requires.prefix c.requires.locals none tag tells c.in_ok-layout.layout laid)
+    (inside_coroutine c.args.cx.dl.now c.requires.data_layout pres ps all c.args.state_nodes.pairs.now c.requires.prefix c.requires.locals none tag is_state_tag c.in_ok-layout.layout laid)
 
 pub add_states-requires-clause-known : goal.add_states-requires-clause-known
 add_states-requires-clause-known c =
@@ -98,9 +98,9 @@ returns-clause-ok c =
     let all = map (λ (state : Vec ℕ Global). state.items) c.args.state_nodes.states.now in
     let tag = c.state_tag-tag.result in
     let none = fault_of_nodes ns c.args.prefix.items c.args.state_nodes.locals.now all c.args.state_nodes.pairs.now ∙ c.requires.faultless in
-    let tells : IsStateTag (length all) tag = subst (λ n. IsStateTag n tag) (sym (length-map c.args.state_nodes.states.now (λ (state : Vec ℕ Global). state.items))) c.state_tag-tag.ensures in
+    let is_state_tag : IsStateTag (length all) tag = subst (λ n. IsStateTag n tag) (sym (length-map c.args.state_nodes.states.now (λ (state : Vec ℕ Global). state.items))) c.state_tag-tag.ensures in
     let laid = rw c.deref.ensures.value at c.in_ok-layout.ensures.ok in
     IfOk-weaker c.add_states.result _ _
-    (λ i put first own tag_distinguishes tell fits fit. IsAdded-coroutine c.args.cx.dl.now c.requires.data_layout pres ps all c.args.state_nodes.pairs.now tag none tells c.requires.prefix c.requires.locals c.in_ok-layout.layout laid
+    (λ i put first own tag_distinguishes tell fits fit. IsAdded-coroutine c.args.cx.dl.now c.requires.data_layout pres ps all c.args.state_nodes.pairs.now tag none is_state_tag c.requires.prefix c.requires.locals c.in_ok-layout.layout laid
     ns c.add_states.new.nodes i first own put tag_distinguishes tell fits fit)
     c.add_states.ensures.ok

@@ -6,14 +6,14 @@ use Rattle.rustc_abi.proofs.lay_tree.+lay.Given as goal
 
 abbrev pub invariant-lay_each-loop-field : goal.invariant-lay_each-loop-field
 invariant-lay_each-loop-field l =
-    AreAdded l.dl l.initial.nodes l.nodes l.children.items (map tree_of (take l.field-index l.fields))
-    × AreCounted l.dl l.initial.nodes l.nodes (trees (map tree_of (take l.field-index l.fields)))
+    AreAdded l.cx.dl.now l.initial.nodes l.nodes l.children.items (map tree_of (take l.field-index l.fields))
+    × AreCounted l.cx.dl.now l.initial.nodes l.nodes (trees (map tree_of (take l.field-index l.fields)))
     × AreStillThere l.initial.nodes l.nodes
 
 abbrev pub invariant-lay_variants-loop-variant : goal.invariant-lay_variants-loop-variant
 invariant-lay_variants-loop-variant l =
-    AreVariantsAdded l.dl l.initial.nodes l.nodes l.children.items (trees_of_variants (take l.variant-index l.all))
-    × AreVariantsCounted l.dl l.initial.nodes l.nodes (trees_of_variants (take l.variant-index l.all))
+    AreVariantsAdded l.cx.dl.now l.initial.nodes l.nodes l.children.items (trees_of_variants (take l.variant-index l.all))
+    × AreVariantsCounted l.cx.dl.now l.initial.nodes l.nodes (trees_of_variants (take l.variant-index l.all))
     × AreStillThere l.initial.nodes l.nodes
 
 abbrev pub decreases-lay_tree : goal.decreases-lay_tree
