@@ -11,30 +11,137 @@ alone() {
   [ "$2" = 1 ] || refuse "$1 stands alone"
 }
 
-# Takes standard input from the file.
-open_file() {
-  [ -r "$1" ] && [ ! -d "$1" ] || refuse "no file '$1' can be read"
-  exec <"$1"
+# Carries out what each command is asked by: --help, and --prove where it has a program, whose name comes first. The command's own options
+# are those of `options`; another one isn't known.
+take_options() {
+  local program=$1 word
+  shift
+  for word; do
+    case $word in
+      --help) alone "$word" $#; tell_use; exit 0 ;;
+      --prove)
+        if [ -n "$program" ]; then
+          alone "$word" $#
+          exec "$here/scripts/build_program" "$program"
+        fi
+        ;;&
+      -*) [[ " ${options:-} " == *" $word "* ]] || refuse "'$word' isn't known" ;;
+    esac
+  done
 }
 
-# Runs the program on standard input, hands its answer to the words that follow, where there are some and it is a layout's, and tells
-# what else it means on standard error. The status is the program's.
-answer() {
-  local program=$1 status=0
+# Whether files can be read.
+need_files() {
+  local file
+  for file; do
+    [ -r "$file" ] && [ ! -d "$file" ] || refuse "no file '$file' can be read"
+  done
+}
+
+# Makes a folder that is gone at the end, whose name is `room` then.
+make_room() {
+  room=$(mktemp -d)
+  trap 'rm -rf "$room"' EXIT
+}
+
+# Runs a program that isn't proved by the kit's `rt try` with these words, and tells on standard error that it isn't, how far its proof is, and
+# how long this takes. What the kit says of the run goes into the room.
+try_program() {
+  local program=$1 rt status=0
   shift
-  input=$(mktemp)
-  output=$(mktemp)
-  trap 'rm -f "$input" "$output"' EXIT
-  cat >"$input"
-  "$here/scripts/run_program" "$program" "$command" <"$input" >"$output" || status=$?
-  if [ "$status" = 0 ] && [ $# != 0 ]; then
-    "$@" "$input" <"$output"
-  else
-    cat "$output"
+  rt=$(command -v rt || true)
+  [ -n "$rt" ] || rt=${RATTLE_KIT:-}/bin/rt
+  if [ ! -x "$rt" ]; then
+    echo "$command: rt is missing: put the kit's rt on the PATH, or the kit's folder into RATTLE_KIT" >&2
+    exit 127
   fi
-  # (a first line with a colon has a spec)
-  if [ "$status" = 1 ] || [ "$status" = 2 ] || [[ $(head -n 1 "$input") =~ ^[^:]+$ ]]; then
-    "$here/scripts/explain" "$command" "$input" "$output"
+  echo "$command: this answer comes, in a minute or two, from a program that isn't proved yet; './$command --prove' proves it, in up to an hour ($("$here/scripts/is_proved" --count "$program") are proved)" >&2
+  (cd "$here/crates/$program" && "$rt" try "$@" 2>"$room/told") || status=$?
+  return "$status"
+}
+
+# Ends where a program that isn't proved had no answer.
+end_untold() {
+  cat "$room/told" >&2
+  exit 127
+}
+
+# Runs a program with these words: proved, where it is, and else the same sources unproved. The status is the program's.
+run_program() {
+  local program=$1 status=0 word name words=() data=()
+  shift
+  if "$here/scripts/is_proved" "$program"; then
+    "$here/crates/$program/out/$program" "$@" || status=$?
+    return "$status"
   fi
+  # (it runs in a folder of its own, into which a file that is named is copied, by a path that doesn't lead out of it)
+  for word; do
+    name=$word
+    if [ -f "$word" ]; then
+      if [[ /$word/ == */../* || $word == /* ]]; then
+        name=$(realpath -ms --relative-to=. "$word" | sed -E 's|^(\.\./)*||')
+      fi
+      data+=(--data "$name=$(realpath "$word")")
+    fi
+    words+=("$name")
+  done
+  try_program "$program" ${data[@]+"${data[@]}"} ${words[@]+-- "${words[@]}"} || status=$?
+  grep -q '^run=ended' "$room/told" || end_untold
+  grep -vE '^(rt|run=|interpreter|checked|statements|logic|by-macro)' "$room/told" >&2 || true
+  return "$status"
+}
+
+# Runs a program on each of so many inputs, the files 1, 2 .. of the room's `in`: `out` has the answers then, and `status` what they end with. One
+# build of a program that isn't proved answers all.
+run_on_all() {
+  local program=$1 count=$2 at
+  mkdir "$room/out" "$room/status"
+  if [ "$count" = 1 ] || "$here/scripts/is_proved" "$program"; then
+    for ((at = 1; at <= count; at++)); do
+      echo 0 >"$room/status/$at"
+      run_program "$program" <"$room/in/$at" >"$room/out/$at" || echo $? >"$room/status/$at"
+    done
+    return 0
+  fi
+  try_program "$program" --cases "$room/in" </dev/null >"$room/all" || end_untold
+  awk -v out="$room/out" '/^== [0-9]+$/ { file = out "/" $2; printf "" >file; next } { print >file }' "$room/all"
+  for ((at = 1; at <= count; at++)); do
+    sed -nE "s/^case=$at run=ended status=([0-9]+) .*/\1/p" "$room/told" >"$room/status/$at"
+    [ -s "$room/status/$at" ] || end_untold
+  done
+}
+
+# Answers what the files have that are named, or standard input where none is, by a program, each behind its name where several are; `drawn_by`
+# is what a layout's answer is handed to, where it is drawn. Tells on standard error what else the answers mean. The status is the greatest.
+answer() {
+  local program=$1 count=0 file status at status_of
+  shift
+  need_files "$@"
+  make_room
+  mkdir "$room/in"
+  for file; do
+    count=$((count + 1))
+    cat -- "$file" >"$room/in/$count"
+  done
+  if [ "$count" = 0 ]; then
+    count=1
+    cat >"$room/in/1"
+  fi
+  run_on_all "$program" "$count"
+  status=0
+  for ((at = 1; at <= count; at++)); do
+    status_of=$(cat "$room/status/$at")
+    [ "$status_of" -le "$status" ] || status=$status_of
+    [ "$count" = 1 ] || echo "file ${!at}"
+    if [ "$status_of" = 0 ] && [ -n "${drawn_by:-}" ]; then
+      "$drawn_by" "$room/in/$at" <"$room/out/$at"
+    else
+      cat "$room/out/$at"
+    fi
+    # (a first line with a colon has a spec)
+    if [ "$status_of" = 1 ] || [ "$status_of" = 2 ] || [[ $(head -n 1 "$room/in/$at") =~ ^[^:]+$ ]]; then
+      "$here/scripts/explain" "$command" "$room/in/$at" "$room/out/$at"
+    fi
+  done
   return "$status"
 }

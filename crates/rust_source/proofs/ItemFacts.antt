@@ -24,7 +24,7 @@ use Rattle.rust_source.specs.Syntax.{integer, more_segments, named, no_arguments
 use Rattle.rust_source.specs.Terms.{arguments_read, expr_with, readers, operand, path_read, primary, segment_read, pointee_read, type_next, whole}
 use Rattle.rust_source.specs.Until.{until, up_to}
 use Rattle.rust_source.specs.Uses.{group_read, names_read, path_used, rename_read, tree_read, tree_with}
-use Rattle.rust_source.specs.Written.{WrittenRead, enum_read, head_read, head_where, struct_read, tail_read, where_asked}
+use Rattle.rust_source.specs.Definition.{DefinitionRead, enum_read, head_read, head_where, struct_read, tail_read, where_asked}
 
 -- a token, and one that is a bracket
 abbrev token : TokenKind → (start end : ℕ) → Token
@@ -46,7 +46,7 @@ before text ts = record {
 module _ (rules : Rules) where
   -- A { a: u8 }
   field_of_struct :
-      read_as (λ (w : WrittenRead × Cursor). w.0.kind) (struct_read rules (before (codes "A { a: u8 }") (
+      read_as (λ (w : DefinitionRead × Cursor). w.0.kind) (struct_read rules (before (codes "A { a: u8 }") (
       token kind.Name 0 1 ∷
       bracket_at (kind.Open bracket.Curly) 2 5 ∷
       token kind.Name 4 5 ∷
@@ -69,7 +69,7 @@ module _ (rules : Rules) where
 
   -- E { A = 3, #[cfg(false)] B }
   variant_taken_out :
-      read_as (λ (w : WrittenRead × Cursor). w.0.kind) (enum_read rules (before (codes "E { A = 3, #[cfg(false)] B }") (
+      read_as (λ (w : DefinitionRead × Cursor). w.0.kind) (enum_read rules (before (codes "E { A = 3, #[cfg(false)] B }") (
       token kind.Name 0 1 ∷
       bracket_at (kind.Open bracket.Curly) 2 14 ∷
       token kind.Name 4 5 ∷

@@ -39,40 +39,40 @@ pub copy_done : (n i : ℕ) (c : Cursor) → n ≤ i → copy_from (n - i) c ≡
 copy_done n i c done = ap (λ k. copy_from k c) (none_left n i done)
 
 module _ (t : CfgTarget) where
-  pub predicate_less : (room left : ℕ) (c : Cursor) (known : Noted) → left + 1 ≡ room → predicate_read t room c known ≡ predicate_with t (predicate_read t left) c known
+  pub predicate_less : (depth_left left : ℕ) (c : Cursor) (known : Noted) → left + 1 ≡ depth_left → predicate_read t depth_left c known ≡ predicate_with t (predicate_read t left) c known
   unfolding predicate_read
   predicate_less zero left c known is = absurd (omega arith)
-  predicate_less (suc room) left c known is = let e : room ≡ left = omega arith in ap (λ r. predicate_with t (predicate_read t r) c known) e
+  predicate_less (suc depth_left) left c known is = let e : depth_left ≡ left = omega arith in ap (λ r. predicate_with t (predicate_read t r) c known) e
 
-  pub predicate_none : (room : ℕ) (c : Cursor) (known : Noted) → room ≡ 0 → predicate_read t room c known ≡ (Err (fault c TooDeep), known)
+  pub predicate_none : (depth_left : ℕ) (c : Cursor) (known : Noted) → depth_left ≡ 0 → predicate_read t depth_left c known ≡ (Err (fault c TooDeep), known)
   unfolding predicate_read
   predicate_none zero c known is = refl
-  predicate_none (suc room) c known is = absurd (omega arith)
+  predicate_none (suc depth_left) c known is = absurd (omega arith)
 
-  module _ (room n i : ℕ) where
-    pub count_more : (holding count : ℕ) (c : Cursor) (known : Noted) → i < n → count_from t (predicate_read t room) (n - i) holding count c known ≡ (if is_done c then done (holding, count) known else read_on (λ (b : Bool × Cursor) ns. read_on (λ d ms. count_from t (predicate_read t room) (n - (i + 1)) (counting holding b.0) (counting count true) d ms) (comma_passed b.1, ns)) (predicate_read t room c known))
-    count_more holding count c known more = ap (λ k. count_from t (predicate_read t room) k holding count c known) (turns n i more)
+  module _ (depth_left n i : ℕ) where
+    pub count_more : (holding count : ℕ) (c : Cursor) (known : Noted) → i < n → count_from t (predicate_read t depth_left) (n - i) holding count c known ≡ (if is_done c then done (holding, count) known else read_on (λ (b : Bool × Cursor) ns. read_on (λ d ms. count_from t (predicate_read t depth_left) (n - (i + 1)) (counting holding b.0) (counting count true) d ms) (comma_passed b.1, ns)) (predicate_read t depth_left c known))
+    count_more holding count c known more = ap (λ k. count_from t (predicate_read t depth_left) k holding count c known) (turns n i more)
 
-    pub count_done : (holding count : ℕ) (c : Cursor) (known : Noted) → n ≤ i → count_from t (predicate_read t room) (n - i) holding count c known ≡ done (holding, count) known
-    count_done holding count c known past = ap (λ k. count_from t (predicate_read t room) k holding count c known) (none_left n i past)
+    pub count_done : (holding count : ℕ) (c : Cursor) (known : Noted) → n ≤ i → count_from t (predicate_read t depth_left) (n - i) holding count c known ≡ done (holding, count) known
+    count_done holding count c known past = ap (λ k. count_from t (predicate_read t depth_left) k holding count c known) (none_left n i past)
 
 module _ (rules : Rules) where
-  pub attribute_less : (room left : ℕ) (said : Attributes) (c : Cursor) (known : Noted) → left + 1 ≡ room → attribute_read rules room said c known ≡ attribute_with rules (attribute_read rules left) said c known
+  pub attribute_less : (depth_left left : ℕ) (said : Attributes) (c : Cursor) (known : Noted) → left + 1 ≡ depth_left → attribute_read rules depth_left said c known ≡ attribute_with rules (attribute_read rules left) said c known
   unfolding attribute_read
   attribute_less zero left said c known is = absurd (omega arith)
-  attribute_less (suc room) left said c known is = let e : room ≡ left = omega arith in ap (λ r. attribute_with rules (attribute_read rules r) said c known) e
+  attribute_less (suc depth_left) left said c known is = let e : depth_left ≡ left = omega arith in ap (λ r. attribute_with rules (attribute_read rules r) said c known) e
 
-  pub attribute_none : (room : ℕ) (said : Attributes) (c : Cursor) (known : Noted) → room ≡ 0 → attribute_read rules room said c known ≡ (Err (fault c TooDeep), known)
+  pub attribute_none : (depth_left : ℕ) (said : Attributes) (c : Cursor) (known : Noted) → depth_left ≡ 0 → attribute_read rules depth_left said c known ≡ (Err (fault c TooDeep), known)
   unfolding attribute_read
   attribute_none zero said c known is = refl
-  attribute_none (suc room) said c known is = absurd (omega arith)
+  attribute_none (suc depth_left) said c known is = absurd (omega arith)
 
   module _ (n i : ℕ) where
-    pub expanded_more : (room : ℕ) (said : Attributes) (c : Cursor) (known : Noted) → i < n → expanded_from rules (attribute_read rules room) (n - i) said c known ≡ (if is_done c then done said known else read_on (λ more ns. read_on (λ d ms. expanded_from rules (attribute_read rules room) (n - (i + 1)) more d ms) (comma_passed (until 44 c), ns)) (attribute_read rules room said (up_to 44 c) known))
-    expanded_more room said c known more = ap (λ k. expanded_from rules (attribute_read rules room) k said c known) (turns n i more)
+    pub expanded_more : (depth_left : ℕ) (said : Attributes) (c : Cursor) (known : Noted) → i < n → expanded_from rules (attribute_read rules depth_left) (n - i) said c known ≡ (if is_done c then done said known else read_on (λ more ns. read_on (λ d ms. expanded_from rules (attribute_read rules depth_left) (n - (i + 1)) more d ms) (comma_passed (until 44 c), ns)) (attribute_read rules depth_left said (up_to 44 c) known))
+    expanded_more depth_left said c known more = ap (λ k. expanded_from rules (attribute_read rules depth_left) k said c known) (turns n i more)
 
-    pub expanded_done : (room : ℕ) (said : Attributes) (c : Cursor) (known : Noted) → n ≤ i → expanded_from rules (attribute_read rules room) (n - i) said c known ≡ done said known
-    expanded_done room said c known past = ap (λ k. expanded_from rules (attribute_read rules room) k said c known) (none_left n i past)
+    pub expanded_done : (depth_left : ℕ) (said : Attributes) (c : Cursor) (known : Noted) → n ≤ i → expanded_from rules (attribute_read rules depth_left) (n - i) said c known ≡ done said known
+    expanded_done depth_left said c known past = ap (λ k. expanded_from rules (attribute_read rules depth_left) k said c known) (none_left n i past)
 
     pub said_more : (said : Attributes) (c : Cursor) (known : Noted) → i < n → attributes_from rules (n - i) said c known ≡ (if is_next c 35 then read_on (λ (s : Attributes × Cursor) ns. attributes_from rules (n - (i + 1)) s.0 s.1 ns) (one_attribute rules said (passed c 1) known) else done (said, c) known)
     said_more said c known more = ap (λ k. attributes_from rules k said c known) (turns n i more)

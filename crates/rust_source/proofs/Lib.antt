@@ -12,7 +12,7 @@ mod Joining
 mod OneJoining
 mod Operators
 mod Pointed
-mod Rooms
+mod Depths
 mod SourceLemmas
 mod Steps
 mod TokenSteps

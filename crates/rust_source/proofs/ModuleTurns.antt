@@ -1,4 +1,4 @@
--- Less room within a module, a turn of the loops over items, and what stands at their ends.
+-- A module one level deeper, a turn of the loops over items, and what stands at their ends.
 use Rattle.std.proofs.Common.{◌≡◌, ℕ, zero, suc, ◌+◌, ◌-◌, ◌<◌, ◌≤◌, true, false, Err, refl, ap, arith}
 use Rattle.std.specs.Prelude.{◌||◌, if◌then◌else◌}
 use Rattle.rust_source.specs.declared.fault.SourceFaultKind.TheVariants.{TooDeep}
@@ -31,18 +31,18 @@ module _ (n i : ℕ) where
   pub own_done : (rules : Rules) (number owner : ℕ) (c : Cursor) (known : Having) → n ≤ i → own_from rules (n - i) number owner c known ≡ done tt known
   own_done rules number owner c known past = ap (λ k. own_from rules k number owner c known) (none_left n i past)
 
-  pub all_more : (rules : Rules) (room number : ℕ) (c : Cursor) (known : Having) → i < n → all_from rules (module_within rules room) (n - i) number c known ≡ (if is_done c then done tt known else read_on (λ d ns. all_from rules (module_within rules room) (n - (i + 1)) number d ns) (one_read rules (module_within rules room) number c known))
-  all_more rules room number c known more = ap (λ k. all_from rules (module_within rules room) k number c known) (turns n i more)
+  pub all_more : (rules : Rules) (depth_left number : ℕ) (c : Cursor) (known : Having) → i < n → all_from rules (module_within rules depth_left) (n - i) number c known ≡ (if is_done c then done tt known else read_on (λ d ns. all_from rules (module_within rules depth_left) (n - (i + 1)) number d ns) (one_read rules (module_within rules depth_left) number c known))
+  all_more rules depth_left number c known more = ap (λ k. all_from rules (module_within rules depth_left) k number c known) (turns n i more)
 
-  pub all_done : (rules : Rules) (room number : ℕ) (c : Cursor) (known : Having) → n ≤ i → all_from rules (module_within rules room) (n - i) number c known ≡ done tt known
-  all_done rules room number c known past = ap (λ k. all_from rules (module_within rules room) k number c known) (none_left n i past)
+  pub all_done : (rules : Rules) (depth_left number : ℕ) (c : Cursor) (known : Having) → n ≤ i → all_from rules (module_within rules depth_left) (n - i) number c known ≡ done tt known
+  all_done rules depth_left number c known past = ap (λ k. all_from rules (module_within rules depth_left) k number c known) (none_left n i past)
 
-pub module_less : (rules : Rules) (room left number : ℕ) (c : Cursor) (known : Having) → left + 1 ≡ room → module_within rules room number c known ≡ all_read rules (module_within rules left) number c known
+pub module_less : (rules : Rules) (depth_left left number : ℕ) (c : Cursor) (known : Having) → left + 1 ≡ depth_left → module_within rules depth_left number c known ≡ all_read rules (module_within rules left) number c known
 unfolding module_within
 module_less rules zero left number c known is = absurd (omega arith)
-module_less rules (suc room) left number c known is = let e : room ≡ left = omega arith in ap (λ r. all_read rules (module_within rules r) number c known) e
+module_less rules (suc depth_left) left number c known is = let e : depth_left ≡ left = omega arith in ap (λ r. all_read rules (module_within rules r) number c known) e
 
-pub module_none : (rules : Rules) (room number : ℕ) (c : Cursor) (known : Having) → room ≡ 0 → module_within rules room number c known ≡ (Err (fault c TooDeep), known)
+pub module_none : (rules : Rules) (depth_left number : ℕ) (c : Cursor) (known : Having) → depth_left ≡ 0 → module_within rules depth_left number c known ≡ (Err (fault c TooDeep), known)
 unfolding module_within
 module_none rules zero number c known is = refl
-module_none rules (suc room) number c known is = absurd (omega arith)
+module_none rules (suc depth_left) number c known is = absurd (omega arith)

@@ -34,8 +34,8 @@ abbrev pub items_of : Vec Token Global → List Token
 items_of v = v.items
 
 -- the program's fault is the answer's, memory aside
-pub told : (r : Result (Vec Token Global) SourceFault) (fault : SourceFault) (answer : Result (List Token) SourceFault) → r ≡ Err fault → (answer ≡ Err fault) ⊎ (fault.kind ≡ OutOfMemory) → Yields items_of answer r
-told r fault answer is h = subst (λ x. Yields items_of answer x) (sym is) h
+pub yields_fault : (r : Result (Vec Token Global) SourceFault) (fault : SourceFault) (answer : Result (List Token) SourceFault) → r ≡ Err fault → (answer ≡ Err fault) ⊎ (fault.kind ≡ OutOfMemory) → Yields items_of answer r
+yields_fault r fault answer is h = subst (λ x. Yields items_of answer x) (sym is) h
 
 -- the next token ends near the text's end
 pub near_end : (o : Option Token) (t : Token) (n : ℕ) → o ≡ Some t → IfSome o (λ u. u.end ≤ n) → t.end ≤ n

@@ -67,7 +67,7 @@ cfg_said rules said i known =
     read_on (λ (b : Bool × Cursor) ns. (then_read (λ d. cfg_alone (record said { holds = b.0 }) d) (comma_passed b.1), ns))
     (predicate_read rules.target most_nested i known)
 
--- with a fault that is told where the item is there, of several the first
+-- with a fault that is reported where the item is there, of several the first
 abbrev pub faulty_by : Attributes → SourceFault → (before : Option SourceFault) → Attributes
 faulty_by said e None = record said { fault = Some e }
 faulty_by said e (Some before) = said
@@ -147,9 +147,9 @@ module _ (rules : Rules) (A : Attributes → Cursor → Noted → Result Attribu
       else (if begins_attribute c then attribute_by (named_said said c) c (inside (passed c 1) bracket.Round) known else fault_next BadAttribute c known)
 
 -- what the attribute says that is next and may stand in so many others, added to what those before it say
-unfoldable pub attribute_read : Rules → (room : ℕ) → Attributes → Cursor → Noted → Result Attributes SourceFault × Noted
+unfoldable pub attribute_read : Rules → (depth_left : ℕ) → Attributes → Cursor → Noted → Result Attributes SourceFault × Noted
 attribute_read rules zero said c known = fault_next TooDeep c known
-attribute_read rules (suc room) said c known = attribute_with rules (attribute_read rules room) said c known
+attribute_read rules (suc depth_left) said c known = attribute_with rules (attribute_read rules depth_left) said c known
 
 -- the `!` of an attribute is passed over
 abbrev pub bang_passed : Cursor → Cursor

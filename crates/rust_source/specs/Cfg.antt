@@ -249,6 +249,6 @@ module _ (t : CfgTarget) (P : Noting Bool) where
   predicate_with c known = predicate_by c (inside (passed c 1) bracket.Round) known
 
 -- whether the predicate that is next holds, which may stand in so many others
-unfoldable pub predicate_read : CfgTarget → (room : ℕ) → Noting Bool
+unfoldable pub predicate_read : CfgTarget → (depth_left : ℕ) → Noting Bool
 predicate_read t zero = fault_next TooDeep
-predicate_read t (suc room) = predicate_with t (predicate_read t room)
+predicate_read t (suc depth_left) = predicate_with t (predicate_read t depth_left)

@@ -22,7 +22,7 @@ use Rattle.rust_source.specs.Simple.{begins_path, most_nested}
 use Rattle.rust_source.specs.Syntax.{PathRead}
 use Rattle.rust_source.specs.Terms.{Known, done, readers, path_read}
 use Rattle.rust_source.specs.Visibility.{visibility_read}
-use Rattle.rust_source.specs.Written.{WrittenRead, const_read}
+use Rattle.rust_source.specs.Definition.{DefinitionRead, const_read}
 
 -- memory was wanting
 abbrev pub is_wanting : SourceFaultKind → Bool
@@ -48,7 +48,7 @@ lifetimes_in c = lifetimes_from (c.end - c.at) c
 abbrev pub lifetimes : Cursor → Bool × Cursor
 lifetimes c = if is_next c 60 then lifetimes_in (passed c 1) else (true, c)
 
--- a type, where its path could be read; what can't be read here isn't told
+-- a type, where its path could be read; what can't be read here isn't reported
 abbrev pub constant_owner_by : Result (PathRead × Cursor) SourceFault → Known → Reading (Option (PathRead × Cursor))
 constant_owner_by (Ok p) names = done (Some p) names
 constant_owner_by (Err e) names = done None names
@@ -63,13 +63,13 @@ owner_read c names =
     let l = lifetimes c in
     if l.0 && begins_path l.1 then constant_owner (path_read (readers most_nested) true l.1 names) else done None names
 
--- a constant of a type goes behind the items, where it could be read; what can't be read here isn't told
-abbrev pub constant_of_type_by : Standing → Attributes → ItemsRead → Result (WrittenRead × Cursor) SourceFault → Known → Result (Unit {0}) SourceFault × Having
+-- a constant of a type goes behind the items, where it could be read; what can't be read here isn't reported
+abbrev pub constant_of_type_by : Standing → Attributes → ItemsRead → Result (DefinitionRead × Cursor) SourceFault → Known → Result (Unit {0}) SourceFault × Having
 constant_of_type_by standing said items (Ok w) names = done tt (names, with_item (item_of_module standing said w.0) items)
 constant_of_type_by standing said items (Err e) names = done tt (names, items)
 
 -- the same of what was read, with what is known behind it
-abbrev pub constant_of_type : Standing → Attributes → ItemsRead → Reading (WrittenRead × Cursor) → Result (Unit {0}) SourceFault × Having
+abbrev pub constant_of_type : Standing → Attributes → ItemsRead → Reading (DefinitionRead × Cursor) → Result (Unit {0}) SourceFault × Having
 constant_of_type standing said items read = constant_of_type_by standing said items read.0 read.1
 
 -- the constant, behind its `const`, of the type with this number

@@ -17,7 +17,7 @@ use Rattle.rust_source.specs.Items.{const_of}
 use Rattle.rust_source.specs.Reading.{read_on, name}
 use Rattle.rust_source.specs.Syntax.{function, no_types}
 use Rattle.rust_source.specs.Terms.{done}
-use Rattle.rust_source.specs.Written.{WrittenRead}
+use Rattle.rust_source.specs.Definition.{DefinitionRead}
 
 -- a keyword that may stand before `fn`
 abbrev pub qualifies : Keyword → Bool
@@ -45,7 +45,7 @@ unfoldable pub qualifiers_passed : Cursor → Cursor
 qualifiers_passed c = qualifiers_from (c.end - c.at) c
 
 -- a function of this name, which stands there, as a constant that has no value
-abbrev pub function_named : Symbol × Place → WrittenRead
+abbrev pub function_named : Symbol × Place → DefinitionRead
 function_named n = record { head = record { name = n.0; at = n.1; lifetimes = 0; parameters = [] }; kind = const_of (function no_types) None None }
 
 -- the function whose name is next goes behind the items

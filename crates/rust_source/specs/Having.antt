@@ -8,7 +8,7 @@ use Rattle.rust_source.specs.Cfg.{Noted}
 use Rattle.rust_source.specs.Items.{ItemRead, ItemsRead, UseRead}
 use Rattle.rust_source.specs.Syntax.{PathRead}
 use Rattle.rust_source.specs.Terms.{Known}
-use Rattle.rust_source.specs.Written.{WrittenRead}
+use Rattle.rust_source.specs.Definition.{DefinitionRead}
 
 -- names that have numbers, and what sources have so far
 abbrev pub Having : Type 0
@@ -27,7 +27,7 @@ abbrev pub using_within : {A : Type 0} → (items : ItemsRead) → Result A Sour
 using_within items read = (read.0, (read.1.0, record items { uses = read.1.1 }))
 
 -- an item of a module, with what its attributes say
-abbrev pub item_of_module : Standing → Attributes → WrittenRead → ItemRead
+abbrev pub item_of_module : Standing → Attributes → DefinitionRead → ItemRead
 item_of_module standing said w = record {
   name = w.head.name;
   at = w.head.at;

@@ -28,7 +28,7 @@ pub mod Generics
 pub mod Fields
 pub mod Uses
 pub mod Visibility
-pub mod Written
+pub mod Definition
 pub mod Having
 pub mod Constants
 pub mod Functions

@@ -27,7 +27,7 @@ use Rattle.rust_source.specs.Simple.{most_nested}
 use Rattle.rust_source.specs.Terms.{done, fault_next}
 use Rattle.rust_source.specs.Uses.{tree_read}
 use Rattle.rust_source.specs.Visibility.{visibility_read}
-use Rattle.rust_source.specs.Written.{WrittenRead, is_union, written_read}
+use Rattle.rust_source.specs.Definition.{DefinitionRead, is_union, definition_read}
 
 -- what follows names and `:`, of at most so many
 abbrev pub path_passed_from : (limit : ℕ) → Cursor → Cursor
@@ -105,14 +105,14 @@ module _ (rules : Rules) where
       else read_on (λ _ ns. read_on (λ _ ms. over_passed c ms) (function_read standing said c ns)) (own_constants rules standing.«module» c known)
 
   -- the item that is next, which this was or another one is
-  abbrev pub next_item_by : Standing → Attributes → Option WrittenRead → Cursor → Having → Result Cursor SourceFault × Having
+  abbrev pub next_item_by : Standing → Attributes → Option DefinitionRead → Cursor → Having → Result Cursor SourceFault × Having
   next_item_by standing said (Some w) c known = done c (known.0, with_item (item_of_module standing said w) known.1)
   next_item_by standing said None c known = other_read standing said c known
 
   -- the item that is next, which is no module, behind its attributes and its `pub`
   unfoldable pub item_read : Standing → Attributes → Cursor → Having → Result Cursor SourceFault × Having
   item_read standing said c known =
-      read_on (λ (w : Option WrittenRead × Cursor) ns. next_item_by standing said w.0 w.1 ns) (noted_within known.1 (written_read rules c (noted known)))
+      read_on (λ (w : Option DefinitionRead × Cursor) ns. next_item_by standing said w.0 w.1 ns) (noted_within known.1 (definition_read rules c (noted known)))
 
   module _ (M : ModuleReader) where
     -- the items of a module, which stand in these braces
@@ -160,9 +160,9 @@ module _ (rules : Rules) where
     all_read number c known = all_from (c.end - c.at) number c known
 
 -- the items of a module that may stand in so many others
-unfoldable pub module_within : Rules → (room : ℕ) → ModuleReader
+unfoldable pub module_within : Rules → (depth_left : ℕ) → ModuleReader
 module_within rules zero number c known = fault_next TooDeep c known
-module_within rules (suc room) number c known = all_read rules (module_within rules room) number c known
+module_within rules (suc depth_left) number c known = all_read rules (module_within rules depth_left) number c known
 
 -- the items of a source, in a new root module of this name, and that module's number; modules may stand in 200 others
 unfoldable pub root_read : Rules → Symbol → Cursor → Having → Result ℕ SourceFault × Having

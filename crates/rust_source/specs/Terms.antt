@@ -45,12 +45,12 @@ done a known = (Ok a, known)
 abbrev pub fault_next : {S A : Type 0} → SourceFaultKind → Cursor → (known : S) → Result A SourceFault × S
 fault_next k c known = (Err (fault c k), known)
 
--- what is told even where an expression needn't be read
-abbrev pub is_told_anyway : SourceFaultKind → Bool
-is_told_anyway OutOfMemory = true
-is_told_anyway TooDeep = true
-is_told_anyway BadNumber = true
-is_told_anyway _ = false
+-- what is reported even where an expression needn't be read
+abbrev pub is_always_reported : SourceFaultKind → Bool
+is_always_reported OutOfMemory = true
+is_always_reported TooDeep = true
+is_always_reported BadNumber = true
+is_always_reported _ = false
 
 -- all is passed over
 abbrev pub ended : Cursor → Cursor
@@ -59,7 +59,7 @@ ended c = record c { at = c.end }
 -- what all tokens that are left mean, of which this was read
 abbrev pub all_read_by : Cursor → Result (ExprRead × Cursor) SourceFault → Known → Reading (ExprRead × Cursor)
 all_read_by c (Ok e) names = done ((if is_done e.1 then e.0 else other_expr Expression (place c)), ended c) names
-all_read_by c (Err e) names = if is_told_anyway e.kind then (Err e, names) else done (other_expr Expression (place c), ended c) names
+all_read_by c (Err e) names = if is_always_reported e.kind then (Err e, names) else done (other_expr Expression (place c), ended c) names
 
 -- nothing is in the list
 abbrev pub has_none : {A : Type 0} → List A → Bool

@@ -118,6 +118,6 @@ module _ (T : UsePlace → List UsedName → Cursor → Using → Result Cursor 
       (by_names known.1 (names_read before (if is_global then passed c 2 else c) known.0))
 
 -- what is brought in behind the names before a group, where groups may stand in so many others
-unfoldable pub tree_read : (room : ℕ) → UsePlace → List UsedName → Cursor → Using → Result Cursor SourceFault × Using
+unfoldable pub tree_read : (depth_left : ℕ) → UsePlace → List UsedName → Cursor → Using → Result Cursor SourceFault × Using
 tree_read zero place before c known = fault_next TooDeep c known
-tree_read (suc room) place before c known = tree_with (tree_read room) place before c known
+tree_read (suc depth_left) place before c known = tree_with (tree_read depth_left) place before c known

@@ -4,6 +4,8 @@ mod attributes;
 mod cfg;
 mod constants;
 mod cursor;
+mod definition;
+mod depth;
 mod expressions;
 mod fields;
 mod functions;
@@ -18,12 +20,10 @@ mod passing;
 mod paths;
 mod repeated;
 mod repr;
-mod room;
 mod signatures;
 mod types;
 mod uses;
 mod visibility;
-mod written;
 
 ghost use Rattle.std.specs.Prelude.{◌≡◌, [], IfOk, length};
 ghost use Rattle.rust_source.specs.Growth.{KeepsItems};
@@ -43,8 +43,8 @@ use crate::names::Names;
 use crate::place::{Place, Symbol};
 use crate::reader::attributes::Rules;
 use crate::reader::cursor::{Cursor, fault, is_done};
+use crate::reader::depth::most_nested;
 use crate::reader::items::read_root;
-use crate::reader::room::most_nested;
 use crate::syntax::Type;
 use crate::target::CfgTarget;
 use crate::tokens::token::Token;
@@ -98,7 +98,7 @@ fn tokens_at(alloc: Global, text: &str, start: Place) -> Result<Vec<Token>, Sour
 }
 
 /// A cursor at the first token.
-fn beginning<'a>(text: &'a str, start: Place, tokens: &'a [Token]) -> Cursor<'a>
+fn cursor_at_start<'a>(text: &'a str, start: Place, tokens: &'a [Token]) -> Cursor<'a>
     ensures { StandsBefore result text.now start.0 tokens.now }
 {
     Cursor {
@@ -114,7 +114,7 @@ fn beginning<'a>(text: &'a str, start: Place, tokens: &'a [Token]) -> Cursor<'a>
 /// answer. What `cfg` takes out is left out, and so are constants of types that can't be read. The modules, the items and
 /// the uses that are there stay in front.
 ///
-/// The first fault is told, at its place; what was read before it is among the items then. `OutOfMemory` comes where a
+/// The first fault is reported, at its place; what was read before it is among the items then. `OutOfMemory` comes where a
 /// growth of memory was refused.
 pub fn read_items(
     alloc: Global,
@@ -128,7 +128,7 @@ pub fn read_items(
         (texts names.new, items_as_read items.new) result }
 {
     let found = tokens_at(alloc, source.text, source.start)?;
-    let mut cursor = beginning(source.text, source.start, &found);
+    let mut cursor = cursor_at_start(source.text, source.start, &found);
     let rules = Rules {
         target: *target,
         is_trusted: source.is_trusted,
@@ -149,7 +149,7 @@ fn read_alone(names: &mut Names, cursor: &mut Cursor<'_>) -> Result<Type, Source
     }
 }
 
-/// Reads a type, which is all of the text, as `Option<Header>`. The first fault is told, at its place, the text's first
+/// Reads a type, which is all of the text, as `Option<Header>`. The first fault is reported, at its place, the text's first
 /// byte having the place `start`. `OutOfMemory` comes where a growth of memory was refused.
 pub fn read_type(
     alloc: Global,
@@ -162,6 +162,6 @@ pub fn read_type(
     ensures one { OneJoiningByStrength }
 {
     let found = tokens_at(alloc, text, start)?;
-    let mut cursor = beginning(text, start, &found);
+    let mut cursor = cursor_at_start(text, start, &found);
     read_alone(names, &mut cursor)
 }

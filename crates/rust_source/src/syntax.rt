@@ -19,7 +19,7 @@ pub enum IntegerKind {
     Usize,
 }
 
-/// What stands where a type or a value is needed, and isn't evaluated: the fault there tells which it was.
+/// What stands where a type or a value is needed, and isn't evaluated: the fault there says which it was.
 #[derive(Clone, Copy, PartialEq, Eq)]
 pub enum Unevaluated {
     /// A macro's call.

@@ -10,7 +10,7 @@ pub enum Family {
     Neither,
 }
 
-/// What the predicates of `cfg` are told of a target (Rust Reference, "Conditional compilation").
+/// What the predicates of `cfg` know of a target (Rust Reference, "Conditional compilation").
 #[derive(Clone, Copy)]
 pub struct CfgTarget<'a> {
     /// `target_pointer_width`, as `64`.

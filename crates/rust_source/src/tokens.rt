@@ -17,9 +17,9 @@ ghost use Rattle.rust_source.specs.Tokens.{Yields, fault_behind, first_token, is
 use crate::fault::{SourceFault, SourceFaultKind};
 use crate::place::Place;
 use crate::tokens::blank::{blank_length, head_length};
-use crate::tokens::brackets::{Opened, close_all, put};
+use crate::tokens::brackets::{Opened, close_all, put_token};
 use crate::tokens::characters::name_length;
-pub(crate) use crate::tokens::characters::{after, byte_at, first_char};
+pub(crate) use crate::tokens::characters::{byte_at, bytes_after, first_char};
 use crate::tokens::keyword::{Keyword, keyword_of};
 pub(crate) use crate::tokens::number::has_base;
 use crate::tokens::number::number_length;
@@ -158,11 +158,11 @@ fn next_token(text: &[u8], before: usize) -> Result<Option<Token>, SourceFault>
     ensures same { result ≡ next_token text.now before }
     ensures near { IfOk result (λ found. IfSome found (λ token. token.end ≤ 2 ^ 30 + 4)) }
 {
-    let blank = match blank_length(after(text, before)) {
+    let blank = match blank_length(bytes_after(text, before)) {
         Ok(blank) => blank,
         Err(more) => return Err(fault_at(before + more, SourceFaultKind::UnclosedComment)),
     };
-    let rest = after(text, before + blank);
+    let rest = bytes_after(text, before + blank);
     if rest.is_empty() {
         return Ok(None);
     }
@@ -171,7 +171,7 @@ fn next_token(text: &[u8], before: usize) -> Result<Option<Token>, SourceFault>
 
 /// The tokens of a text, in its order. Places in them are numbers of bytes of the text.
 ///
-/// The first fault of the text is told: `TooLong` where it has more than 2^30 bytes, `UnclosedComment`, `UnclosedText`,
+/// The first fault of the text is reported: `TooLong` where it has more than 2^30 bytes, `UnclosedComment`, `UnclosedText`,
 /// `BadCharacter`, `UnknownCharacter`, `UnmatchedBracket`, and `TooDeep` at a bracket in more than 200 others.
 /// `OutOfMemory` comes where a growth of memory was refused.
 #[tactic(auto, unfolding(crate::specs::Tokens::tokens))]
@@ -189,7 +189,7 @@ pub(crate) fn tokens(alloc: Global, text: &[u8]) -> Result<Vec<Token>, SourceFau
             return close_all(found, &open);
         };
         before = token.end as usize;
-        put(&mut found, &mut open, token)?;
+        put_token(&mut found, &mut open, token)?;
     }
     close_all(found, &open)
 }

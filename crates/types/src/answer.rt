@@ -2,25 +2,63 @@
 
 ghost use Rattle.abi_text.specs.LaidOut.{IsLaidOut};
 
-use crate::json::{JsonContext, put_text, type_value};
+use crate::json::{JsonContext, fault_value, put_text, type_value};
 use crate::lines::write_lines;
 use crate::mapped::by_name;
 use crate::notes::write_notes;
 use crate::options::{Form, Options};
-use crate::place::Spot;
+use crate::place::{Spot, write_fault};
 use abi_base::TargetDataLayout;
 use abi_map::map_of;
 use abi_rust::{Fault, Sources, Target, TypeReport, data_layout_of};
 use abi_tree::Laid;
 use rust_source::Names;
 use rustc_abi::{LayError, lay_out};
-use serde_json::Value;
+use serde_json::{Map, Value};
 use std::alloc::{AllocError, Global};
+
+/// A source that types are reported of.
+#[derive(Clone, Copy)]
+pub(crate) struct SourceFile<'a> {
+    /// Its name, where it isn't standard input.
+    pub(crate) name: Option<&'a str>,
+    pub(crate) text: &'a str,
+    /// Whether it is the root of a crate, which `crate` names in it.
+    pub(crate) is_root: bool,
+}
+
+/// What came of the types that were asked for.
+#[derive(Clone, Copy, PartialEq, Eq)]
+pub(crate) enum Outcome {
+    /// Each is reported on.
+    Reported,
+    /// A source, or a type, has a fault.
+    Faulty,
+    /// A layout is refused, or memory, reading or writing failed.
+    Refused,
+}
+
+impl Outcome {
+    /// What came of types and of others: the worse of both.
+    pub(crate) fn worse_of(self, other: Outcome) -> Outcome {
+        match self {
+            Outcome::Reported => other,
+            Outcome::Refused => self,
+            Outcome::Faulty => if other == Outcome::Refused {
+                other
+            } else {
+                self
+            },
+        }
+    }
+}
 
 /// The report on types, and what is noted beside.
 #[derive(Drop)]
-pub(crate) struct Answer {
+pub(crate) struct FileReport {
     alloc: Global,
+    /// What came of the types: others than those that have a fault or no layout are reported on.
+    pub(crate) outcome: Outcome,
     /// The lines, where the report is lines.
     pub(crate) text: String,
     /// The types, where the report is JSON.
@@ -29,11 +67,12 @@ pub(crate) struct Answer {
     pub(crate) notes: String,
 }
 
-impl Answer {
+impl FileReport {
     /// Nothing yet.
-    pub(crate) fn new(alloc: Global) -> Answer {
-        Answer {
+    pub(crate) fn new(alloc: Global) -> FileReport {
+        FileReport {
             alloc,
+            outcome: Outcome::Reported,
             text: String::new(alloc),
             values: Vec::new(alloc),
             notes: String::new(alloc),
@@ -43,7 +82,7 @@ impl Answer {
 
 /// Why there is no report.
 #[derive(Drop)]
-pub(crate) enum Failure {
+pub(crate) enum SourceFailure {
     OutOfMemory,
     /// The source, or a type that was asked for, has a fault: where it lies, and what it is.
     Fault(Spot, String),
@@ -51,43 +90,91 @@ pub(crate) enum Failure {
     Refused(Spot, String),
 }
 
-impl From<AllocError> for Failure {
+impl From<AllocError> for SourceFailure {
     fn from(_error: AllocError) -> Self {
-        Failure::OutOfMemory
+        SourceFailure::OutOfMemory
     }
 }
 
 /// A fault as it is reported, of a type that stands here.
-fn failure_of(alloc: Global, sources: &Sources, fault: &Fault, own: Spot) -> Failure {
+fn failure_of(alloc: Global, sources: &Sources, fault: &Fault, own: Spot) -> SourceFailure {
     if fault.is_out_of_memory() {
-        return Failure::OutOfMemory;
+        return SourceFailure::OutOfMemory;
     }
     let mut text = String::new(alloc);
     match fault.write_text(alloc, &mut text, sources) {
-        Ok(()) => Failure::Fault(own.of(fault.at), text),
-        Err(_) => Failure::OutOfMemory,
+        Ok(()) => SourceFailure::Fault(own.of(fault.at), text),
+        Err(_) => SourceFailure::OutOfMemory,
     }
 }
 
 /// A refusal as it is reported.
-fn refusal_of(alloc: Global, name: &str, own: Spot, error: LayError) -> Failure {
+fn refusal_of(alloc: Global, name: &str, own: Spot, error: LayError) -> SourceFailure {
     if let LayError::OutOfMemory = error {
-        return Failure::OutOfMemory;
+        return SourceFailure::OutOfMemory;
     }
     match format!(in alloc; "{name} has no layout: {error}") {
-        Ok(text) => Failure::Refused(own, text),
-        Err(_) => Failure::OutOfMemory,
+        Ok(text) => SourceFailure::Refused(own, text),
+        Err(_) => SourceFailure::OutOfMemory,
     }
 }
 
-/// What the reports on all types under one target have in common.
+/// What the reports on all types of a file under one target have in common.
 #[derive(Clone, Copy)]
 struct ReportContext<'a> {
-    form: Form,
+    options: &'a Options<'a>,
+    file: SourceFile<'a>,
     dl: &'a TargetDataLayout,
-    source: &'a str,
     /// The target's name, where several were asked for.
     triple: Option<&'static str>,
+}
+
+/// The text that a fault lies in, with what it is called, and the byte; none where the fault has no place.
+fn text_at<'a>(
+    options: &Options<'a>,
+    file: SourceFile<'a>,
+    at: Spot,
+) -> Option<(&'a str, &'a str, usize)> {
+    match at {
+        Spot::File(byte) => Some((file.name.unwrap_or("<stdin>"), file.text, byte as usize)),
+        Spot::Asked(before, byte) => {
+            let written = options.types.get(before).copied().unwrap_or("");
+            Some(("--type", written, byte as usize))
+        }
+        Spot::Nowhere => None,
+    }
+}
+
+/// Writes a fault, with the line in which it lies. An error comes where a growth of memory was refused.
+pub(crate) fn write_failure(
+    out: &mut String,
+    options: &Options<'_>,
+    file: SourceFile<'_>,
+    at: Spot,
+    text: &str,
+) -> Result<(), AllocError> {
+    match text_at(options, file, at) {
+        Some((name, source, byte)) => write_fault(out, name, source, byte, text),
+        None => {
+            let name = file.name.unwrap_or("<stdin>");
+            Ok(write!(out, "{name}: {text}\n")?)
+        }
+    }
+}
+
+/// Puts the file and the target into an object, where several were named.
+fn put_context(
+    alloc: Global,
+    cx: ReportContext<'_>,
+    object: &mut Map<String, Value>,
+) -> Result<(), AllocError> {
+    if cx.options.files.len() > 1 {
+        put_text(alloc, object, "file", cx.file.name.unwrap_or("<stdin>"))?;
+    }
+    if let Some(triple) = cx.triple {
+        put_text(alloc, object, "target", triple)?;
+    }
+    Ok(())
 }
 
 /// A type that is reported on, and its name.
@@ -118,16 +205,14 @@ fn object_of(
         alloc,
         dl: cx.dl,
         names: ty.names,
-        source: cx.source,
+        source: cx.file.text,
     };
     let mut object = type_value(json, ty.name, &ty.report.shape, &ty.report.tree, laid)?;
-    if let Some(triple) = cx.triple {
-        put_text(alloc, &mut object, "target", triple)?;
-    }
+    put_context(alloc, cx, &mut object)?;
     Ok(Value::Object(object))
 }
 
-impl Answer {
+impl FileReport {
     /// Puts the report on a laid-out type behind the others, in the form that is asked for.
     fn put_laid(
         &mut self,
@@ -138,7 +223,7 @@ impl Answer {
         requires { IsLaidOut cx.dl.now laid.now }
     {
         let name = ty.name;
-        match cx.form {
+        match cx.options.form {
             Form::Lines => {
                 write!(self.text, "type {name}\n")?;
                 write_lines(self.alloc, &mut self.text, ty.names, &ty.report.shape, laid)?;
@@ -163,25 +248,73 @@ impl Answer {
     }
 
     /// Notes that a type has no size of its own.
-    fn note_unsized(&mut self, name: &str) -> Result<(), Failure> {
+    fn note_unsized(&mut self, name: &str) -> Result<(), SourceFailure> {
         Ok(write!(
             self.notes,
             "types: {name} has no size of its own, and is passed over\n"
         )?)
     }
 
-    /// Reports on what a type was read as, or fails by its fault.
+    /// Puts a fault that stops a type behind the notes, and among the JSON objects.
+    fn put_fault(
+        &mut self,
+        cx: ReportContext<'_>,
+        name: &str,
+        at: Spot,
+        text: &str,
+    ) -> Result<(), AllocError> {
+        write_failure(&mut self.notes, cx.options, cx.file, at, text)?;
+        write!(self.notes, "note: so nothing is reported of {name}")?;
+        if let Some(triple) = cx.triple {
+            write!(self.notes, " on {triple}")?;
+        }
+        self.notes.push_str("\n")?;
+        if cx.options.form == Form::Json {
+            let place = match text_at(cx.options, cx.file, at) {
+                Some((_, source, byte)) => Some((source, byte)),
+                None => None,
+            };
+            let mut object = fault_value(self.alloc, name, text, place)?;
+            put_context(self.alloc, cx, &mut object)?;
+            self.values.push(Value::Object(object))?;
+        }
+        Ok(())
+    }
+
+    /// Reports what stops a type; where that is to stop all, fails by it.
+    fn add_failure(
+        &mut self,
+        cx: ReportContext<'_>,
+        name: &str,
+        failure: SourceFailure,
+    ) -> Result<(), SourceFailure> {
+        if cx.options.is_strict {
+            return Err(failure);
+        }
+        let (outcome, at, text) = match failure {
+            SourceFailure::OutOfMemory => return Err(SourceFailure::OutOfMemory),
+            SourceFailure::Fault(at, text) => (Outcome::Faulty, at, text),
+            SourceFailure::Refused(at, text) => (Outcome::Refused, at, text),
+        };
+        self.outcome = self.outcome.worse_of(outcome);
+        Ok(self.put_fault(cx, name, at, text.as_str())?)
+    }
+
+    /// Reports on what a type was read as, or its fault.
     fn add_found(
         &mut self,
         cx: ReportContext<'_>,
         sources: &Sources,
         place: NamePlace<'_>,
         found: Result<Option<TypeReport>, Fault>,
-    ) -> Result<(), Failure> {
+    ) -> Result<(), SourceFailure> {
         let report = match found {
             Ok(Some(report)) => report,
             Ok(None) => return self.note_unsized(place.name),
-            Err(fault) => return Err(failure_of(self.alloc, sources, &fault, place.own)),
+            Err(fault) => {
+                let failure = failure_of(self.alloc, sources, &fault, place.own);
+                return self.add_failure(cx, place.name, failure);
+            }
         };
         let ty = NamedType {
             names: sources.names(),
@@ -190,44 +323,32 @@ impl Answer {
         };
         match self.put_tree(cx, ty) {
             Ok(()) => Ok(()),
-            Err(error) => Err(refusal_of(self.alloc, place.name, place.own, error)),
+            Err(error) => {
+                let failure = refusal_of(self.alloc, place.name, place.own, error);
+                self.add_failure(cx, place.name, failure)
+            }
         }
     }
 
-    /// Reports on each type of the source.
-    fn add_all(&mut self, cx: ReportContext<'_>, sources: &Sources) -> Result<(), Failure> {
+    /// Reports on each type of the source, and the first fault of the names of each other item.
+    fn add_all(&mut self, cx: ReportContext<'_>, sources: &Sources) -> Result<(), SourceFailure> {
         let mut name = String::new(self.alloc);
         for item in 0..sources.item_count() {
+            name.clear();
+            sources.write_name(&mut name, item)?;
+            let place = NamePlace {
+                name: name.as_str(),
+                own: Spot::Nowhere.of(sources.place_of(item)),
+            };
             if sources.is_reported(item) {
-                name.clear();
-                sources.write_name(&mut name, item)?;
                 let found = sources.type_of(self.alloc, cx.dl, item);
-                let place = NamePlace {
-                    name: name.as_str(),
-                    own: Spot::Nowhere.of(sources.place_of(item)),
-                };
                 self.add_found(cx, sources, place, found)?;
-            } else {
-                self.check_names(cx, sources, item)?;
+            } else if let Err(fault) = sources.check_names(self.alloc, cx.dl, item) {
+                let failure = failure_of(self.alloc, sources, &fault, place.own);
+                self.add_failure(cx, place.name, failure)?;
             }
         }
         Ok(())
-    }
-
-    /// Fails by the first fault of the names of an item that isn't reported on by itself.
-    fn check_names(
-        &self,
-        cx: ReportContext<'_>,
-        sources: &Sources,
-        item: usize,
-    ) -> Result<(), Failure> {
-        match sources.check_names(self.alloc, cx.dl, item) {
-            Ok(()) => Ok(()),
-            Err(fault) => {
-                let own = Spot::Nowhere.of(sources.place_of(item));
-                Err(failure_of(self.alloc, sources, &fault, own))
-            }
-        }
     }
 
     /// Reports on the types that are asked for.
@@ -236,7 +357,7 @@ impl Answer {
         cx: ReportContext<'_>,
         sources: &mut Sources,
         types: &[&str],
-    ) -> Result<(), Failure> {
+    ) -> Result<(), SourceFailure> {
         for (before, name) in types.iter().enumerate() {
             let found = sources.type_written(self.alloc, cx.dl, name);
             let place = NamePlace {
@@ -249,22 +370,18 @@ impl Answer {
     }
 
     /// Reads the source, and reports on its types.
-    fn add_source(
-        &mut self,
-        options: &Options<'_>,
-        cx: ReportContext<'_>,
-        target: &Target,
-    ) -> Result<(), Failure> {
+    fn add_source(&mut self, cx: ReportContext<'_>, target: &Target) -> Result<(), SourceFailure> {
         let alloc = self.alloc;
+        let file = cx.file;
         let mut sources = Sources::new(alloc)?;
-        if let Err(fault) = sources.read(alloc, &target.cfg, options.is_root, cx.source) {
+        if let Err(fault) = sources.read(alloc, &target.cfg, file.is_root, file.text) {
             return Err(failure_of(alloc, &sources, &fault, Spot::Nowhere));
         }
-        write_notes(alloc, &mut self.notes, &sources, options.file, cx.source)?;
-        if options.types.is_empty() {
+        write_notes(alloc, &mut self.notes, &sources, file.name, file.text)?;
+        if cx.options.types.is_empty() {
             self.add_all(cx, &sources)
         } else {
-            self.add_asked(cx, &mut sources, &options.types)
+            self.add_asked(cx, &mut sources, &cx.options.types)
         }
     }
 
@@ -272,35 +389,38 @@ impl Answer {
     fn add_target(
         &mut self,
         options: &Options<'_>,
+        file: SourceFile<'_>,
         target: &Target,
         dl: &TargetDataLayout,
-        source: &str,
-    ) -> Result<(), Failure> {
+    ) -> Result<(), SourceFailure> {
         let is_one = options.targets.len() == 1;
         let triple = if is_one { None } else { Some(target.triple) };
         if let Some(triple) = triple {
             write!(self.text, "target {triple}\n")?;
         }
         let cx = ReportContext {
-            form: options.form,
+            options,
+            file,
             dl,
-            source,
             triple,
         };
-        self.add_source(options, cx, target)
+        self.add_source(cx, target)
     }
 
-    /// Reports on types under each target that is asked for.
-    fn add_targets(&mut self, options: &Options<'_>, source: &str) -> Result<(), Failure> {
-        if !options.names_target {
-            self.notes.push_str(
-                "types: laid out for x86_64-unknown-linux-gnu; --target names another target\n",
-            )?;
+    /// Reports on types under each target that is asked for, behind the file's name where several were named.
+    fn add_targets(
+        &mut self,
+        options: &Options<'_>,
+        file: SourceFile<'_>,
+    ) -> Result<(), SourceFailure> {
+        if options.files.len() > 1 {
+            let name = file.name.unwrap_or("<stdin>");
+            write!(self.text, "file {name}\n")?;
         }
         for target in &options.targets {
             match data_layout_of(self.alloc, target) {
-                Ok(dl) => self.add_target(options, target, &dl, source)?,
-                Err(_) => return Err(Failure::OutOfMemory),
+                Ok(dl) => self.add_target(options, file, target, &dl)?,
+                Err(_) => return Err(SourceFailure::OutOfMemory),
             }
         }
         Ok(())
@@ -311,10 +431,10 @@ impl Answer {
 pub(crate) fn answer_source(
     alloc: Global,
     options: &Options<'_>,
-    source: &str,
-) -> Result<Answer, Failure> {
-    let mut answer = Answer::new(alloc);
-    match answer.add_targets(options, source) {
+    file: SourceFile<'_>,
+) -> Result<FileReport, SourceFailure> {
+    let mut answer = FileReport::new(alloc);
+    match answer.add_targets(options, file) {
         Ok(()) => Ok(answer),
         Err(failure) => Err(failure),
     }

@@ -5,6 +5,7 @@ ghost use Rattle.abi_tree.specs.Laid.{placed_of};
 ghost use Rattle.abi_tree.specs.Placed.{layout_of};
 
 use crate::labels::{offset_at, offsets_of, write_field_name};
+use crate::place::locate;
 use abi_base::{Size, TargetDataLayout};
 use abi_rust::{Label, Shape, VariantLabels};
 use abi_scalar::{Niche, Scalar, TagEncoding, Variants};
@@ -287,6 +288,27 @@ fn put_parts(
         _ => {}
     }
     Ok(())
+}
+
+/// A type that a fault stops as a JSON object: its name, and the fault's text, with its line and column where it lies in
+/// this text at this byte.
+pub(crate) fn fault_value(
+    alloc: Global,
+    name: &str,
+    text: &str,
+    place: Option<(&str, usize)>,
+) -> Result<Map<String, Value>, AllocError> {
+    let mut fault = Map::new(alloc);
+    put_text(alloc, &mut fault, "text", text)?;
+    if let Some((source, byte)) = place {
+        let found = locate(source, byte);
+        put_number(alloc, &mut fault, "line", found.line as u64)?;
+        put_number(alloc, &mut fault, "column", found.column as u64)?;
+    }
+    let mut object = Map::new(alloc);
+    put_text(alloc, &mut object, "name", name)?;
+    put_member(alloc, &mut object, "fault", Value::Object(fault))?;
+    Ok(object)
 }
 
 /// A type as a JSON object: its name, size and alignment in bytes; and of a type with fields or variants these, the tag,

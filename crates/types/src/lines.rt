@@ -21,6 +21,13 @@ use abi_tree::Laid;
 use rust_source::Names;
 use std::alloc::{AllocError, Global};
 
+/// The variants of an enum, and the names of the source.
+#[derive(Clone, Copy)]
+struct NamedVariants<'a> {
+    names: &'a Names,
+    labels: &'a [VariantLabels],
+}
+
 /// Writes a line for each field: its name and its offset in bytes.
 fn write_fields(
     out: &mut String,
@@ -69,16 +76,15 @@ fn write_one(
 /// Writes the variant with this index, and the offsets of its fields.
 fn write_one_of(
     out: &mut String,
-    names: &Names,
-    labels: &[VariantLabels],
+    all: NamedVariants<'_>,
     index: usize,
     offsets: &[Size],
 ) -> Result<(), AllocError>
     ensures { OnOk result (string_bytes out.new ≡ string_bytes out.old
-        ++ labelled_variant names.now (slice_get labels.now index) offsets.now) }
+        ++ labelled_variant all.names.now (slice_get all.labels.now index) offsets.now) }
 {
-    match labels.get(index) {
-        Some(variant) => write_one(out, names, variant, offsets),
+    match all.labels.get(index) {
+        Some(variant) => write_one(out, all.names, variant, offsets),
         None => out.push_str("variant \n"),
     }
 }
@@ -105,8 +111,7 @@ fn write_single(
 fn write_several(
     alloc: Global,
     out: &mut String,
-    names: &Names,
-    labels: &[VariantLabels],
+    all: NamedVariants<'_>,
     laid: &Laid,
     layouts: &[VariantLayout<FieldIdx>],
 ) -> Result<(), AllocError>
@@ -114,12 +119,12 @@ fn write_several(
     requires variants { (i : ℕ) → i < length layouts.now →
         IsVariantOfSeveral (layout_of (placed_of laid.now)).variants i }
     ensures { OnOk result (string_bytes out.new ≡ string_bytes out.old
-        ++ several_lines names.now labels.now (placed_of laid.now) 0 layouts.now) }
+        ++ several_lines all.names.now all.labels.now (placed_of laid.now) 0 layouts.now) }
 {
     let unused = listed_unused(alloc, laid)?;
     for (index, layout) in layouts.iter().enumerate() {
         let offsets = layout.field_offsets.as_slice().as_raw();
-        write_one_of(out, names, labels, index, offsets)?;
+        write_one_of(out, all, index, offsets)?;
         write_ranges(
             out,
             "unused",
@@ -132,48 +137,45 @@ fn write_several(
 /// Writes the first and the last of the variants that a niche names.
 fn write_range(
     out: &mut String,
-    names: &Names,
-    labels: &[VariantLabels],
+    all: NamedVariants<'_>,
     named: RangeInclusive<VariantIdx>,
 ) -> Result<(), AllocError>
     ensures { OnOk result (string_bytes out.new
-        ≡ string_bytes out.old ++ labelled_range names.now labels.now named) }
+        ≡ string_bytes out.old ++ labelled_range all.names.now all.labels.now named) }
 {
     out.push_str(" variants ")?;
-    write_variant(out, names, labels, named.start.as_usize())?;
+    write_variant(out, all.names, all.labels, named.start.as_usize())?;
     out.push_str("..=")?;
-    write_variant(out, names, labels, named.last.as_usize())
+    write_variant(out, all.names, all.labels, named.last.as_usize())
 }
 
 /// Writes which variants a niche names, and from which number on.
 fn write_named(
     out: &mut String,
-    names: &Names,
-    labels: &[VariantLabels],
+    all: NamedVariants<'_>,
     untagged: VariantIdx,
     named: RangeInclusive<VariantIdx>,
     start: u128,
 ) -> Result<(), AllocError>
     ensures { OnOk result (string_bytes out.new
-        ≡ string_bytes out.old ++ labelled_niche names.now labels.now untagged named start) }
+        ≡ string_bytes out.old ++ labelled_niche all.names.now all.labels.now untagged named start) }
 {
     out.push_str(" untagged ")?;
-    write_variant(out, names, labels, untagged.as_usize())?;
-    write_range(out, names, labels, named)?;
+    write_variant(out, all.names, all.labels, untagged.as_usize())?;
+    write_range(out, all, named)?;
     write!(out, " start {start}")
 }
 
 /// Writes where the tag lies, in bytes, what it holds, and how it names a variant.
 fn write_tag(
     out: &mut String,
-    names: &Names,
-    labels: &[VariantLabels],
+    all: NamedVariants<'_>,
     offset: u64,
     tag: Scalar,
     encoding: TagEncoding<VariantIdx>,
 ) -> Result<(), AllocError>
     ensures { OnOk result (string_bytes out.new
-        ≡ string_bytes out.old ++ labelled_tag names.now labels.now offset tag encoding) }
+        ≡ string_bytes out.old ++ labelled_tag all.names.now all.labels.now offset tag encoding) }
 {
     match encoding {
         TagEncoding::Direct => {
@@ -188,14 +190,7 @@ fn write_tag(
         } => {
             write!(out, "tag offset {offset} niche ")?;
             write_scalar(out, tag)?;
-            write_named(
-                out,
-                names,
-                labels,
-                untagged_variant,
-                niche_variants,
-                niche_start,
-            )?;
+            write_named(out, all, untagged_variant, niche_variants, niche_start)?;
             out.push_str("\n")
         }
     }
@@ -226,16 +221,10 @@ fn write_variants(
             tag_field,
             variants,
         } => {
-            write_several(
-                alloc,
-                out,
-                names,
-                labels,
-                laid,
-                variants.as_slice().as_raw(),
-            )?;
+            let all = NamedVariants { names, labels };
+            write_several(alloc, out, all, laid, variants.as_slice().as_raw())?;
             let offset = offset_at(offsets, tag_field.as_usize());
-            write_tag(out, names, labels, offset, *tag, *tag_encoding)
+            write_tag(out, all, offset, *tag, *tag_encoding)
         }
     }
 }

@@ -13,29 +13,38 @@ mod lines;
 mod mapped;
 mod notes;
 
-use crate::answer::{Answer, Failure, answer_source};
-use crate::options::{Form, OptionFault, Options, command, options_of};
-use crate::place::{Spot, write_fault};
+use crate::answer::{FileReport, Outcome, SourceFailure, SourceFile, answer_source, write_failure};
+use crate::options::{Form, OptionFault, Options, command, is_root, options_of};
+use crate::place::Spot;
 use serde_json::Value;
 use std::alloc::AllocError;
 use std::process::ExitCode;
 use std::{env, fs, io};
 
-/// The status where types are reported on.
-const PRINTED: u8 = 0;
+/// The status where all types are reported on.
+const REPORTED: u8 = 0;
 /// The status where a layout is refused, and where memory, reading or writing fails.
 const REFUSED: u8 = 1;
-/// The status where the source has a fault, and where the command line can't be carried out.
+/// The status where a source, or a type, has a fault, and where the command line can't be carried out.
 const FAULTY: u8 = 2;
 
+/// The status that tells what came of the types.
+fn status_of(outcome: Outcome) -> u8 {
+    match outcome {
+        Outcome::Reported => REPORTED,
+        Outcome::Refused => REFUSED,
+        Outcome::Faulty => FAULTY,
+    }
+}
+
 /// Writes on standard error that memory is wanting.
-fn report_memory(rt: &HostRuntime) -> u8 {
+fn report_memory(rt: &HostRuntime) -> Outcome {
     let _ = rt.eprintln("types: out of memory");
-    REFUSED
+    Outcome::Refused
 }
 
 /// Writes on standard error why the command line can't be carried out.
-fn report_option(rt: &HostRuntime, fault: OptionFault<'_>) -> u8 {
+fn report_option(rt: &HostRuntime, fault: OptionFault<'_>) -> Outcome {
     let _ = match fault {
         OptionFault::OutOfMemory => return report_memory(rt),
         OptionFault::UnknownTarget(triple) => {
@@ -46,116 +55,175 @@ fn report_option(rt: &HostRuntime, fault: OptionFault<'_>) -> u8 {
         OptionFault::ManyTypes => {
             eprintln!(rt; "types: a picture shows one type, which --type names")
         }
+        OptionFault::ManyFiles => { eprintln!(rt; "types: a picture shows a type of one file") }
     };
-    FAULTY
+    Outcome::Faulty
 }
 
-/// The text of a fault, with the line in which it lies.
-fn fault_text(
+/// Writes a fault of a file on standard error, and answers what came of its types.
+fn report_fault(
     rt: &HostRuntime,
     options: &Options<'_>,
-    source: &str,
-    at: Spot,
-    text: &str,
-) -> Result<String, AllocError> {
+    file: SourceFile<'_>,
+    (at, text): (Spot, &str),
+    outcome: Outcome,
+) -> Outcome {
     let mut all = String::new(rt.alloc());
-    let file = options.file.unwrap_or("<stdin>");
-    match at {
-        Spot::File(byte) => write_fault(&mut all, file, source, byte as usize, text)?,
-        Spot::Asked(before, byte) => {
-            let written = options.types.get(before).copied().unwrap_or("");
-            write_fault(&mut all, "--type", written, byte as usize, text)?;
-        }
-        Spot::Nowhere => write!(all, "{file}: {text}\n")?,
-    }
-    Ok(all)
-}
-
-/// Writes a text on standard error, and answers the status.
-fn report_text(rt: &HostRuntime, text: Result<String, AllocError>, status: u8) -> u8 {
-    match text {
-        Ok(text) => {
-            let _ = rt.eprint(text.as_str());
-            status
+    match write_failure(&mut all, options, file, at, text) {
+        Ok(()) => {
+            let _ = rt.eprint(all.as_str());
+            outcome
         }
         Err(_) => report_memory(rt),
     }
 }
 
 /// Writes on standard error why there is no report.
-fn report_failure(rt: &HostRuntime, options: &Options<'_>, source: &str, failure: &Failure) -> u8 {
+fn report_failure(
+    rt: &HostRuntime,
+    options: &Options<'_>,
+    file: SourceFile<'_>,
+    failure: &SourceFailure,
+) -> Outcome {
     match failure {
-        Failure::OutOfMemory => report_memory(rt),
-        Failure::Fault(at, text) => {
-            report_text(
-                rt,
-                fault_text(rt, options, source, *at, text.as_str()),
-                FAULTY,
-            )
+        SourceFailure::OutOfMemory => report_memory(rt),
+        SourceFailure::Fault(at, text) => {
+            report_fault(rt, options, file, (*at, text.as_str()), Outcome::Faulty)
         }
-        Failure::Refused(at, text) => {
-            report_text(
-                rt,
-                fault_text(rt, options, source, *at, text.as_str()),
-                REFUSED,
-            )
+        SourceFailure::Refused(at, text) => {
+            report_fault(rt, options, file, (*at, text.as_str()), Outcome::Refused)
         }
     }
 }
 
-/// Writes the answer on standard output, and the notes on standard error.
-fn print_answer(rt: &HostRuntime, form: Form, answer: Answer) -> u8 {
-    let Answer {
+/// What goes on from one file to the next.
+#[derive(Drop)]
+struct Progress {
+    /// The types, where the report is one JSON document of all files.
+    types: Vec<Value>,
+    /// Whether standard error has the target that none was named for.
+    is_target_noted: bool,
+}
+
+/// Writes the notes of an answer on standard error: the target once, the others behind the file's name where several
+/// were named.
+fn print_notes(
+    rt: &HostRuntime,
+    options: &Options<'_>,
+    progress: &mut Progress,
+    name: Option<&str>,
+    notes: &str,
+) {
+    if !options.names_target && !progress.is_target_noted {
+        progress.is_target_noted = true;
+        let _ = rt.eprintln(
+            "types: laid out for x86_64-unknown-linux-gnu; --target names another target",
+        );
+    }
+    if options.files.len() > 1 && !notes.is_empty() {
+        let name = name.unwrap_or("<stdin>");
+        let _ = eprintln!(rt; "types: of {name}:");
+    }
+    let _ = rt.eprint(notes);
+}
+
+/// Writes the lines of an answer on standard output, or keeps its types for the JSON document; and its notes on standard
+/// error.
+fn print_answer(
+    rt: &HostRuntime,
+    options: &Options<'_>,
+    progress: &mut Progress,
+    name: Option<&str>,
+    answer: FileReport,
+) -> Outcome {
+    let FileReport {
+        outcome,
         text,
         values,
         notes,
         ..
     } = answer;
-    let _ = rt.eprint(notes.as_str());
-    let text = if form == Form::Json {
-        match Value::Array(values).to_string_pretty(rt.alloc()) {
-            Ok(text) => text,
-            Err(_) => return report_memory(rt),
+    print_notes(rt, options, progress, name, notes.as_str());
+    if options.form != Form::Json {
+        return match rt.print(text.as_str()) {
+            Ok(()) => outcome,
+            Err(_) => Outcome::Refused,
+        };
+    }
+    for value in values {
+        if progress.types.push(value).is_err() {
+            return report_memory(rt);
         }
-    } else {
-        text
+    }
+    outcome
+}
+
+/// Writes the JSON document of these types on standard output.
+fn print_json(rt: &HostRuntime, types: Vec<Value>) -> Outcome {
+    let Ok(text) = Value::Array(types).to_string_pretty(rt.alloc()) else {
+        return report_memory(rt);
     };
-    let ended = if form == Form::Json {
-        rt.println(text.as_str())
-    } else {
-        rt.print(text.as_str())
-    };
-    match ended {
-        Ok(()) => PRINTED,
-        Err(_) => REFUSED,
+    match rt.println(text.as_str()) {
+        Ok(()) => Outcome::Reported,
+        Err(_) => Outcome::Refused,
     }
 }
 
-/// Reads the source.
-fn read_source(rt: &HostRuntime, file: Option<&str>) -> io::Result<String> {
-    match file {
-        Some(file) => fs::read_to_string(rt, file),
+/// Reads a source.
+fn read_source(rt: &HostRuntime, name: Option<&str>) -> io::Result<String> {
+    match name {
+        Some(name) => fs::read_to_string(rt, name),
         None => io::read_to_string(rt.alloc(), rt.reader()),
     }
 }
 
-/// Carries out what the command line asks for.
-fn carry_out(rt: &HostRuntime, options: &Options<'_>) -> u8 {
-    match read_source(rt, options.file) {
-        Ok(source) => match answer_source(rt.alloc(), options, source.as_str()) {
-            Ok(answer) => print_answer(rt, options.form, answer),
-            Err(failure) => report_failure(rt, options, source.as_str(), &failure),
-        },
+/// Reports on the types of a file, or of standard input.
+fn report_file(
+    rt: &HostRuntime,
+    options: &Options<'_>,
+    progress: &mut Progress,
+    name: Option<&str>,
+) -> Outcome {
+    let source = match read_source(rt, name) {
+        Ok(source) => source,
         Err(error) => {
-            let file = options.file.unwrap_or("standard input");
-            let _ = eprintln!(rt; "types: {file} can't be read: {error}");
-            REFUSED
+            let name = name.unwrap_or("standard input");
+            let _ = eprintln!(rt; "types: {name} can't be read: {error}");
+            return Outcome::Refused;
         }
+    };
+    let file = SourceFile {
+        name,
+        text: source.as_str(),
+        is_root: options.are_roots || is_root(name),
+    };
+    match answer_source(rt.alloc(), options, file) {
+        Ok(answer) => print_answer(rt, options, progress, name, answer),
+        Err(failure) => report_failure(rt, options, file, &failure),
     }
 }
 
+/// Carries out what the command line asks for, and answers what came of all files.
+fn carry_out(rt: &HostRuntime, options: &Options<'_>) -> Outcome {
+    let mut progress = Progress {
+        types: Vec::new(rt.alloc()),
+        is_target_noted: false,
+    };
+    let mut outcome = Outcome::Reported;
+    if options.files.is_empty() {
+        outcome = report_file(rt, options, &mut progress, None);
+    }
+    for name in &options.files {
+        outcome = outcome.worse_of(report_file(rt, options, &mut progress, Some(name)));
+    }
+    if options.form == Form::Json && (outcome == Outcome::Reported || !progress.types.is_empty()) {
+        outcome = outcome.worse_of(print_json(rt, progress.types));
+    }
+    outcome
+}
+
 /// Reads the command line, and carries it out.
-fn run(rt: &HostRuntime, words: &[String]) -> u8 {
+fn run(rt: &HostRuntime, words: &[String]) -> Outcome {
     let Ok(command) = command(rt.alloc()) else {
         return report_memory(rt);
     };
@@ -165,8 +233,14 @@ fn run(rt: &HostRuntime, words: &[String]) -> u8 {
             Err(fault) => report_option(rt, fault),
         },
         Err(error) => match error.print(rt) {
-            Ok(()) => if error.use_stderr() { FAULTY } else { PRINTED },
-            Err(_) => REFUSED,
+            Ok(()) => {
+                if error.use_stderr() {
+                    Outcome::Faulty
+                } else {
+                    Outcome::Reported
+                }
+            }
+            Err(_) => Outcome::Refused,
         },
     }
 }
@@ -178,7 +252,7 @@ fn main(rt: HostRuntime) -> ExitCode {
     };
     let words: Vec<String> = match words {
         Ok(words) => words,
-        Err(_) => return ExitCode::from(report_memory(&rt)),
+        Err(_) => return ExitCode::from(status_of(report_memory(&rt))),
     };
-    ExitCode::from(run(&rt, &words))
+    ExitCode::from(status_of(run(&rt, &words)))
 }

@@ -28,10 +28,12 @@ pub(crate) struct Options<'a> {
     /// The types that are asked for by name; all of the source where there is none.
     pub(crate) types: Vec<&'a str>,
     pub(crate) form: Form,
-    /// The file, where it isn't standard input.
-    pub(crate) file: Option<&'a str>,
-    /// Whether it is the root of a crate, which `crate` names in it.
-    pub(crate) is_root: bool,
+    /// The files, in the order in which they were named; standard input is read where there is none.
+    pub(crate) files: Vec<&'a str>,
+    /// Whether each file is taken for the root of a crate, whatever it is called.
+    pub(crate) are_roots: bool,
+    /// Whether a fault of one type is a fault of its file, of which nothing is reported then.
+    pub(crate) is_strict: bool,
 }
 
 /// The option that names a target.
@@ -62,11 +64,12 @@ fn form_option<'a>(alloc: Global, name: &'a str, help: &'a str) -> Arg<'a> {
         .help(help)
 }
 
-/// The file.
+/// The files.
 fn file_argument<'a>(alloc: Global) -> Arg<'a> {
     Arg::new(alloc, "file")
         .value_name("FILE.rs")
-        .help("the source; standard input where none is named")
+        .action(ArgAction::Append)
+        .help("a source, read apart from the others; standard input where none is named")
 }
 
 /// The command, with what it may be asked for.
@@ -83,7 +86,12 @@ pub(crate) fn command<'a>(alloc: Global) -> Result<Command<'a>, AllocError> {
     let root = form_option(
         alloc,
         "root",
-        "takes the file for the root of a crate, as lib.rs, main.rs and standard input are",
+        "takes each file for the root of a crate, as lib.rs, main.rs and standard input are",
+    );
+    let strict = form_option(
+        alloc,
+        "strict",
+        "reports on no type of a file in which one has a fault",
     );
     let command = Command::new(alloc, "types")
         .about("Lays out the types that a Rust source defines")
@@ -93,6 +101,7 @@ pub(crate) fn command<'a>(alloc: Global) -> Result<Command<'a>, AllocError> {
         .arg(map)?
         .arg(svg)?
         .arg(root)?
+        .arg(strict)?
         .arg(file_argument(alloc))?;
     Ok(command)
 }
@@ -105,6 +114,8 @@ pub(crate) enum OptionFault<'a> {
     UnknownTarget(&'a str),
     /// A picture shows one type, and none was named, or more than one.
     ManyTypes,
+    /// A picture shows a type of one file, and more than one was named.
+    ManyFiles,
 }
 
 impl From<AllocError> for OptionFault<'_> {
@@ -155,7 +166,7 @@ fn form_of(matches: &ArgMatches<'_>) -> Form {
 }
 
 /// Whether a file is the root of a crate by its name; standard input is one.
-fn is_root(file: Option<&str>) -> bool {
+pub(crate) fn is_root(file: Option<&str>) -> bool {
     let Some(path) = file else {
         return true;
     };
@@ -172,8 +183,12 @@ pub(crate) fn options_of<'a>(
     matches: &ArgMatches<'a>,
 ) -> Result<Options<'a>, OptionFault<'a>> {
     let types = words_of(alloc, matches.get_strs("type").unwrap_or(&[]))?;
+    let files = words_of(alloc, matches.get_strs("file").unwrap_or(&[]))?;
     if matches.get_flag("svg") && types.len() != 1 {
         return Err(OptionFault::ManyTypes);
+    }
+    if matches.get_flag("svg") && files.len() > 1 {
+        return Err(OptionFault::ManyFiles);
     }
     let named = matches.get_strs("target").unwrap_or(&[]);
     let names_target = !named.is_empty();
@@ -182,13 +197,13 @@ pub(crate) fn options_of<'a>(
     } else {
         default_targets(alloc)?
     };
-    let file = matches.get_str("file");
     Ok(Options {
         targets,
         names_target,
         types,
         form: form_of(matches),
-        file,
-        is_root: matches.get_flag("root") || is_root(file),
+        files,
+        are_roots: matches.get_flag("root"),
+        is_strict: matches.get_flag("strict"),
     })
 }

@@ -15,11 +15,11 @@ use crate::reader::cursor::{
     Cursor, expect, expect_comma, fault, is_done, is_next, pass, place, take, take_group,
     take_until,
 };
+use crate::reader::depth::{most_nested, one_level_deeper};
 use crate::reader::known_attributes::{is_known, names_copy, names_other_trait};
 use crate::reader::literals::Number;
 use crate::reader::naming::word_text;
 use crate::reader::repr::{NOTHING, asks, next_number, refuse_repr, with_repr};
-use crate::reader::room::{less, most_nested};
 use crate::target::CfgTarget;
 use crate::tokens::token::Bracket;
 
@@ -47,6 +47,15 @@ pub(crate) struct Attributes {
     pub unknown: Option<Place>,
 }
 
+/// Where an attribute is read.
+#[derive(Clone, Copy)]
+struct AttributeContext {
+    /// What the attributes before it say.
+    said: Attributes,
+    /// How many attributes may stand in one another there.
+    depth_left: u32,
+}
+
 /// What no attributes say.
 const NONE: Attributes = Attributes {
     holds: true,
@@ -58,7 +67,7 @@ const NONE: Attributes = Attributes {
     unknown: None,
 };
 
-/// The attribute that tells which numbers a scalar may be.
+/// The attribute that says which numbers a scalar may be.
 const VALID_RANGE: &str = "rustc_layout_scalar_valid_range";
 
 /// What no attributes say.
@@ -121,7 +130,7 @@ fn read_cfg(
     }
 }
 
-/// What is said with a fault that is told where the item is there.
+/// What is said with a fault that is reported where the item is there.
 fn faulty(before: Attributes, fault: SourceFault) -> Attributes
     ensures { result ≡ faulty before fault }
 {
@@ -220,22 +229,25 @@ fn read_list(
     names: &mut Names,
     unknown: &mut Vec<Symbol>,
     rules: &Rules<'_>,
-    before: Attributes,
+    context: AttributeContext,
     inside: &mut Cursor<'_>,
-    room: u32,
 ) -> Result<Attributes, SourceFault>
     ensures { Reads (λ said. said)
-        (expanded_all rules.now (attribute_read rules.now room) before inside.old (texts names.old, unknown.old.items))
+        (expanded_all rules.now (attribute_read rules.now context.depth_left) context.said inside.old (texts names.old, unknown.old.items))
         (texts names.new, unknown.new.items) result }
 {
-    let mut said = before;
+    let mut said = context.said;
     let turns = inside.end.saturating_sub(inside.at);
     for turn in 0..turns {
         if is_done(inside) {
             return Ok(said);
         }
         let mut one = take_until(inside, b',');
-        said = read_attribute(names, unknown, rules, said, &mut one, room)?;
+        let inner = AttributeContext {
+            said,
+            depth_left: context.depth_left,
+        };
+        said = read_attribute(names, unknown, rules, inner, &mut one)?;
         expect_comma(inside)?;
     }
     Ok(said)
@@ -248,47 +260,45 @@ fn read_expanded(
     names: &mut Names,
     unknown: &mut Vec<Symbol>,
     rules: &Rules<'_>,
-    before: Attributes,
+    context: AttributeContext,
     inside: &mut Cursor<'_>,
-    room: u32,
 ) -> Result<Attributes, SourceFault>
     ensures { Reads (λ said. said)
-        (expanded rules.now (attribute_read rules.now room) before inside.old (texts names.old, unknown.old.items))
+        (expanded rules.now (attribute_read rules.now context.depth_left) context.said inside.old (texts names.old, unknown.old.items))
         (texts names.new, unknown.new.items) result }
 {
     let holds = is_predicate(names, unknown, &rules.target, inside, most_nested())?;
     expect(inside, b',', SourceFaultKind::ExpectedComma)?;
     if holds {
-        read_list(names, unknown, rules, before, inside, room)
+        read_list(names, unknown, rules, context, inside)
     } else {
-        Ok(before)
+        Ok(context.said)
     }
 }
 
-/// What an attribute says, within the room that is left.
+/// What one attribute says, added to what those before it say.
 #[cycle(attributes)]
 #[tactic(auto, unfolding(crate::specs::Attributes::attribute_with))]
-fn read_within(
+fn read_one_attribute(
     names: &mut Names,
     unknown: &mut Vec<Symbol>,
     rules: &Rules<'_>,
-    before: Attributes,
+    context: AttributeContext,
     cursor: &mut Cursor<'_>,
-    room: u32,
 ) -> Result<Attributes, SourceFault>
     ensures { Reads (λ said. said)
-        (attribute_with rules.now (attribute_read rules.now room) before cursor.old (texts names.old, unknown.old.items))
+        (attribute_with rules.now (attribute_read rules.now context.depth_left) context.said cursor.old (texts names.old, unknown.old.items))
         (texts names.new, unknown.new.items) result }
 {
-    if !before.holds {
-        return Ok(before);
+    if !context.said.holds {
+        return Ok(context.said);
     }
     if !begins_attribute(cursor) {
         return Err(fault(cursor, SourceFaultKind::BadAttribute));
     }
     let start = *cursor;
     let name = word_text(cursor);
-    let said = named_said(before, cursor);
+    let said = named_said(context.said, cursor);
     pass(cursor, 1);
     let Some(mut inside) = take_group(cursor, Bracket::Round) else {
         return read_listless(said, &start);
@@ -297,7 +307,11 @@ fn read_within(
         return Err(fault(cursor, SourceFaultKind::BadAttribute));
     }
     if name == "cfg_attr" {
-        read_expanded(names, unknown, rules, said, &mut inside, room)
+        let inner = AttributeContext {
+            said,
+            depth_left: context.depth_left,
+        };
+        read_expanded(names, unknown, rules, inner, &mut inside)
     } else if name == "cfg" {
         read_cfg(names, unknown, rules, said, &mut inside)
     } else {
@@ -312,15 +326,17 @@ fn read_attribute(
     names: &mut Names,
     unknown: &mut Vec<Symbol>,
     rules: &Rules<'_>,
-    before: Attributes,
+    context: AttributeContext,
     cursor: &mut Cursor<'_>,
-    room: u32,
 ) -> Result<Attributes, SourceFault>
-    ensures { Reads (λ said. said) (attribute_read rules.now room before cursor.old (texts names.old, unknown.old.items))
+    ensures { Reads (λ said. said) (attribute_read rules.now context.depth_left context.said cursor.old (texts names.old, unknown.old.items))
         (texts names.new, unknown.new.items) result }
 {
-    let room = less(cursor, room)?;
-    read_within(names, unknown, rules, before, cursor, room)
+    let inner = AttributeContext {
+        said: context.said,
+        depth_left: one_level_deeper(cursor, context.depth_left)?,
+    };
+    read_one_attribute(names, unknown, rules, inner, cursor)
 }
 
 /// What the attribute says whose `#` stands before. One of the module around it (`#![..]`) says nothing here.
@@ -342,7 +358,11 @@ fn read_one(
     if is_inner {
         return Ok(before);
     }
-    read_attribute(names, unknown, rules, before, &mut inside, most_nested())
+    let context = AttributeContext {
+        said: before,
+        depth_left: most_nested(),
+    };
+    read_attribute(names, unknown, rules, context, &mut inside)
 }
 
 /// What the attributes that are next say, whatever it is that they stand at.

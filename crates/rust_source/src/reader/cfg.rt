@@ -12,12 +12,12 @@ use crate::place::Symbol;
 use crate::reader::cursor::{
     Cursor, expect_comma, fault, is_done, nth, pass, take, take_group, text_of,
 };
-use crate::reader::literals::{escape_code, within};
+use crate::reader::depth::one_level_deeper;
+use crate::reader::literals::{bytes_between, escape_code};
 use crate::reader::naming::word_text;
-use crate::reader::room::less;
 use crate::target::{CfgTarget, Family};
 use crate::tokens::token::{Bracket, TokenKind};
-use crate::tokens::{Run, after, byte_at, escaped_length, run_length};
+use crate::tokens::{Run, byte_at, bytes_after, escaped_length, run_length};
 
 /// The name of a family of systems.
 fn family_name(family: Family) -> &'static str
@@ -46,7 +46,7 @@ fn escape_taken(rest: &[u8], length: Option<usize>) -> Option<(u32, &[u8])>
     let length = length?;
     let escape = rest.get(..length)?;
     let code = escape_code(escape)?;
-    Some((code, after(rest, length)))
+    Some((code, bytes_after(rest, length)))
 }
 
 /// How many bytes an escape has behind its backslash. None where it has no end.
@@ -67,7 +67,7 @@ fn next_code(inside: &[u8]) -> Option<(u32, &[u8])>
     ensures { option_map taken_of result ≡ next_code inside.now }
 {
     let first = *inside.first()?;
-    let rest = after(inside, 1);
+    let rest = bytes_after(inside, 1);
     if first == b'\\' {
         escape_taken(rest, escape_length(rest))
     } else {
@@ -237,7 +237,7 @@ fn keep_unknown(names: &mut Names, unknown: &mut Vec<Symbol>, name: &str) -> Res
 fn plain_value(text: &[u8]) -> Option<CfgValue<'_>>
     ensures { option_map value_as_read result ≡ plain_value text.now }
 {
-    let inside = within(text, b'"', b'"')?;
+    let inside = bytes_between(text, b'"', b'"')?;
     if has_escapes(inside) {
         Some(CfgValue {
             inside,
@@ -254,7 +254,7 @@ fn raw_value(text: &[u8], hashes: usize) -> Option<CfgValue<'_>>
     requires { hashes ≤ length text.now }
     ensures { option_map value_as_read result ≡ raw_value hashes text.now }
 {
-    let rest = after(text, hashes + 2);
+    let rest = bytes_after(text, hashes + 2);
     let bytes = rest.len().checked_sub(hashes + 1)?;
     let inside = rest.get(..bytes)?;
     Some(CfgValue {
@@ -270,7 +270,7 @@ fn string_value(text: &[u8]) -> Option<CfgValue<'_>>
 {
     match byte_at(text, 0) {
         b'"' => plain_value(text),
-        b'r' => raw_value(text, run_length(after(text, 1), Run::Hashes)),
+        b'r' => raw_value(text, run_length(bytes_after(text, 1), Run::Hashes)),
         _ => None,
     }
 }
@@ -355,9 +355,9 @@ fn count_holding(
     unknown: &mut Vec<Symbol>,
     target: &CfgTarget<'_>,
     cursor: &mut Cursor<'_>,
-    room: u32,
+    depth_left: u32,
 ) -> Result<(usize, usize), SourceFault>
-    ensures { Reads (λ count. count) (count_read target.now (predicate_read target.now room) cursor.old (texts names.old, unknown.old.items))
+    ensures { Reads (λ count. count) (count_read target.now (predicate_read target.now depth_left) cursor.old (texts names.old, unknown.old.items))
         (texts names.new, unknown.new.items) result }
 {
     let mut holding = 0usize;
@@ -367,7 +367,7 @@ fn count_holding(
         if is_done(cursor) {
             return Ok((holding, count));
         }
-        let holds = is_predicate(names, unknown, target, cursor, room)?;
+        let holds = is_predicate(names, unknown, target, cursor, depth_left)?;
         holding = counted(holding, holds);
         count = counted(count, true);
         expect_comma(cursor)?;
@@ -396,7 +396,7 @@ fn combined(
     }
 }
 
-/// Whether the predicate that is next holds of the target, within the room that is left.
+/// Whether the predicate that is next holds of the target, whose lists stand one level deeper.
 #[cycle(predicates)]
 #[tactic(auto, unfolding(crate::specs::Cfg::predicate_with))]
 fn is_predicate_within(
@@ -404,10 +404,10 @@ fn is_predicate_within(
     unknown: &mut Vec<Symbol>,
     target: &CfgTarget<'_>,
     cursor: &mut Cursor<'_>,
-    room: u32,
+    depth_left: u32,
 ) -> Result<bool, SourceFault>
     ensures { Reads (λ holds. (holds, cursor.new))
-        (predicate_with target.now (predicate_read target.now room) cursor.old (texts names.old, unknown.old.items))
+        (predicate_with target.now (predicate_read target.now depth_left) cursor.old (texts names.old, unknown.old.items))
         (texts names.new, unknown.new.items) result }
 {
     let mut behind = *cursor;
@@ -415,7 +415,7 @@ fn is_predicate_within(
     let Some(mut inside) = take_group(&mut behind, Bracket::Round) else {
         return is_option(names, unknown, target, cursor);
     };
-    let (holding, count) = count_holding(names, unknown, target, &mut inside, room)?;
+    let (holding, count) = count_holding(names, unknown, target, &mut inside, depth_left)?;
     let holds = combined(cursor, word_text(cursor), holding, count)?;
     *cursor = behind;
     Ok(holds)
@@ -429,11 +429,11 @@ pub(crate) fn is_predicate(
     unknown: &mut Vec<Symbol>,
     target: &CfgTarget<'_>,
     cursor: &mut Cursor<'_>,
-    room: u32,
+    depth_left: u32,
 ) -> Result<bool, SourceFault>
-    ensures { Reads (λ holds. (holds, cursor.new)) (predicate_read target.now room cursor.old (texts names.old, unknown.old.items))
+    ensures { Reads (λ holds. (holds, cursor.new)) (predicate_read target.now depth_left cursor.old (texts names.old, unknown.old.items))
         (texts names.new, unknown.new.items) result }
 {
-    let room = less(cursor, room)?;
-    is_predicate_within(names, unknown, target, cursor, room)
+    let depth_left = one_level_deeper(cursor, depth_left)?;
+    is_predicate_within(names, unknown, target, cursor, depth_left)
 }

@@ -2,8 +2,7 @@
 
 ghost use Rattle.std.specs.Prelude.{◌≡◌, IfErr, IfOk};
 ghost use Rattle.std.specs.Option.{option_map};
-ghost use Rattle.rust_source.specs.Constants.{impl_in, is_wanting, lifetimes, lifetimes_in, own_const, own_constants, own_item, own_items, own_said, owner_read};
-ghost use Rattle.rust_source.specs.Cursor.{inside};
+ghost use Rattle.rust_source.specs.Constants.{is_wanting, lifetimes, lifetimes_in, own_const, own_constants, own_item, own_items, own_said, owner_read};
 ghost use Rattle.rust_source.specs.Growth.{KeepsItems};
 ghost use Rattle.rust_source.specs.Having.{next_owner, with_owner};
 ghost use Rattle.rust_source.specs.Items.{items_as_read};
@@ -16,18 +15,34 @@ use crate::item::Items;
 use crate::names::Names;
 use crate::reader::attributes::{Attributes, Rules, read_part_attributes};
 use crate::reader::cursor::{Cursor, is_done, next_kind, pass, take, take_group, take_word};
+use crate::reader::definition::{is_constant, read_const};
+use crate::reader::depth::most_nested;
 use crate::reader::fields::pass_visibility;
 use crate::reader::items::put_item;
 use crate::reader::passing::pass_item;
 use crate::reader::paths::read_path;
-use crate::reader::room::most_nested;
 use crate::reader::types::begins_path;
 use crate::reader::visibility::{Standing, read_visibility};
-use crate::reader::written::{is_constant, read_const};
 use crate::syntax::Path;
 use crate::tokens::as_place;
 use crate::tokens::keyword::Keyword;
 use crate::tokens::token::{Bracket, TokenKind};
+
+/// An `impl` block whose constants are read.
+#[derive(Clone, Copy)]
+struct ImplBlock {
+    /// The module that it stands in, by its number.
+    module: u32,
+    /// The type whose own its items are, by its number.
+    owner: u32,
+}
+
+/// A constant of an `impl` block: where it stands, and the type whose own it is, by its number.
+#[derive(Clone, Copy)]
+struct OwnConst {
+    standing: Standing,
+    owner: u32,
+}
 
 /// Whether memory was wanting.
 fn is_wanting(kind: SourceFaultKind) -> bool
@@ -90,22 +105,21 @@ fn take_owner(names: &mut Names, cursor: &mut Cursor<'_>) -> Result<Option<Path>
     }
 }
 
-/// Reads a constant of the type with this number, behind its `const`. One that can't be read isn't told.
+/// Reads a constant of a type, behind its `const`. One that can't be read isn't reported.
 #[tactic(auto, unfolding(crate::specs::Constants::own_const))]
 fn read_own_const(
     names: &mut Names,
     items: &mut Items,
-    standing: Standing,
+    place: OwnConst,
     said: &Attributes,
-    owner: u32,
     cursor: &mut Cursor<'_>,
 ) -> Result<(), SourceFault>
     ensures kept { KeepsItems items.old items.new }
-    ensures read { Reads (λ done. done) (own_const standing said.now owner cursor.old (texts names.old, items_as_read items.old))
+    ensures read { Reads (λ done. done) (own_const place.standing said.now place.owner cursor.old (texts names.old, items_as_read items.old))
         (texts names.new, items_as_read items.new) result }
 {
-    match read_const(names, cursor, Some(owner)) {
-        Ok(one) => put_item(items, standing, said, one),
+    match read_const(names, cursor, Some(place.owner)) {
+        Ok(one) => put_item(items, place.standing, said, one),
         Err(fault) => {
             if is_wanting(fault.kind) {
                 Err(fault)
@@ -121,22 +135,25 @@ fn read_own_const(
 fn read_own_said(
     names: &mut Names,
     items: &mut Items,
-    module: u32,
+    block: ImplBlock,
     said: &Attributes,
-    owner: u32,
     inside: &mut Cursor<'_>,
 ) -> Result<(), SourceFault>
     ensures kept { KeepsItems items.old items.new }
-    ensures read { Reads (λ _. inside.new) (own_said «module» said.now owner inside.old (texts names.old, items_as_read items.old))
+    ensures read { Reads (λ _. inside.new) (own_said block.«module» said.now block.owner inside.old (texts names.old, items_as_read items.old))
         (texts names.new, items_as_read items.new) result }
 {
+    let module = block.module;
     let visible_in = read_visibility(names, &items.modules, module, inside)?;
-    let standing = Standing { module, visible_in };
+    let place = OwnConst {
+        standing: Standing { module, visible_in },
+        owner: block.owner,
+    };
     let mut ahead = *inside;
     pass_item(inside);
     if is_constant(&ahead) {
         pass(&mut ahead, 1);
-        return read_own_const(names, items, standing, said, owner, &mut ahead);
+        return read_own_const(names, items, place, said, &mut ahead);
     }
     Ok(())
 }
@@ -147,35 +164,33 @@ fn read_own_item(
     rules: &Rules<'_>,
     names: &mut Names,
     items: &mut Items,
-    module: u32,
-    owner: u32,
+    block: ImplBlock,
     inside: &mut Cursor<'_>,
 ) -> Result<(), SourceFault>
     ensures kept { KeepsItems items.old items.new }
-    ensures read { Reads (λ _. inside.new) (own_item rules.now «module» owner inside.old (texts names.old, items_as_read items.old))
+    ensures read { Reads (λ _. inside.new) (own_item rules.now block.«module» block.owner inside.old (texts names.old, items_as_read items.old))
         (texts names.new, items_as_read items.new) result }
 {
     let said = read_part_attributes(names, &mut items.unknown_cfgs, rules, inside)?;
     if said.holds {
-        return read_own_said(names, items, module, &said, owner, inside);
+        return read_own_said(names, items, block, &said, inside);
     }
     pass_visibility(inside);
     pass_item(inside);
     Ok(())
 }
 
-/// Reads the constants within an `impl` block of the type with this number.
+/// Reads the constants within an `impl` block.
 #[tactic(auto, unfolding(crate::specs::Constants::own_items), using(crate::proofs::ModuleTurns::own_more, crate::proofs::ModuleTurns::own_done))]
 fn read_own_items(
     rules: &Rules<'_>,
     names: &mut Names,
     items: &mut Items,
-    module: u32,
-    owner: u32,
+    block: ImplBlock,
     inside: &mut Cursor<'_>,
 ) -> Result<(), SourceFault>
     ensures kept { KeepsItems items.old items.new }
-    ensures read { Reads (λ done. done) (own_items rules.now «module» owner inside.old (texts names.old, items_as_read items.old))
+    ensures read { Reads (λ done. done) (own_items rules.now block.«module» block.owner inside.old (texts names.old, items_as_read items.old))
         (texts names.new, items_as_read items.new) result }
 {
     let turns = inside.end.saturating_sub(inside.at);
@@ -183,7 +198,7 @@ fn read_own_items(
         if is_done(inside) {
             return Ok(());
         }
-        read_own_item(rules, names, items, module, owner, inside)?;
+        read_own_item(rules, names, items, block, inside)?;
     }
     Ok(())
 }
@@ -200,27 +215,6 @@ fn put_owner(items: &mut Items, path: Path) -> Result<u32, SourceFault>
     let owner = as_place(items.owners.len());
     items.owners.push(path)?;
     Ok(owner)
-}
-
-/// Reads the constants within these braces, of the type that the path names.
-fn read_impl(
-    rules: &Rules<'_>,
-    names: &mut Names,
-    items: &mut Items,
-    module: u32,
-    path: Path,
-    cursor: &mut Cursor<'_>,
-) -> Result<(), SourceFault>
-    ensures kept { KeepsItems items.old items.new }
-    ensures read { Reads (λ done. done)
-        (impl_in rules.now «module» (path_as_read path) (inside cursor.old Bracket.Curly) (texts names.old, items_as_read items.old))
-        (texts names.new, items_as_read items.new) result }
-{
-    let Some(mut inside) = take_group(cursor, Bracket::Curly) else {
-        return Ok(());
-    };
-    let owner = put_owner(items, path)?;
-    read_own_items(rules, names, items, module, owner, &mut inside)
 }
 
 /// Reads the constants of an `impl` block, where one is next that has no parameters and implements no trait. Nothing is
@@ -241,8 +235,15 @@ pub(crate) fn read_own_constants(
     if !take_word(&mut ahead, Keyword::Impl) {
         return Ok(());
     }
-    match take_owner(names, &mut ahead)? {
-        Some(path) => read_impl(rules, names, items, module, path, &mut ahead),
-        None => Ok(()),
-    }
+    let Some(path) = take_owner(names, &mut ahead)? else {
+        return Ok(());
+    };
+    let Some(mut inside) = take_group(&mut ahead, Bracket::Curly) else {
+        return Ok(());
+    };
+    let block = ImplBlock {
+        module,
+        owner: put_owner(items, path)?,
+    };
+    read_own_items(rules, names, items, block, &mut inside)
 }

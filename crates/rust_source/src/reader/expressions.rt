@@ -8,7 +8,7 @@ ghost use Rattle.rust_source.specs.Literals.{char_code, number_written};
 ghost use Rattle.rust_source.specs.Reading.{Reads, read_as};
 ghost use Rattle.rust_source.specs.Simple.{byte_read, char_read, is_literal, literal_read, literal_of, most_nested, number_read, sign_of, signed_literal, signs};
 ghost use Rattle.rust_source.specs.Syntax.{cast, choice, expr_of, type_of};
-ghost use Rattle.rust_source.specs.Terms.{bracketed, cast_from, choice_behind, choice_read, choice_with, else_read, expr_read, expr_with, readers, is_told_anyway, operand, primary, value, expressions_in, whole};
+ghost use Rattle.rust_source.specs.Terms.{bracketed, cast_from, choice_behind, choice_read, choice_with, else_read, expr_read, expr_with, readers, is_always_reported, operand, primary, value, expressions_in, whole};
 ghost use Rattle.rust_source.specs.Tokens.{Yields};
 
 use crate::fault::{SourceFault, SourceFaultKind};
@@ -18,20 +18,20 @@ use crate::reader::cursor::{
     Cursor, expect_comma, fault, is_done, next_kind, nth, pass, place, take_group, take_word,
     text_of,
 };
+use crate::reader::depth::{most_nested, one_level_deeper};
 use crate::reader::literals::{Number, char_code, number_of};
 use crate::reader::operators::{Waiting, join_all, next_operator, put_operator, with_signs};
 use crate::reader::paths::read_path;
-use crate::reader::room::{less, most_nested};
 use crate::reader::types::read_type;
 use crate::syntax::{Expr, IntegerKind, Type, Unary, Unevaluated};
-use crate::tokens::after;
+use crate::tokens::bytes_after;
 use crate::tokens::keyword::Keyword;
 use crate::tokens::token::{Bracket, Token, TokenKind};
 use std::alloc::Global;
 
-/// Whether a fault is told even where an expression needn't be read.
-fn is_told(kind: SourceFaultKind) -> bool
-    ensures { result ≡ is_told_anyway kind }
+/// Whether a fault is reported even where an expression needn't be read.
+fn is_always_reported(kind: SourceFaultKind) -> bool
+    ensures { result ≡ is_always_reported kind }
 {
     match kind {
         SourceFaultKind::OutOfMemory | SourceFaultKind::TooDeep | SourceFaultKind::BadNumber => {
@@ -47,17 +47,17 @@ fn is_told(kind: SourceFaultKind) -> bool
 pub(crate) fn read_whole(
     names: &mut Names,
     cursor: &mut Cursor<'_>,
-    room: u32,
+    depth_left: u32,
 ) -> Result<Expr, SourceFault>
     ensures { Reads (λ value. (expr_of value, cursor.new))
-        (whole (readers room) cursor.old (texts names.old)) (texts names.new) result }
+        (whole (readers depth_left) cursor.old (texts names.old)) (texts names.new) result }
 {
     if is_done(cursor) {
         return Err(fault(cursor, SourceFaultKind::ExpectedExpression));
     }
     let at = place(cursor);
     let mut inside = *cursor;
-    let read = read_expression(names, &mut inside, room);
+    let read = read_expression(names, &mut inside, depth_left);
     cursor.at = cursor.end;
     match read {
         Ok(whole) => {
@@ -68,7 +68,7 @@ pub(crate) fn read_whole(
             }
         }
         Err(fault) => {
-            if is_told(fault.kind) {
+            if is_always_reported(fault.kind) {
                 Err(fault)
             } else {
                 Ok(Expr::Unevaluated(Unevaluated::Expression, at))
@@ -77,19 +77,19 @@ pub(crate) fn read_whole(
     }
 }
 
-/// An expression. Types and expressions may stand in `room` others here.
+/// An expression. Types and expressions may stand in `depth_left` others here.
 #[cycle(terms)]
-#[tactic(auto, using(crate::proofs::Rooms::expr_less, crate::proofs::Rooms::expr_none))]
+#[tactic(auto, using(crate::proofs::Depths::expr_less, crate::proofs::Depths::expr_none))]
 fn read_expression(
     names: &mut Names,
     cursor: &mut Cursor<'_>,
-    room: u32,
+    depth_left: u32,
 ) -> Result<Expr, SourceFault>
     ensures { Reads (λ value. (expr_of value, cursor.new))
-        (expr_read room cursor.old (texts names.old)) (texts names.new) result }
+        (expr_read depth_left cursor.old (texts names.old)) (texts names.new) result }
 {
-    let room = less(cursor, room)?;
-    read_joined(names, cursor, room)
+    let depth_left = one_level_deeper(cursor, depth_left)?;
+    read_joined(names, cursor, depth_left)
 }
 
 /// Puts an operand behind the others.
@@ -104,16 +104,20 @@ fn push_operand(all: &mut Vec<Expr>, one: Expr) -> Result<(), SourceFault>
 
 /// Operands, and the operators between them.
 #[cycle(terms)]
-#[tactic(auto, unfolding(crate::specs::Terms::expr_with), using(crate::proofs::Rooms::expr_more, crate::proofs::Rooms::expr_done))]
-fn read_joined(names: &mut Names, cursor: &mut Cursor<'_>, room: u32) -> Result<Expr, SourceFault>
+#[tactic(auto, unfolding(crate::specs::Terms::expr_with), using(crate::proofs::Depths::expr_more, crate::proofs::Depths::expr_done))]
+fn read_joined(
+    names: &mut Names,
+    cursor: &mut Cursor<'_>,
+    depth_left: u32,
+) -> Result<Expr, SourceFault>
     ensures { Reads (λ value. (expr_of value, cursor.new))
-        (expr_with (readers room) cursor.old (texts names.old)) (texts names.new) result }
+        (expr_with (readers depth_left) cursor.old (texts names.old)) (texts names.new) result }
 {
     let mut operands = Vec::new(names.alloc());
     let mut waiting: Vec<Waiting> = Vec::new(names.alloc());
     let turns = most_nested();
     for turn in 0..turns {
-        let one = read_operand(names, cursor, room)?;
+        let one = read_operand(names, cursor, depth_left)?;
         push_operand(&mut operands, one)?;
         let at = place(cursor);
         let Some((operator, length)) = next_operator(cursor) else {
@@ -158,14 +162,18 @@ fn take_signs(alloc: Global, cursor: &mut Cursor<'_>) -> Result<Vec<(Unary, Plac
 /// An operand, with the operators before it and the casts behind.
 #[cycle(terms)]
 #[tactic(auto, unfolding(crate::specs::Terms::operand))]
-fn read_operand(names: &mut Names, cursor: &mut Cursor<'_>, room: u32) -> Result<Expr, SourceFault>
+fn read_operand(
+    names: &mut Names,
+    cursor: &mut Cursor<'_>,
+    depth_left: u32,
+) -> Result<Expr, SourceFault>
     ensures { Reads (λ value. (expr_of value, cursor.new))
-        (operand (readers room) cursor.old (texts names.old)) (texts names.new) result }
+        (operand (readers depth_left) cursor.old (texts names.old)) (texts names.new) result }
 {
     let signs = take_signs(names.alloc(), cursor)?;
-    let first = read_primary(names, cursor, room)?;
+    let first = read_primary(names, cursor, depth_left)?;
     let operand = with_signs(names.alloc(), first, signs)?;
-    read_casts(names, cursor, operand, room)
+    read_casts(names, cursor, operand, depth_left)
 }
 
 /// An operand, cast to a type behind an `as` that stands at this place.
@@ -180,15 +188,15 @@ fn with_cast(alloc: Global, operand: Expr, to: Type, at: Place) -> Result<Expr, 
 
 /// An operand with the casts behind it.
 #[cycle(terms)]
-#[tactic(auto, using(crate::proofs::Rooms::cast_more, crate::proofs::Rooms::cast_done))]
+#[tactic(auto, using(crate::proofs::Depths::cast_more, crate::proofs::Depths::cast_done))]
 fn read_casts(
     names: &mut Names,
     cursor: &mut Cursor<'_>,
     operand: Expr,
-    room: u32,
+    depth_left: u32,
 ) -> Result<Expr, SourceFault>
     ensures { Reads (λ value. (expr_of value, cursor.new))
-        (cast_from (readers room) most_nested (expr_of operand) cursor.old (texts names.old)) (texts names.new) result }
+        (cast_from (readers depth_left) most_nested (expr_of operand) cursor.old (texts names.old)) (texts names.new) result }
 {
     let mut operand = operand;
     let turns = most_nested();
@@ -197,7 +205,7 @@ fn read_casts(
         if !take_word(cursor, Keyword::As) {
             return Ok(operand);
         }
-        let to = read_type(names, cursor, room)?;
+        let to = read_type(names, cursor, depth_left)?;
         operand = with_cast(names.alloc(), operand, to, at)?;
     }
     Err(fault(cursor, SourceFaultKind::TooDeep))
@@ -210,15 +218,15 @@ fn read_in(
     names: &mut Names,
     cursor: &mut Cursor<'_>,
     bracket: Bracket,
-    room: u32,
+    depth_left: u32,
 ) -> Result<Expr, SourceFault>
     ensures { Reads (λ value. (expr_of value, cursor.new))
-        (bracketed (readers room) bracket cursor.old (texts names.old)) (texts names.new) result }
+        (bracketed (readers depth_left) bracket cursor.old (texts names.old)) (texts names.new) result }
 {
     let Some(mut inside) = take_group(cursor, bracket) else {
         return Err(fault(cursor, SourceFaultKind::ExpectedExpression));
     };
-    let value = read_expression(names, &mut inside, room)?;
+    let value = read_expression(names, &mut inside, depth_left)?;
     if is_done(&inside) {
         Ok(value)
     } else {
@@ -228,18 +236,18 @@ fn read_in(
 
 /// A choice, behind its `if`, which stands at this place.
 #[cycle(terms)]
-#[tactic(auto, using(crate::proofs::Rooms::choice_less, crate::proofs::Rooms::choice_none))]
+#[tactic(auto, using(crate::proofs::Depths::choice_less, crate::proofs::Depths::choice_none))]
 fn read_choice(
     names: &mut Names,
     cursor: &mut Cursor<'_>,
     at: Place,
-    room: u32,
+    depth_left: u32,
 ) -> Result<Expr, SourceFault>
     ensures { Reads (λ value. (expr_of value, cursor.new))
-        (choice_read room at cursor.old (texts names.old)) (texts names.new) result }
+        (choice_read depth_left at cursor.old (texts names.old)) (texts names.new) result }
 {
-    let room = less(cursor, room)?;
-    read_tested(names, cursor, at, room)
+    let depth_left = one_level_deeper(cursor, depth_left)?;
+    read_tested(names, cursor, at, depth_left)
 }
 
 /// The test of a choice, and what stands behind it.
@@ -249,13 +257,13 @@ fn read_tested(
     names: &mut Names,
     cursor: &mut Cursor<'_>,
     at: Place,
-    room: u32,
+    depth_left: u32,
 ) -> Result<Expr, SourceFault>
     ensures { Reads (λ value. (expr_of value, cursor.new))
-        (choice_with (readers room) at cursor.old (texts names.old)) (texts names.new) result }
+        (choice_with (readers depth_left) at cursor.old (texts names.old)) (texts names.new) result }
 {
-    let test = read_expression(names, cursor, room)?;
-    read_branches(names, cursor, test, at, room)
+    let test = read_expression(names, cursor, depth_left)?;
+    read_branches(names, cursor, test, at, depth_left)
 }
 
 /// The choice of three expressions, which stands at this place.
@@ -277,67 +285,83 @@ fn read_branches(
     cursor: &mut Cursor<'_>,
     test: Expr,
     at: Place,
-    room: u32,
+    depth_left: u32,
 ) -> Result<Expr, SourceFault>
     ensures { Reads (λ value. (expr_of value, cursor.new))
-        (choice_behind (readers room) at (expr_of test) cursor.old (texts names.old)) (texts names.new) result }
+        (choice_behind (readers depth_left) at (expr_of test) cursor.old (texts names.old)) (texts names.new) result }
 {
-    let yes = read_in(names, cursor, Bracket::Curly, room)?;
+    let yes = read_in(names, cursor, Bracket::Curly, depth_left)?;
     if !take_word(cursor, Keyword::Else) {
         return Err(fault(cursor, SourceFaultKind::ExpectedExpression));
     }
-    let no = read_else(names, cursor, room)?;
+    let no = read_else(names, cursor, depth_left)?;
     choice(names.alloc(), test, yes, no, at)
 }
 
 /// What stands behind `else`.
 #[cycle(terms)]
-fn read_else(names: &mut Names, cursor: &mut Cursor<'_>, room: u32) -> Result<Expr, SourceFault>
+fn read_else(
+    names: &mut Names,
+    cursor: &mut Cursor<'_>,
+    depth_left: u32,
+) -> Result<Expr, SourceFault>
     ensures { Reads (λ value. (expr_of value, cursor.new))
-        (else_read (readers room) cursor.old (texts names.old)) (texts names.new) result }
+        (else_read (readers depth_left) cursor.old (texts names.old)) (texts names.new) result }
 {
     let again = place(cursor);
     if take_word(cursor, Keyword::If) {
-        return read_choice(names, cursor, again, room);
+        return read_choice(names, cursor, again, depth_left);
     }
-    read_in(names, cursor, Bracket::Curly, room)
+    read_in(names, cursor, Bracket::Curly, depth_left)
 }
 
 /// An operand without operators.
 #[cycle(terms)]
 #[tactic(auto, unfolding(crate::specs::Terms::primary))]
-fn read_primary(names: &mut Names, cursor: &mut Cursor<'_>, room: u32) -> Result<Expr, SourceFault>
+fn read_primary(
+    names: &mut Names,
+    cursor: &mut Cursor<'_>,
+    depth_left: u32,
+) -> Result<Expr, SourceFault>
     ensures { Reads (λ value. (expr_of value, cursor.new))
-        (primary (readers room) cursor.old (texts names.old)) (texts names.new) result }
+        (primary (readers depth_left) cursor.old (texts names.old)) (texts names.new) result }
 {
     if is_literal(cursor) {
         return read_literal(cursor);
     }
     let at = place(cursor);
     match next_kind(cursor) {
-        Some(TokenKind::Open(Bracket::Round)) => { read_in(names, cursor, Bracket::Round, room) }
-        Some(TokenKind::Open(Bracket::Curly)) => { read_in(names, cursor, Bracket::Curly, room) }
+        Some(TokenKind::Open(Bracket::Round)) => {
+            read_in(names, cursor, Bracket::Round, depth_left)
+        }
+        Some(TokenKind::Open(Bracket::Curly)) => {
+            read_in(names, cursor, Bracket::Curly, depth_left)
+        }
         Some(TokenKind::Keyword(Keyword::If)) => {
             pass(cursor, 1);
-            read_choice(names, cursor, at, room)
+            read_choice(names, cursor, at, depth_left)
         }
-        _ => read_value(names, cursor, room),
+        _ => read_value(names, cursor, depth_left),
     }
 }
 
 /// A path, or the call of what it names.
 #[cycle(terms)]
 #[tactic(auto, unfolding(crate::specs::Terms::value))]
-fn read_value(names: &mut Names, cursor: &mut Cursor<'_>, room: u32) -> Result<Expr, SourceFault>
+fn read_value(
+    names: &mut Names,
+    cursor: &mut Cursor<'_>,
+    depth_left: u32,
+) -> Result<Expr, SourceFault>
     ensures { Reads (λ value. (expr_of value, cursor.new))
-        (value (readers room) cursor.old (texts names.old)) (texts names.new) result }
+        (value (readers depth_left) cursor.old (texts names.old)) (texts names.new) result }
 {
     let at = place(cursor);
-    let path = read_path(names, cursor, false, room)?;
+    let path = read_path(names, cursor, false, depth_left)?;
     let Some(mut inside) = take_group(cursor, Bracket::Round) else {
         return Ok(Expr::Path(path));
     };
-    let arguments = read_values(names, &mut inside, room)?;
+    let arguments = read_values(names, &mut inside, depth_left)?;
     Ok(Expr::Call(path, arguments, at))
 }
 
@@ -353,14 +377,14 @@ fn push_value(all: &mut Vec<Expr>, one: Expr) -> Result<(), SourceFault>
 
 /// The expressions that stand in parentheses.
 #[cycle(terms)]
-#[tactic(auto, unfolding(crate::specs::Terms::expressions_in), using(crate::proofs::Rooms::values_more, crate::proofs::Rooms::values_done))]
+#[tactic(auto, unfolding(crate::specs::Terms::expressions_in), using(crate::proofs::Depths::values_more, crate::proofs::Depths::values_done))]
 fn read_values(
     names: &mut Names,
     inside: &mut Cursor<'_>,
-    room: u32,
+    depth_left: u32,
 ) -> Result<Vec<Expr>, SourceFault>
     ensures { Reads (λ all. map expr_of all.items)
-        (expressions_in (readers room) inside.old (texts names.old)) (texts names.new) result }
+        (expressions_in (readers depth_left) inside.old (texts names.old)) (texts names.new) result }
 {
     let mut all = Vec::new(names.alloc());
     let turns = inside.end.saturating_sub(inside.at);
@@ -368,7 +392,7 @@ fn read_values(
         if is_done(inside) {
             return Ok(all);
         }
-        let one = read_expression(names, inside, room)?;
+        let one = read_expression(names, inside, depth_left)?;
         push_value(&mut all, one)?;
         expect_comma(inside)?;
     }
@@ -418,7 +442,7 @@ fn byte_literal(cursor: &Cursor<'_>, token: Token) -> Result<Expr, SourceFault>
         (char_code (drop 1 (token_text cursor.now token))) }
 {
     let at = place(cursor);
-    match char_code(after(text_of(cursor, token).as_bytes(), 1)) {
+    match char_code(bytes_after(text_of(cursor, token).as_bytes(), 1)) {
         Ok(code) if code < 256 => Ok(Expr::Integer(u128::from(code), Some(IntegerKind::U8), at)),
         _ => Err(fault(cursor, SourceFaultKind::BadCharacter)),
     }

@@ -17,15 +17,23 @@ use crate::reader::cursor::{
     Cursor, expect, expect_comma, is_done, next_kind, nth, pass, place, place_behind, take,
     take_group, take_until, take_word,
 };
+use crate::reader::depth::most_nested;
 use crate::reader::expressions::read_whole;
 use crate::reader::naming::take_name;
 use crate::reader::repeated::{refuse_repeated_fields, refuse_repeated_variants};
-use crate::reader::room::most_nested;
 use crate::reader::types::read_type;
 use crate::syntax::Expr;
 use crate::tokens::as_place;
 use crate::tokens::keyword::Keyword;
 use crate::tokens::token::{Bracket, TokenKind};
+
+/// Fields that are read so far, in parentheses or braces.
+#[derive(Drop)]
+struct FieldList {
+    /// Whether they are numbered, and have no names.
+    is_tuple: bool,
+    all: Vec<Field>,
+}
 
 /// Whether the parentheses behind `pub` say where the item is seen, as `pub(crate)` and `pub(in a::b)`.
 pub(crate) fn is_restriction(inside: &Cursor<'_>) -> bool
@@ -134,17 +142,17 @@ fn add_field(
     unknown: &mut Vec<Symbol>,
     rules: &Rules<'_>,
     inside: &mut Cursor<'_>,
-    is_tuple: bool,
-    all: &mut Vec<Field>,
+    fields: &mut FieldList,
 ) -> Result<(), SourceFault>
-    ensures { Reads (λ _. (map field_of all.new.items, inside.new))
-        (field_more rules.now is_tuple (map field_of all.old.items) inside.old (texts names.old, unknown.old.items))
+    ensures kind { fields.new.is_tuple ≡ fields.old.is_tuple }
+    ensures read { Reads (λ _. (map field_of fields.new.all.items, inside.new))
+        (field_more rules.now fields.old.is_tuple (map field_of fields.old.all.items) inside.old (texts names.old, unknown.old.items))
         (texts names.new, unknown.new.items) result }
 {
     let said = read_part_attributes(names, unknown, rules, inside)?;
-    let number = next_number(is_tuple, all);
+    let number = next_number(fields.is_tuple, &fields.all);
     let field = read_field(names, inside, number)?;
-    push_field(all, said.holds, field)?;
+    push_field(&mut fields.all, said.holds, field)?;
     expect_comma(inside)
 }
 
@@ -155,11 +163,10 @@ fn add_fields(
     unknown: &mut Vec<Symbol>,
     rules: &Rules<'_>,
     inside: &mut Cursor<'_>,
-    is_tuple: bool,
-    all: &mut Vec<Field>,
+    fields: &mut FieldList,
 ) -> Result<(), SourceFault>
-    ensures { Reads (λ _. map field_of all.new.items)
-        (fields_all rules.now is_tuple (map field_of all.old.items) inside.old (texts names.old, unknown.old.items))
+    ensures { Reads (λ _. map field_of fields.new.all.items)
+        (fields_all rules.now fields.old.is_tuple (map field_of fields.old.all.items) inside.old (texts names.old, unknown.old.items))
         (texts names.new, unknown.new.items) result }
 {
     let turns = inside.end.saturating_sub(inside.at);
@@ -167,7 +174,7 @@ fn add_fields(
         if is_done(inside) {
             return Ok(());
         }
-        add_field(names, unknown, rules, inside, is_tuple, all)?;
+        add_field(names, unknown, rules, inside, fields)?;
     }
     Ok(())
 }
@@ -184,12 +191,15 @@ fn read_fields_in(
     ensures { Reads fields_as_read (fields_in rules.now is_tuple inside.old (texts names.old, unknown.old.items))
         (texts names.new, unknown.new.items) result }
 {
-    let mut all = Vec::new(names.alloc());
-    add_fields(names, unknown, rules, inside, is_tuple, &mut all)?;
-    refuse_repeated_fields(names.alloc(), &all)?;
+    let mut fields = FieldList {
+        is_tuple,
+        all: Vec::new(names.alloc()),
+    };
+    add_fields(names, unknown, rules, inside, &mut fields)?;
+    refuse_repeated_fields(names.alloc(), &fields.all)?;
     Ok(Fields {
         is_unit: false,
-        all,
+        all: fields.all,
     })
 }
 

@@ -6,7 +6,7 @@ ghost use Rattle.rust_source.specs.Growth.{KeepsItems};
 ghost use Rattle.rust_source.specs.Items.{items_as_read};
 ghost use Rattle.rust_source.specs.Names.{texts};
 ghost use Rattle.rust_source.specs.Reading.{Reads};
-ghost use Rattle.rust_source.specs.Written.{written_of};
+ghost use Rattle.rust_source.specs.Definition.{definition_of};
 
 use crate::fault::SourceFault;
 use crate::item::{Const, ItemKind, Items};
@@ -14,10 +14,10 @@ use crate::names::Names;
 use crate::place::{Place, Symbol};
 use crate::reader::attributes::Attributes;
 use crate::reader::cursor::{Cursor, next_kind, pass, take_word};
+use crate::reader::definition::{Definition, Head};
 use crate::reader::items::put_item;
 use crate::reader::naming::take_name;
 use crate::reader::visibility::Standing;
-use crate::reader::written::{Head, Written};
 use crate::syntax::Type;
 use crate::tokens::keyword::Keyword;
 use crate::tokens::token::TokenKind;
@@ -53,8 +53,8 @@ fn pass_qualifiers(cursor: &mut Cursor<'_>)
 }
 
 /// A function of this name, which stands here, as a constant that has no value.
-fn function_named(alloc: Global, name: Symbol, at: Place) -> Written
-    ensures { written_of result ≡ function_named (name, at) }
+fn function_named(alloc: Global, name: Symbol, at: Place) -> Definition
+    ensures { definition_of result ≡ function_named (name, at) }
 {
     let head = Head {
         name,
@@ -67,7 +67,7 @@ fn function_named(alloc: Global, name: Symbol, at: Place) -> Written
         value: None,
         owner: None,
     });
-    Written { head, kind }
+    Definition { head, kind }
 }
 
 /// Reads the name of the function that is next, where one is. Nothing is passed over.

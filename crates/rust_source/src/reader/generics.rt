@@ -17,11 +17,11 @@ use crate::reader::cursor::{
     Cursor, expect, fault, is_lifetime, is_nth, is_nth_pair, next_kind, pass, take, take_group,
     take_word,
 };
+use crate::reader::depth::most_nested;
 use crate::reader::naming::take_name;
 use crate::reader::passing::pass_bounds;
 use crate::reader::paths::{goes_on, read_argument};
 use crate::reader::repeated::refuse_repeated_parameters;
-use crate::reader::room::most_nested;
 use crate::reader::types::read_type;
 use crate::syntax::{Argument, Expr, Type};
 use crate::tokens::keyword::Keyword;

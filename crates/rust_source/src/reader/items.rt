@@ -5,11 +5,11 @@ ghost use Rattle.rust_source.specs.Cursor.{inside, next_kind};
 ghost use Rattle.rust_source.specs.Growth.{KeepsItems};
 ghost use Rattle.rust_source.specs.Having.{item_of_module, next_module, with_item, with_module};
 ghost use Rattle.rust_source.specs.Items.{item_of, items_as_read};
-ghost use Rattle.rust_source.specs.Modules.{all_read, is_inline_module, is_item_word, is_macro, is_passed_over, item_read, may_have_repr, module_items, module_read, module_within, one_read, other_read, over_passed, passes_kind, path_passed, repr_judged, root_read, said_read, use_read};
+ghost use Rattle.rust_source.specs.Modules.{all_read, is_inline_module, is_item_word, is_macro, is_passed_over, item_read, may_have_repr, module_items, module_read, module_within, one_read, other_read, over_passed, passes_kind, path_passed, repr_judged, root_read, standing_read, use_read};
 ghost use Rattle.rust_source.specs.Names.{texts};
 ghost use Rattle.rust_source.specs.Reading.{Reads};
 ghost use Rattle.rust_source.specs.Simple.{most_nested};
-ghost use Rattle.rust_source.specs.Written.{written_of};
+ghost use Rattle.rust_source.specs.Definition.{definition_of};
 
 use crate::fault::{SourceFault, SourceFaultKind};
 use crate::item::{Item, Items, Module};
@@ -20,24 +20,42 @@ use crate::reader::constants::read_own_constants;
 use crate::reader::cursor::{
     Cursor, expect, fault, is_done, is_next, is_word, next_kind, nth, pass, take_group, take_word,
 };
+use crate::reader::definition::{Definition, is_union, read_definition};
+use crate::reader::depth::{most_nested, one_level_deeper};
 use crate::reader::fields::pass_visibility;
 use crate::reader::functions::read_function;
 use crate::reader::naming::{is_named, is_path_name, take_name, word_text};
 use crate::reader::passing::pass_item;
 use crate::reader::repr::refuse_repr;
-use crate::reader::room::{less, most_nested};
-use crate::reader::uses::{UsePlace, read_tree};
+use crate::reader::uses::{UseContext, UsePlace, read_tree};
 use crate::reader::visibility::{Standing, read_visibility};
-use crate::reader::written::{Written, is_union, read_written};
 use crate::tokens::as_place;
 use crate::tokens::keyword::Keyword;
 use crate::tokens::token::{Bracket, TokenKind};
 
+/// What is known of an item before its first word.
+#[derive(Clone, Copy)]
+struct ItemContext {
+    standing: Standing,
+    /// What its attributes say.
+    said: Attributes,
+    /// How many modules may stand in one another within it.
+    depth_left: u32,
+}
+
+/// A module whose items are read.
+#[derive(Clone, Copy)]
+struct OpenModule {
+    number: u32,
+    /// How many modules may stand in one another, with this one.
+    depth_left: u32,
+}
+
 /// An item of a module, with what its attributes say.
-fn item_in(standing: Standing, said: &Attributes, one: Written) -> Item
-    ensures { item_of result ≡ item_of_module standing said.now (written_of one) }
+fn item_in(standing: Standing, said: &Attributes, one: Definition) -> Item
+    ensures { item_of result ≡ item_of_module standing said.now (definition_of one) }
 {
-    let Written { head, kind } = one;
+    let Definition { head, kind } = one;
     Item {
         name: head.name,
         at: head.at,
@@ -58,11 +76,11 @@ pub(crate) fn put_item(
     items: &mut Items,
     standing: Standing,
     said: &Attributes,
-    one: Written,
+    one: Definition,
 ) -> Result<(), SourceFault>
     ensures kept { KeepsItems items.old items.new }
     ensures ok { IfOk result (λ _. items_as_read items.new ≡ with_item
-        (item_of_module standing said.now (written_of one)) (items_as_read items.old)) }
+        (item_of_module standing said.now (definition_of one)) (items_as_read items.old)) }
     ensures err { IfErr result (λ fault. fault.kind ≡ SourceFaultKind.OutOfMemory) }
 {
     items.items.push(item_in(standing, said, one))?;
@@ -86,8 +104,11 @@ fn read_use(
         visible_in: standing.visible_in,
         is_global: false,
     };
-    let uses = &mut items.uses;
-    read_tree(names, uses, place, cursor, &[], most_nested())?;
+    let context = UseContext {
+        place,
+        depth_left: most_nested(),
+    };
+    read_tree(names, &mut items.uses, context, cursor, &[])?;
     expect(cursor, b';', SourceFaultKind::ExpectedSemicolon)
 }
 
@@ -176,19 +197,19 @@ fn read_other(
     rules: &Rules<'_>,
     names: &mut Names,
     items: &mut Items,
-    standing: Standing,
-    said: &Attributes,
+    context: &ItemContext,
     cursor: &mut Cursor<'_>,
 ) -> Result<(), SourceFault>
     ensures kept { KeepsItems items.old items.new }
-    ensures read { Reads (λ _. cursor.new) (other_read rules.now standing said.now cursor.old (texts names.old, items_as_read items.old))
+    ensures read { Reads (λ _. cursor.new) (other_read rules.now context.now.standing context.now.said cursor.old (texts names.old, items_as_read items.old))
         (texts names.new, items_as_read items.new) result }
 {
+    let standing = context.standing;
     if take_word(cursor, Keyword::Use) {
         return read_use(names, items, standing, cursor);
     }
     read_own_constants(rules, names, items, standing.module, cursor)?;
-    read_function(names, items, standing, said, cursor)?;
+    read_function(names, items, standing, &context.said, cursor)?;
     pass_over(names, items, cursor)
 }
 
@@ -198,17 +219,16 @@ fn read_item(
     rules: &Rules<'_>,
     names: &mut Names,
     items: &mut Items,
-    standing: Standing,
-    said: &Attributes,
+    context: &ItemContext,
     cursor: &mut Cursor<'_>,
 ) -> Result<(), SourceFault>
     ensures kept { KeepsItems items.old items.new }
-    ensures read { Reads (λ _. cursor.new) (item_read rules.now standing said.now cursor.old (texts names.old, items_as_read items.old))
+    ensures read { Reads (λ _. cursor.new) (item_read rules.now context.now.standing context.now.said cursor.old (texts names.old, items_as_read items.old))
         (texts names.new, items_as_read items.new) result }
 {
-    match read_written(names, &mut items.unknown_cfgs, rules, cursor)? {
-        Some(one) => put_item(items, standing, said, one),
-        None => read_other(rules, names, items, standing, said, cursor),
+    match read_definition(names, &mut items.unknown_cfgs, rules, cursor)? {
+        Some(one) => put_item(items, context.standing, &context.said, one),
+        None => read_other(rules, names, items, context, cursor),
     }
 }
 
@@ -260,23 +280,22 @@ fn is_inline_module(cursor: &Cursor<'_>) -> bool
     }
 }
 
-/// Reads the items of the module with this number that stand in braces, which are passed over.
+/// Reads the items of a module that stand in braces, which are passed over.
 #[cycle(modules)]
 fn read_braces(
     rules: &Rules<'_>,
     names: &mut Names,
     items: &mut Items,
-    module: u32,
+    module: OpenModule,
     cursor: &mut Cursor<'_>,
-    room: u32,
 ) -> Result<(), SourceFault>
     ensures kept { KeepsItems items.old items.new }
     ensures read { Reads (λ _. cursor.new)
-        (module_items rules.now (module_within rules.now room) «module» cursor.old (inside cursor.old Bracket.Curly) (texts names.old, items_as_read items.old))
+        (module_items rules.now (module_within rules.now «module».depth_left) «module».number cursor.old (inside cursor.old Bracket.Curly) (texts names.old, items_as_read items.old))
         (texts names.new, items_as_read items.new) result }
 {
     match take_group(cursor, Bracket::Curly) {
-        Some(mut inside) => read_within(rules, names, items, module, &mut inside, room),
+        Some(mut inside) => read_module_items(rules, names, items, module, &mut inside),
         None => Ok(()),
     }
 }
@@ -288,95 +307,99 @@ fn read_module(
     rules: &Rules<'_>,
     names: &mut Names,
     items: &mut Items,
-    standing: Standing,
+    context: &ItemContext,
     cursor: &mut Cursor<'_>,
-    room: u32,
 ) -> Result<(), SourceFault>
     ensures kept { KeepsItems items.old items.new }
     ensures read { Reads (λ _. cursor.new)
-        (module_read rules.now (module_within rules.now room) standing cursor.old (texts names.old, items_as_read items.old))
+        (module_read rules.now (module_within rules.now context.now.depth_left) context.now.standing cursor.old (texts names.old, items_as_read items.old))
         (texts names.new, items_as_read items.new) result }
 {
     pass(cursor, 1);
     let (name, _at) = take_name(names, cursor)?;
     let one = Module {
         name,
-        parent: Some(standing.module),
-        visible_in: standing.visible_in,
+        parent: Some(context.standing.module),
+        visible_in: context.standing.visible_in,
     };
-    let number = begin_module(items, one)?;
-    read_braces(rules, names, items, number, cursor, room)
+    let module = OpenModule {
+        number: begin_module(items, one)?,
+        depth_left: context.depth_left,
+    };
+    read_braces(rules, names, items, module, cursor)
 }
 
-/// Reads what stands behind these attributes, which no `cfg` takes out.
+/// Reads what stands behind attributes and a `pub`.
 #[cycle(modules)]
-#[tactic(auto, unfolding(crate::specs::Modules::said_read))]
-fn read_said(
+fn read_in_context(
     rules: &Rules<'_>,
     names: &mut Names,
     items: &mut Items,
-    module: u32,
-    said: &Attributes,
+    context: &ItemContext,
     cursor: &mut Cursor<'_>,
-    room: u32,
 ) -> Result<(), SourceFault>
     ensures kept { KeepsItems items.old items.new }
     ensures read { Reads (λ _. cursor.new)
-        (said_read rules.now (module_within rules.now room) «module» said.now cursor.old (texts names.old, items_as_read items.old))
+        (standing_read rules.now (module_within rules.now context.now.depth_left) context.now.standing context.now.said cursor.old (texts names.old, items_as_read items.old))
         (texts names.new, items_as_read items.new) result }
 {
-    let visible_in = read_visibility(names, &items.modules, module, cursor)?;
-    let standing = Standing { module, visible_in };
-    refuse_misplaced_repr(said, cursor)?;
+    refuse_misplaced_repr(&context.said, cursor)?;
     if is_inline_module(cursor) {
-        read_module(rules, names, items, standing, cursor, room)
+        read_module(rules, names, items, context, cursor)
     } else {
-        read_item(rules, names, items, standing, said, cursor)
+        read_item(rules, names, items, context, cursor)
     }
 }
 
 /// Reads the item that is next, if one is behind its attributes.
 #[cycle(modules)]
-#[tactic(auto, unfolding(crate::specs::Modules::one_read))]
+#[tactic(auto, unfolding(crate::specs::Modules::one_read, crate::specs::Modules::said_read))]
 fn read_one(
     rules: &Rules<'_>,
     names: &mut Names,
     items: &mut Items,
-    module: u32,
+    module: OpenModule,
     cursor: &mut Cursor<'_>,
-    room: u32,
 ) -> Result<(), SourceFault>
     ensures kept { KeepsItems items.old items.new }
     ensures read { Reads (λ _. cursor.new)
-        (one_read rules.now (module_within rules.now room) «module» cursor.old (texts names.old, items_as_read items.old))
+        (one_read rules.now (module_within rules.now «module».depth_left) «module».number cursor.old (texts names.old, items_as_read items.old))
         (texts names.new, items_as_read items.new) result }
 {
     let said = read_attributes(names, &mut items.unknown_cfgs, rules, cursor)?;
     if is_done(cursor) {
         return Ok(());
     }
-    if said.holds {
-        return read_said(rules, names, items, module, &said, cursor, room);
+    if !said.holds {
+        pass_visibility(cursor);
+        pass_item(cursor);
+        return Ok(());
     }
-    pass_visibility(cursor);
-    pass_item(cursor);
-    Ok(())
+    let visible_in = read_visibility(names, &items.modules, module.number, cursor)?;
+    let context = ItemContext {
+        standing: Standing {
+            module: module.number,
+            visible_in,
+        },
+        said,
+        depth_left: module.depth_left,
+    };
+    read_in_context(rules, names, items, &context, cursor)
 }
 
-/// Reads the items of the module with this number that are left.
+/// Reads the items of a module that are left.
 #[cycle(modules)]
 #[tactic(auto, unfolding(crate::specs::Modules::all_read), using(crate::proofs::ModuleTurns::all_more, crate::proofs::ModuleTurns::all_done))]
 fn read_all(
     rules: &Rules<'_>,
     names: &mut Names,
     items: &mut Items,
-    module: u32,
+    module: OpenModule,
     cursor: &mut Cursor<'_>,
-    room: u32,
 ) -> Result<(), SourceFault>
     ensures kept { KeepsItems items.old items.new }
     ensures read { Reads (λ done. done)
-        (all_read rules.now (module_within rules.now room) «module» cursor.old (texts names.old, items_as_read items.old))
+        (all_read rules.now (module_within rules.now «module».depth_left) «module».number cursor.old (texts names.old, items_as_read items.old))
         (texts names.new, items_as_read items.new) result }
 {
     let turns = cursor.end.saturating_sub(cursor.at);
@@ -384,28 +407,30 @@ fn read_all(
         if is_done(cursor) {
             return Ok(());
         }
-        read_one(rules, names, items, module, cursor, room)?;
+        read_one(rules, names, items, module, cursor)?;
     }
     Ok(())
 }
 
-/// Reads the items of the module with this number, which may stand in `room` others here.
+/// Reads the items of a module, one level deeper than where it stands.
 #[cycle(modules)]
 #[tactic(auto, using(crate::proofs::ModuleTurns::module_less, crate::proofs::ModuleTurns::module_none))]
-fn read_within(
+fn read_module_items(
     rules: &Rules<'_>,
     names: &mut Names,
     items: &mut Items,
-    module: u32,
+    module: OpenModule,
     cursor: &mut Cursor<'_>,
-    room: u32,
 ) -> Result<(), SourceFault>
     ensures kept { KeepsItems items.old items.new }
-    ensures read { Reads (λ done. done) (module_within rules.now room «module» cursor.old (texts names.old, items_as_read items.old))
+    ensures read { Reads (λ done. done) (module_within rules.now «module».depth_left «module».number cursor.old (texts names.old, items_as_read items.old))
         (texts names.new, items_as_read items.new) result }
 {
-    let room = less(cursor, room)?;
-    read_all(rules, names, items, module, cursor, room)
+    let inner = OpenModule {
+        number: module.number,
+        depth_left: one_level_deeper(cursor, module.depth_left)?,
+    };
+    read_all(rules, names, items, inner, cursor)
 }
 
 /// Reads the items of a source, in a new root module of this name, and is that module's number.
@@ -426,7 +451,10 @@ pub(crate) fn read_root(
         parent: None,
         visible_in: None,
     };
-    let root = begin_module(items, one)?;
-    read_all(rules, names, items, root, cursor, most_nested() + 1)?;
-    Ok(root)
+    let root = OpenModule {
+        number: begin_module(items, one)?,
+        depth_left: most_nested() + 1,
+    };
+    read_all(rules, names, items, root, cursor)?;
+    Ok(root.number)
 }

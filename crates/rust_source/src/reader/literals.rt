@@ -7,7 +7,7 @@ ghost use Rattle.rust_source.specs.Slices.{now_of};
 
 use crate::fault::SourceFaultKind;
 use crate::syntax::IntegerKind;
-use crate::tokens::{after, byte_at, first_char, has_base};
+use crate::tokens::{byte_at, bytes_after, first_char, has_base};
 
 /// How many integer types there are.
 const KINDS: usize = 12;
@@ -135,7 +135,7 @@ fn number_in(text: &[u8], base: u8) -> Number
     ensures { result ≡ number_of_digits base text.now }
 {
     let length = digits_length(text, base);
-    let suffix = after(text, length);
+    let suffix = bytes_after(text, length);
     let digits = match text.get(..length) {
         Some(digits) => digits,
         None => text,
@@ -174,8 +174,8 @@ pub(crate) fn number_of(text: &[u8]) -> Number
     ensures { result ≡ number_written text.now }
 {
     if has_base(text) {
-        number_in(after(text, 2), base_of(text))
-    } else if is_float_tail(after(text, digits_length(text, 10))) {
+        number_in(bytes_after(text, 2), base_of(text))
+    } else if is_float_tail(bytes_after(text, digits_length(text, 10))) {
         Number::Float
     } else {
         number_in(text, 10)
@@ -210,7 +210,7 @@ fn as_code(value: Option<u128>) -> Option<u32>
 
 /// The bytes between a first one and a last one.
 #[tactic(auto, unfolding(crate::specs::Literals::bytes_between))]
-pub(crate) fn within(bytes: &[u8], first: u8, last: u8) -> Option<&[u8]>
+pub(crate) fn bytes_between(bytes: &[u8], first: u8, last: u8) -> Option<&[u8]>
     ensures { now_of result ≡ bytes_between first last bytes.now }
 {
     let end = bytes.len();
@@ -235,7 +235,7 @@ fn escaped_code(letter: char, digits: &[u8]) -> Option<u32>
 {
     match letter {
         'x' => hex_code(Some(digits)),
-        'u' => hex_code(within(digits, b'{', b'}')),
+        'u' => hex_code(bytes_between(digits, b'{', b'}')),
         _ => None,
     }
 }
@@ -245,7 +245,7 @@ pub(crate) fn escape_code(rest: &[u8]) -> Option<u32>
     ensures { result ≡ escape_by rest.now (first_char rest.now) }
 {
     let (letter, length) = first_char(rest)?;
-    let digits = after(rest, length);
+    let digits = bytes_after(rest, length);
     if digits.is_empty() {
         letter_code(letter)
     } else {
@@ -258,7 +258,7 @@ fn code_between(inside: &[u8]) -> Option<u32>
     ensures { result ≡ code_by inside.now (first_char inside.now) }
 {
     let (first, length) = first_char(inside)?;
-    let rest = after(inside, length);
+    let rest = bytes_after(inside, length);
     if first == '\\' {
         escape_code(rest)
     } else if rest.is_empty() {
@@ -273,7 +273,7 @@ fn code_between(inside: &[u8]) -> Option<u32>
 pub(crate) fn char_code(text: &[u8]) -> Result<u32, SourceFaultKind>
     ensures { result ≡ char_code text.now }
 {
-    let code = match within(text, b'\'', b'\'') {
+    let code = match bytes_between(text, b'\'', b'\'') {
         Some(inside) => code_between(inside),
         None => None,
     };

@@ -61,21 +61,21 @@ fn path_of(is_global: bool, segments: Vec<Segment>) -> Path
 
 /// A path. In a type its arguments need no `::` before them.
 #[cycle(terms)]
-#[tactic(auto, unfolding(crate::specs::Terms::path_read), using(crate::proofs::Rooms::path_more, crate::proofs::Rooms::path_done))]
+#[tactic(auto, unfolding(crate::specs::Terms::path_read), using(crate::proofs::Depths::path_more, crate::proofs::Depths::path_done))]
 pub(crate) fn read_path(
     names: &mut Names,
     cursor: &mut Cursor<'_>,
     in_type: bool,
-    room: u32,
+    depth_left: u32,
 ) -> Result<Path, SourceFault>
     ensures { Reads (λ path. (path_as_read path, cursor.new))
-        (path_read (readers room) in_type cursor.old (texts names.old)) (texts names.new) result }
+        (path_read (readers depth_left) in_type cursor.old (texts names.old)) (texts names.new) result }
 {
     let is_global = take_pair(cursor, b':', b':');
     let mut segments = Vec::new(names.alloc());
     let turns = cursor.end.saturating_sub(cursor.at);
     for turn in 0..turns {
-        let one = read_segment(names, cursor, in_type, room)?;
+        let one = read_segment(names, cursor, in_type, depth_left)?;
         push_segment(&mut segments, one)?;
         if !take_pair(cursor, b':', b':') {
             return Ok(path_of(is_global, segments));
@@ -91,14 +91,14 @@ fn read_segment(
     names: &mut Names,
     cursor: &mut Cursor<'_>,
     in_type: bool,
-    room: u32,
+    depth_left: u32,
 ) -> Result<Segment, SourceFault>
     ensures { Reads (λ one. (segment_of one, cursor.new))
-        (segment_read (readers room) in_type cursor.old (texts names.old)) (texts names.new) result }
+        (segment_read (readers depth_left) in_type cursor.old (texts names.old)) (texts names.new) result }
 {
     let (name, at) = take_path_name(names, cursor)?;
     let lifetimes = lifetimes_given(cursor, in_type);
-    let arguments = read_name_arguments(names, cursor, in_type, room)?;
+    let arguments = read_name_arguments(names, cursor, in_type, depth_left)?;
     Ok(Segment {
         name,
         at,
@@ -124,13 +124,13 @@ fn read_name_arguments(
     names: &mut Names,
     cursor: &mut Cursor<'_>,
     in_type: bool,
-    room: u32,
+    depth_left: u32,
 ) -> Result<Vec<Argument>, SourceFault>
     ensures { Reads (λ all. (map argument_of all.items, cursor.new))
-        (arguments_by (readers room) cursor.old (arguments_begin in_type cursor.old) (texts names.old)) (texts names.new) result }
+        (arguments_by (readers depth_left) cursor.old (arguments_begin in_type cursor.old) (texts names.old)) (texts names.new) result }
 {
     if takes_arguments(cursor, in_type) {
-        return read_arguments(names, cursor, room);
+        return read_arguments(names, cursor, depth_left);
     }
     Ok(Vec::new(names.alloc()))
 }
@@ -146,14 +146,14 @@ pub(crate) fn goes_on(cursor: &mut Cursor<'_>) -> bool
 
 /// Arguments, behind their `<`; their `>` is passed over.
 #[cycle(terms)]
-#[tactic(auto, unfolding(crate::specs::Terms::arguments_read), using(crate::proofs::Rooms::arguments_more, crate::proofs::Rooms::arguments_done))]
+#[tactic(auto, unfolding(crate::specs::Terms::arguments_read), using(crate::proofs::Depths::arguments_more, crate::proofs::Depths::arguments_done))]
 fn read_arguments(
     names: &mut Names,
     cursor: &mut Cursor<'_>,
-    room: u32,
+    depth_left: u32,
 ) -> Result<Vec<Argument>, SourceFault>
     ensures { Reads (λ all. (map argument_of all.items, cursor.new))
-        (arguments_read (readers room) cursor.old (texts names.old)) (texts names.new) result }
+        (arguments_read (readers depth_left) cursor.old (texts names.old)) (texts names.new) result }
 {
     let mut arguments = Vec::new(names.alloc());
     let turns = cursor.end.saturating_sub(cursor.at);
@@ -161,7 +161,7 @@ fn read_arguments(
         if take(cursor, b'>') {
             return Ok(arguments);
         }
-        add_argument(names, cursor, &mut arguments, room)?;
+        add_argument(names, cursor, &mut arguments, depth_left)?;
         if !goes_on(cursor) {
             return Err(fault(cursor, SourceFaultKind::ExpectedAngle));
         }
@@ -176,16 +176,16 @@ fn add_argument(
     names: &mut Names,
     cursor: &mut Cursor<'_>,
     arguments: &mut Vec<Argument>,
-    room: u32,
+    depth_left: u32,
 ) -> Result<(), SourceFault>
     ensures { Reads (λ _. (map argument_of arguments.new.items, cursor.new))
-        (argument_more (readers room) (map argument_of arguments.old.items) cursor.old (texts names.old)) (texts names.new) result }
+        (argument_more (readers depth_left) (map argument_of arguments.old.items) cursor.old (texts names.old)) (texts names.new) result }
 {
     if is_lifetime(cursor) {
         pass(cursor, 1);
         return Ok(());
     }
-    let one = read_argument(names, cursor, room)?;
+    let one = read_argument(names, cursor, depth_left)?;
     arguments.push(one)?;
     Ok(())
 }
@@ -229,19 +229,19 @@ fn read_constant(alloc: Global, cursor: &mut Cursor<'_>) -> Result<Argument, Sou
 pub(crate) fn read_argument(
     names: &mut Names,
     cursor: &mut Cursor<'_>,
-    room: u32,
+    depth_left: u32,
 ) -> Result<Argument, SourceFault>
     ensures { Reads (λ one. (argument_of one, cursor.new))
-        (argument (readers room) cursor.old (texts names.old)) (texts names.new) result }
+        (argument (readers depth_left) cursor.old (texts names.old)) (texts names.new) result }
 {
     if let Some(mut inside) = take_group(cursor, Bracket::Curly) {
-        let value = read_whole(names, &mut inside, room)?;
+        let value = read_whole(names, &mut inside, depth_left)?;
         return Ok(Argument::Const(value));
     }
     if begins_constant(cursor) {
         return read_constant(names.alloc(), cursor);
     }
     let at = place(cursor);
-    let ty = read_type(names, cursor, room)?;
+    let ty = read_type(names, cursor, depth_left)?;
     Ok(argument_behind(cursor, ty, at))
 }

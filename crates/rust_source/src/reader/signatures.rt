@@ -100,29 +100,29 @@ fn add_parameter_type(
     names: &mut Names,
     cursor: &mut Cursor<'_>,
     all: &mut Vec<Type>,
-    room: u32,
+    depth_left: u32,
 ) -> Result<(), SourceFault>
     ensures { Reads (λ _. (map type_of all.new.items, cursor.new))
-        (parameter_type (readers room) (map type_of all.old.items) cursor.old (texts names.old)) (texts names.new) result }
+        (parameter_type (readers depth_left) (map type_of all.old.items) cursor.old (texts names.old)) (texts names.new) result }
 {
     pass_to_type(cursor);
     if take_variadic(cursor) {
         return Ok(());
     }
-    let one = read_type(names, cursor, room)?;
+    let one = read_type(names, cursor, depth_left)?;
     push_type(all, one)
 }
 
 /// The types of the parameters that stand in parentheses.
 #[cycle(terms)]
-#[tactic(auto, unfolding(crate::specs::Terms::parameter_types), using(crate::proofs::Rooms::parameters_more, crate::proofs::Rooms::parameters_done))]
+#[tactic(auto, unfolding(crate::specs::Terms::parameter_types), using(crate::proofs::Depths::parameters_more, crate::proofs::Depths::parameters_done))]
 fn read_parameter_types(
     names: &mut Names,
     inside: &mut Cursor<'_>,
-    room: u32,
+    depth_left: u32,
 ) -> Result<Vec<Type>, SourceFault>
     ensures { Reads (λ all. map type_of all.items)
-        (parameter_types (readers room) inside.old (texts names.old)) (texts names.new) result }
+        (parameter_types (readers depth_left) inside.old (texts names.old)) (texts names.new) result }
 {
     let mut all = Vec::new(names.alloc());
     let turns = inside.end.saturating_sub(inside.at);
@@ -130,7 +130,7 @@ fn read_parameter_types(
         if is_done(inside) {
             return Ok(all);
         }
-        add_parameter_type(names, inside, &mut all, room)?;
+        add_parameter_type(names, inside, &mut all, depth_left)?;
         expect_comma(inside)?;
     }
     Ok(all)
@@ -142,15 +142,15 @@ fn add_result(
     names: &mut Names,
     cursor: &mut Cursor<'_>,
     all: &mut Vec<Type>,
-    room: u32,
+    depth_left: u32,
 ) -> Result<(), SourceFault>
     ensures { Reads (λ _. (map type_of all.new.items, cursor.new))
-        (result_read (readers room) (map type_of all.old.items) cursor.old (texts names.old)) (texts names.new) result }
+        (result_read (readers depth_left) (map type_of all.old.items) cursor.old (texts names.old)) (texts names.new) result }
 {
     if !take_pair(cursor, b'-', b'>') {
         return Ok(());
     }
-    let one = read_type(names, cursor, room)?;
+    let one = read_type(names, cursor, depth_left)?;
     push_type(all, one)
 }
 
@@ -160,16 +160,16 @@ fn add_result(
 fn read_signature(
     names: &mut Names,
     cursor: &mut Cursor<'_>,
-    room: u32,
+    depth_left: u32,
 ) -> Result<Vec<Type>, SourceFault>
     ensures { Reads (λ all. (map type_of all.items, cursor.new))
-        (signature_read (readers room) cursor.old (texts names.old)) (texts names.new) result }
+        (signature_read (readers depth_left) cursor.old (texts names.old)) (texts names.new) result }
 {
     let Some(mut inside) = take_group(cursor, Bracket::Round) else {
         return Err(fault(cursor, SourceFaultKind::ExpectedType));
     };
-    let mut all = read_parameter_types(names, &mut inside, room)?;
-    add_result(names, cursor, &mut all, room)?;
+    let mut all = read_parameter_types(names, &mut inside, depth_left)?;
+    add_result(names, cursor, &mut all, depth_left)?;
     Ok(all)
 }
 
@@ -179,15 +179,15 @@ fn read_signature(
 pub(crate) fn read_function_pointer(
     names: &mut Names,
     cursor: &mut Cursor<'_>,
-    room: u32,
+    depth_left: u32,
 ) -> Result<Type, SourceFault>
     ensures { Reads (λ ty. (type_of ty, cursor.new))
-        (function_read (readers room) cursor.old (texts names.old)) (texts names.new) result }
+        (function_read (readers depth_left) cursor.old (texts names.old)) (texts names.new) result }
 {
     pass_before_function(cursor);
     if !take_word(cursor, Keyword::Fn) {
         let _ = pass_bounds(cursor);
         return Ok(Type::Dyn);
     }
-    Ok(Type::Function(read_signature(names, cursor, room)?))
+    Ok(Type::Function(read_signature(names, cursor, depth_left)?))
 }

@@ -16,11 +16,11 @@ use crate::reader::cursor::{
     Cursor, expect, expect_comma, fault, is_done, is_lifetime, is_next, is_pair, next_kind, pass,
     pass_tree, place, take, take_group, take_pair, take_word,
 };
+use crate::reader::depth::{most_nested, one_level_deeper};
 use crate::reader::expressions::read_whole;
 use crate::reader::naming::is_path_name;
 use crate::reader::passing::{pass_angles, pass_bounds};
 use crate::reader::paths::read_path;
-use crate::reader::room::{less, most_nested};
 use crate::reader::signatures::{begins_function, read_function_pointer};
 use crate::syntax::{Path, Type, Unevaluated};
 use crate::tokens::keyword::Keyword;
@@ -188,53 +188,61 @@ pub(crate) fn begins_path(cursor: &Cursor<'_>) -> bool
     is_pair(cursor, b':', b':') || is_path_name(cursor)
 }
 
-/// A type. Types and expressions may stand in `room` others here.
+/// A type. Types and expressions may stand in `depth_left` others here.
 #[cycle(terms)]
-#[tactic(auto, using(crate::proofs::Rooms::type_less, crate::proofs::Rooms::type_none))]
+#[tactic(auto, using(crate::proofs::Depths::type_less, crate::proofs::Depths::type_none))]
 pub(crate) fn read_type(
     names: &mut Names,
     cursor: &mut Cursor<'_>,
-    room: u32,
+    depth_left: u32,
 ) -> Result<Type, SourceFault>
-    ensures { Reads (λ ty. (type_of ty, cursor.new)) (type_read room cursor.old (texts names.old))
+    ensures { Reads (λ ty. (type_of ty, cursor.new)) (type_read depth_left cursor.old (texts names.old))
         (texts names.new) result }
 {
-    let room = less(cursor, room)?;
-    read_pointed(names, cursor, room)
+    let depth_left = one_level_deeper(cursor, depth_left)?;
+    read_pointed(names, cursor, depth_left)
 }
 
 /// A type with the `&` and `*` before it.
 #[cycle(terms)]
 #[tactic(auto, unfolding(crate::specs::Terms::type_next))]
-fn read_pointed(names: &mut Names, cursor: &mut Cursor<'_>, room: u32) -> Result<Type, SourceFault>
+fn read_pointed(
+    names: &mut Names,
+    cursor: &mut Cursor<'_>,
+    depth_left: u32,
+) -> Result<Type, SourceFault>
     ensures { Reads (λ ty. (type_of ty, cursor.new))
-        (type_next (readers room) cursor.old (texts names.old)) (texts names.new) result }
+        (type_next (readers depth_left) cursor.old (texts names.old)) (texts names.new) result }
 {
     let pointing = take_all_pointing(names.alloc(), cursor)?;
-    let target = read_target(names, cursor, room)?;
+    let target = read_target(names, cursor, depth_left)?;
     pointed(names.alloc(), target, pointing)
 }
 
 /// A type that no `&` or `*` stands before.
 #[cycle(terms)]
 #[tactic(auto, unfolding(crate::specs::Terms::pointee_read))]
-fn read_target(names: &mut Names, cursor: &mut Cursor<'_>, room: u32) -> Result<Type, SourceFault>
+fn read_target(
+    names: &mut Names,
+    cursor: &mut Cursor<'_>,
+    depth_left: u32,
+) -> Result<Type, SourceFault>
     ensures { Reads (λ ty. (type_of ty, cursor.new))
-        (pointee_read (readers room) cursor.old (texts names.old)) (texts names.new) result }
+        (pointee_read (readers depth_left) cursor.old (texts names.old)) (texts names.new) result }
 {
     if let Some(mut inside) = take_group(cursor, Bracket::Round) {
-        return read_tuple(names, &mut inside, room);
+        return read_tuple(names, &mut inside, depth_left);
     }
     if let Some(mut inside) = take_group(cursor, Bracket::Square) {
-        return read_list(names, &mut inside, room);
+        return read_list(names, &mut inside, depth_left);
     }
     if begins_path(cursor) {
         let at = place(cursor);
-        let path = read_path(names, cursor, true, room)?;
+        let path = read_path(names, cursor, true, depth_left)?;
         return Ok(after_path(cursor, path, at));
     }
     if begins_function(cursor) {
-        return read_function_pointer(names, cursor, room);
+        return read_function_pointer(names, cursor, depth_left);
     }
     take_simple(cursor)
 }
@@ -266,9 +274,13 @@ pub(crate) fn push_type(all: &mut Vec<Type>, one: Type) -> Result<(), SourceFaul
 
 /// The type that stands in parentheses.
 #[cycle(terms)]
-#[tactic(auto, unfolding(crate::specs::Terms::tuple_read), using(crate::proofs::Rooms::tuple_more, crate::proofs::Rooms::tuple_done))]
-fn read_tuple(names: &mut Names, inside: &mut Cursor<'_>, room: u32) -> Result<Type, SourceFault>
-    ensures { Reads type_of (tuple_read (readers room) inside.old (texts names.old))
+#[tactic(auto, unfolding(crate::specs::Terms::tuple_read), using(crate::proofs::Depths::tuple_more, crate::proofs::Depths::tuple_done))]
+fn read_tuple(
+    names: &mut Names,
+    inside: &mut Cursor<'_>,
+    depth_left: u32,
+) -> Result<Type, SourceFault>
+    ensures { Reads type_of (tuple_read (readers depth_left) inside.old (texts names.old))
         (texts names.new) result }
 {
     let mut all = Vec::new(names.alloc());
@@ -277,7 +289,7 @@ fn read_tuple(names: &mut Names, inside: &mut Cursor<'_>, room: u32) -> Result<T
         if is_done(inside) {
             return Ok(tuple(all));
         }
-        let one = read_type(names, inside, room)?;
+        let one = read_type(names, inside, depth_left)?;
         if is_alone(&all, inside) {
             return Ok(one);
         }
@@ -290,15 +302,19 @@ fn read_tuple(names: &mut Names, inside: &mut Cursor<'_>, room: u32) -> Result<T
 /// The array's or the slice's type that stands in square brackets.
 #[cycle(terms)]
 #[tactic(auto, unfolding(crate::specs::Terms::list_read))]
-fn read_list(names: &mut Names, inside: &mut Cursor<'_>, room: u32) -> Result<Type, SourceFault>
-    ensures { Reads type_of (list_read (readers room) inside.old (texts names.old))
+fn read_list(
+    names: &mut Names,
+    inside: &mut Cursor<'_>,
+    depth_left: u32,
+) -> Result<Type, SourceFault>
+    ensures { Reads type_of (list_read (readers depth_left) inside.old (texts names.old))
         (texts names.new) result }
 {
-    let element = Box::new(names.alloc(), read_type(names, inside, room)?)?;
+    let element = Box::new(names.alloc(), read_type(names, inside, depth_left)?)?;
     if is_done(inside) {
         return Ok(Type::Slice(element));
     }
     expect(inside, b';', SourceFaultKind::ExpectedSemicolon)?;
-    let count = Box::new(names.alloc(), read_whole(names, inside, room)?)?;
+    let count = Box::new(names.alloc(), read_whole(names, inside, depth_left)?)?;
     Ok(Type::Array(element, count))
 }

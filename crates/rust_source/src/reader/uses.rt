@@ -1,6 +1,6 @@
 //! What `use` brings in.
 
-ghost use Rattle.std.specs.Prelude.{◌≡◌, ◌∷◌, ◌++◌, [], IfErr, IfOk, map, if◌then◌else◌};
+ghost use Rattle.std.specs.Prelude.{◌≡◌, ◌∷◌, ◌++◌, [], false, IfErr, IfOk, map, if◌then◌else◌};
 ghost use Rattle.rust_source.specs.Cursor.{passed};
 ghost use Rattle.rust_source.specs.Growth.{BeginsWith};
 ghost use Rattle.rust_source.specs.Items.{use_of};
@@ -15,8 +15,8 @@ use crate::place::Symbol;
 use crate::reader::cursor::{
     Cursor, expect_comma, fault, is_done, take, take_group, take_pair, take_word,
 };
+use crate::reader::depth::one_level_deeper;
 use crate::reader::naming::{is_path_name, take_name, take_path_name};
-use crate::reader::room::less;
 use crate::tokens::keyword::Keyword;
 use crate::tokens::token::Bracket;
 
@@ -26,6 +26,14 @@ pub(crate) struct UsePlace {
     pub module: u32,
     pub visible_in: Option<u32>,
     pub is_global: bool,
+}
+
+/// Where what a `use` brings in is read.
+#[derive(Clone, Copy)]
+pub(crate) struct UseContext {
+    pub place: UsePlace,
+    /// How many groups may stand in one another there.
+    pub depth_left: u32,
 }
 
 /// The name that a path is brought in as: what `as` says, or its last name.
@@ -168,7 +176,7 @@ fn takes_global(cursor: &mut Cursor<'_>, before: &[UsedName]) -> bool
 }
 
 /// The place of a `use`, whose path begins with `::` or as it is.
-fn placed(place: UsePlace, is_global: bool) -> UsePlace
+fn used_place(place: UsePlace, is_global: bool) -> UsePlace
     ensures { result ≡ used_place place is_global }
 {
     let mut place = place;
@@ -184,14 +192,13 @@ fn placed(place: UsePlace, is_global: bool) -> UsePlace
 fn read_group(
     names: &mut Names,
     uses: &mut Vec<Use>,
-    place: UsePlace,
+    context: UseContext,
     inside: &mut Cursor<'_>,
     path: &[UsedName],
-    room: u32,
 ) -> Result<(), SourceFault>
     ensures kept { BeginsWith uses.new.items uses.old.items }
     ensures read { Reads (λ done. done)
-        (group_read (tree_read room) place path.now inside.old (texts names.old, map use_of uses.old.items))
+        (group_read (tree_read context.depth_left) context.place path.now inside.old (texts names.old, map use_of uses.old.items))
         (texts names.new, map use_of uses.new.items) result }
 {
     let turns = inside.end.saturating_sub(inside.at);
@@ -199,60 +206,61 @@ fn read_group(
         if is_done(inside) {
             return Ok(());
         }
-        read_tree(names, uses, place, inside, path, room)?;
+        read_tree(names, uses, context, inside, path)?;
         expect_comma(inside)?;
     }
     Ok(())
 }
 
-/// Reads what stands behind the names of a path: nothing, where it is whole, a `*` or a group.
+/// Reads what stands behind names of a path that are not all of it: a `*` or a group.
 #[cycle(uses)]
-fn read_behind(
+fn read_glob_or_group(
     names: &mut Names,
     uses: &mut Vec<Use>,
-    place: UsePlace,
+    context: UseContext,
     cursor: &mut Cursor<'_>,
     path: Vec<UsedName>,
-    is_whole: bool,
-    room: u32,
 ) -> Result<(), SourceFault>
     ensures kept { BeginsWith uses.new.items uses.old.items }
     ensures read { Reads (λ _. cursor.new)
-        (tree_on (tree_read room) place (path.items, is_whole) cursor.old (texts names.old, map use_of uses.old.items))
+        (tree_on (tree_read context.depth_left) context.place (path.items, false) cursor.old (texts names.old, map use_of uses.old.items))
         (texts names.new, map use_of uses.new.items) result }
 {
-    if is_whole {
-        return put_path(names, uses, place, cursor, path);
-    }
     if take(cursor, b'*') {
-        return put_use(uses, glob(place, path));
+        return put_use(uses, glob(context.place, path));
     }
     let Some(mut inside) = take_group(cursor, Bracket::Curly) else {
         return Err(fault(cursor, SourceFaultKind::ExpectedUse));
     };
-    read_group(names, uses, place, &mut inside, &path, room)
+    read_group(names, uses, context, &mut inside, &path)
 }
 
-/// Reads what a `use` brings in, behind the names that stand before its group, within the room that is left.
+/// Reads one tree of a `use`, behind the names that stand before its group.
 #[cycle(uses)]
 #[tactic(auto, unfolding(crate::specs::Uses::tree_with))]
-fn read_within(
+fn read_one_tree(
     names: &mut Names,
     uses: &mut Vec<Use>,
-    place: UsePlace,
+    context: UseContext,
     cursor: &mut Cursor<'_>,
     before: &[UsedName],
-    room: u32,
 ) -> Result<(), SourceFault>
     ensures kept { BeginsWith uses.new.items uses.old.items }
     ensures read { Reads (λ _. cursor.new)
-        (tree_with (tree_read room) place before.now cursor.old (texts names.old, map use_of uses.old.items))
+        (tree_with (tree_read context.depth_left) context.place before.now cursor.old (texts names.old, map use_of uses.old.items))
         (texts names.new, map use_of uses.new.items) result }
 {
-    let place = placed(place, takes_global(cursor, before));
+    let place = used_place(context.place, takes_global(cursor, before));
     let mut path = Vec::from_slice(names.alloc(), before)?;
     let is_whole = read_names(names, cursor, &mut path)?;
-    read_behind(names, uses, place, cursor, path, is_whole, room)
+    if is_whole {
+        return put_path(names, uses, place, cursor, path);
+    }
+    let inner = UseContext {
+        place,
+        depth_left: context.depth_left,
+    };
+    read_glob_or_group(names, uses, inner, cursor, path)
 }
 
 /// Reads what a `use` brings in, behind the names that stand before its group.
@@ -261,15 +269,17 @@ fn read_within(
 pub(crate) fn read_tree(
     names: &mut Names,
     uses: &mut Vec<Use>,
-    place: UsePlace,
+    context: UseContext,
     cursor: &mut Cursor<'_>,
     before: &[UsedName],
-    room: u32,
 ) -> Result<(), SourceFault>
     ensures kept { BeginsWith uses.new.items uses.old.items }
-    ensures read { Reads (λ _. cursor.new) (tree_read room place before.now cursor.old (texts names.old, map use_of uses.old.items))
+    ensures read { Reads (λ _. cursor.new) (tree_read context.depth_left context.place before.now cursor.old (texts names.old, map use_of uses.old.items))
         (texts names.new, map use_of uses.new.items) result }
 {
-    let room = less(cursor, room)?;
-    read_within(names, uses, place, cursor, before, room)
+    let inner = UseContext {
+        place: context.place,
+        depth_left: one_level_deeper(cursor, context.depth_left)?,
+    };
+    read_one_tree(names, uses, inner, cursor, before)
 }

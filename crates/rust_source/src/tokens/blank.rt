@@ -3,7 +3,7 @@
 ghost use Rattle.std.specs.Prelude.{◌≡◌, ◌+◌, ◌≤◌, IfErr, IfOk, IfSome, length};
 ghost use Rattle.rust_source.specs.Blanks.{blank_length, comment_length, head_length, is_attribute, is_wide_space, mark_length, one_blank_length, space_length};
 
-use crate::tokens::characters::{after, byte_at, first_char};
+use crate::tokens::characters::{byte_at, bytes_after, first_char};
 use crate::tokens::runs::{Run, run_length};
 
 /// How many bytes the comment has that the bytes begin with by `/*`. None where it has no end.
@@ -83,7 +83,7 @@ pub(crate) fn blank_length(rest: &[u8]) -> Result<usize, usize>
 {
     let mut length = 0usize;
     for _byte in rest {
-        match one_blank_length(after(rest, length)) {
+        match one_blank_length(bytes_after(rest, length)) {
             Some(0) => return Ok(length),
             Some(more) => length += more,
             None => return Err(length),
@@ -121,8 +121,8 @@ pub(crate) fn head_length(text: &[u8]) -> usize
     ensures bounded { result ≤ length text.now + 3 }
 {
     let mark = mark_length(text);
-    let rest = after(text, mark);
-    if byte_at(rest, 0) != b'#' || byte_at(rest, 1) != b'!' || is_attribute(after(rest, 2)) {
+    let rest = bytes_after(text, mark);
+    if byte_at(rest, 0) != b'#' || byte_at(rest, 1) != b'!' || is_attribute(bytes_after(rest, 2)) {
         return mark;
     }
     mark + run_length(rest, Run::Line)

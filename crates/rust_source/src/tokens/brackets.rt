@@ -112,7 +112,7 @@ fn close_group(
 
 /// Puts a token behind those that are found, and keeps which brackets are open.
 #[tactic(auto, unfolding(crate::specs::Tokens::token_put))]
-pub(crate) fn put(
+pub(crate) fn put_token(
     found: &mut Vec<Token>,
     open: &mut Vec<Opened>,
     token: Token,

@@ -109,7 +109,7 @@ fn name_more(rest: &[u8]) -> usize
 }
 
 /// What follows this many bytes.
-pub(crate) fn after(rest: &[u8], length: usize) -> &[u8]
+pub(crate) fn bytes_after(rest: &[u8], length: usize) -> &[u8]
     ensures { result.now ≡ drop length rest.now }
 {
     match rest.get(length..) {
@@ -129,7 +129,7 @@ pub(crate) fn name_length(rest: &[u8]) -> usize
         return 0;
     }
     for _byte in rest {
-        let more = name_more(after(rest, length));
+        let more = name_more(bytes_after(rest, length));
         if more == 0 {
             return length;
         }

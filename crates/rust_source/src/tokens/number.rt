@@ -3,7 +3,7 @@
 ghost use Rattle.std.specs.Prelude.{◌≡◌, ◌≤◌, length};
 ghost use Rattle.rust_source.specs.Numerals.{begins_fraction, begins_signed_exponent, decimal_length, has_base, number_length, tail_length};
 
-use crate::tokens::characters::{after, byte_at};
+use crate::tokens::characters::{byte_at, bytes_after};
 use crate::tokens::runs::{Run, run_length};
 
 /// Whether the bytes behind a number's digits begin with the point of a fraction: `1.` and `1.5`, but neither `1..2` nor
@@ -35,7 +35,7 @@ fn tail_length(rest: &[u8]) -> usize
     ensures within { result ≤ length rest.now }
 {
     if begins_signed_exponent(rest) {
-        run_length(after(rest, 2), Run::Word) + 2
+        run_length(bytes_after(rest, 2), Run::Word) + 2
     } else {
         run_length(rest, Run::Word)
     }
@@ -48,9 +48,9 @@ fn decimal_length(rest: &[u8]) -> usize
     ensures within { result ≤ length rest.now }
 {
     let whole = run_length(rest, Run::Digits);
-    let behind = after(rest, whole);
+    let behind = bytes_after(rest, whole);
     if begins_fraction(behind) {
-        let fraction = run_length(after(behind, 1), Run::Digits);
+        let fraction = run_length(bytes_after(behind, 1), Run::Digits);
         whole + fraction + 1
     } else {
         whole
@@ -75,5 +75,5 @@ pub(crate) fn number_length(rest: &[u8]) -> usize
         return run_length(rest, Run::Word);
     }
     let length = decimal_length(rest);
-    length + tail_length(after(rest, length))
+    length + tail_length(bytes_after(rest, length))
 }

@@ -4,7 +4,7 @@ ghost use Rattle.std.specs.Prelude.{◌≡◌, ◌+◌, ◌<◌, ◌≤◌, ◌^
 ghost use Rattle.rust_source.specs.Quoted.{byte_token, token_closed, escaped_length, escapes, is_end, hashes_with, lifetime, prefixed_token, quote_token, raw_end, raw_name, raw_token, string_token};
 
 use crate::fault::SourceFaultKind;
-use crate::tokens::characters::{after, byte_at, first_char, name_length};
+use crate::tokens::characters::{byte_at, bytes_after, first_char, name_length};
 use crate::tokens::runs::{Run, run_length};
 use crate::tokens::token::TokenKind;
 
@@ -92,7 +92,7 @@ pub(crate) fn string_token(rest: &[u8], before: usize) -> Lexed
     closed(
         TokenKind::Text,
         before,
-        escaped_length(after(rest, before), b'"'),
+        escaped_length(bytes_after(rest, before), b'"'),
     )
 }
 
@@ -102,7 +102,11 @@ fn byte_token(rest: &[u8]) -> Lexed
     ensures same { result ≡ byte_token rest.now }
     ensures bounded { IfOk result (λ token. token.1 ≤ length rest.now + 4) }
 {
-    closed(TokenKind::Byte, 1, escaped_length(after(rest, 1), b'\''))
+    closed(
+        TokenKind::Byte,
+        1,
+        escaped_length(bytes_after(rest, 1), b'\''),
+    )
 }
 
 /// The lifetime whose name has this length.
@@ -122,7 +126,7 @@ pub(crate) fn quote_token(rest: &[u8]) -> Lexed
     ensures same { result ≡ quote_token rest.now }
     ensures bounded { IfOk result (λ token. token.1 ≤ length rest.now + 4) }
 {
-    let inside = after(rest, 1);
+    let inside = bytes_after(rest, 1);
     if byte_at(inside, 0) == b'\\' {
         return closed(TokenKind::Char, 0, escaped_length(rest, b'\''));
     }
@@ -154,14 +158,14 @@ fn raw_token(rest: &[u8], letters: usize) -> Option<Lexed>
     ensures same { result ≡ raw_token rest.now letters }
     ensures bounded { IfSome result (λ lexed. IfOk lexed (λ token. token.1 ≤ length rest.now + 4)) }
 {
-    let hashes = run_length(after(rest, letters), Run::Hashes);
+    let hashes = run_length(bytes_after(rest, letters), Run::Hashes);
     let before = letters + hashes;
     if byte_at(rest, before) == b'"' {
-        let length = raw_end(after(rest, before + 1), hashes);
+        let length = raw_end(bytes_after(rest, before + 1), hashes);
         return Some(closed(TokenKind::Text, before + 1, length));
     }
     if letters == 1 && hashes == 1 && byte_at(rest, 0) == b'r' {
-        raw_name(name_length(after(rest, 2)))
+        raw_name(name_length(bytes_after(rest, 2)))
     } else {
         None
     }

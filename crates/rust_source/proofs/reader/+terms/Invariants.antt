@@ -1,4 +1,4 @@
--- Each of these reads within less room, or within the same room what stands lower. What a loop has read goes on to the whole.
+-- Each of these reads one level deeper, or on the same level what stands lower. What a loop has read goes on to the whole.
 use Rattle.std.proofs.Common.{◌≡◌, ◌+◌, ◌-◌, ◌*◌, map, reverse}
 use Rattle.rust_source.specs.Names.{texts}
 use Rattle.rust_source.specs.Operators.{operands_of}
@@ -8,121 +8,121 @@ use Rattle.rust_source.specs.Terms.{arguments_from, arguments_read, cast_from, e
 use Rattle.rust_source.proofs.reader.+terms.Given as goal
 
 abbrev pub decreases-types::read_type : goal.decreases-types::read_type
-decreases-types::read_type l = 32 * l.room + 0
+decreases-types::read_type l = 32 * l.depth_left + 0
 
 abbrev pub decreases-types::read_pointed : goal.decreases-types::read_pointed
-decreases-types::read_pointed l = 32 * l.room + 9
+decreases-types::read_pointed l = 32 * l.depth_left + 9
 
 abbrev pub decreases-types::read_target : goal.decreases-types::read_target
-decreases-types::read_target l = 32 * l.room + 8
+decreases-types::read_target l = 32 * l.depth_left + 8
 
 abbrev pub decreases-types::read_tuple : goal.decreases-types::read_tuple
-decreases-types::read_tuple l = 32 * l.room + 1
+decreases-types::read_tuple l = 32 * l.depth_left + 1
 
 abbrev pub decreases-types::read_list : goal.decreases-types::read_list
-decreases-types::read_list l = 32 * l.room + 2
+decreases-types::read_list l = 32 * l.depth_left + 2
 
 abbrev pub decreases-signatures::add_parameter_type : goal.decreases-signatures::add_parameter_type
-decreases-signatures::add_parameter_type l = 32 * l.room + 1
+decreases-signatures::add_parameter_type l = 32 * l.depth_left + 1
 
 abbrev pub decreases-signatures::read_parameter_types : goal.decreases-signatures::read_parameter_types
-decreases-signatures::read_parameter_types l = 32 * l.room + 2
+decreases-signatures::read_parameter_types l = 32 * l.depth_left + 2
 
 abbrev pub decreases-signatures::add_result : goal.decreases-signatures::add_result
-decreases-signatures::add_result l = 32 * l.room + 1
+decreases-signatures::add_result l = 32 * l.depth_left + 1
 
 abbrev pub decreases-signatures::read_signature : goal.decreases-signatures::read_signature
-decreases-signatures::read_signature l = 32 * l.room + 3
+decreases-signatures::read_signature l = 32 * l.depth_left + 3
 
 abbrev pub decreases-signatures::read_function_pointer : goal.decreases-signatures::read_function_pointer
-decreases-signatures::read_function_pointer l = 32 * l.room + 4
+decreases-signatures::read_function_pointer l = 32 * l.depth_left + 4
 
 abbrev pub decreases-paths::read_path : goal.decreases-paths::read_path
-decreases-paths::read_path l = 32 * l.room + 7
+decreases-paths::read_path l = 32 * l.depth_left + 7
 
 abbrev pub decreases-paths::read_segment : goal.decreases-paths::read_segment
-decreases-paths::read_segment l = 32 * l.room + 6
+decreases-paths::read_segment l = 32 * l.depth_left + 6
 
 abbrev pub decreases-paths::read_name_arguments : goal.decreases-paths::read_name_arguments
-decreases-paths::read_name_arguments l = 32 * l.room + 5
+decreases-paths::read_name_arguments l = 32 * l.depth_left + 5
 
 abbrev pub decreases-paths::read_arguments : goal.decreases-paths::read_arguments
-decreases-paths::read_arguments l = 32 * l.room + 4
+decreases-paths::read_arguments l = 32 * l.depth_left + 4
 
 abbrev pub decreases-paths::add_argument : goal.decreases-paths::add_argument
-decreases-paths::add_argument l = 32 * l.room + 3
+decreases-paths::add_argument l = 32 * l.depth_left + 3
 
 abbrev pub decreases-paths::read_argument : goal.decreases-paths::read_argument
-decreases-paths::read_argument l = 32 * l.room + 2
+decreases-paths::read_argument l = 32 * l.depth_left + 2
 
 abbrev pub decreases-expressions::read_whole : goal.decreases-expressions::read_whole
-decreases-expressions::read_whole l = 32 * l.room + 1
+decreases-expressions::read_whole l = 32 * l.depth_left + 1
 
 abbrev pub decreases-expressions::read_expression : goal.decreases-expressions::read_expression
-decreases-expressions::read_expression l = 32 * l.room + 0
+decreases-expressions::read_expression l = 32 * l.depth_left + 0
 
 abbrev pub decreases-expressions::read_joined : goal.decreases-expressions::read_joined
-decreases-expressions::read_joined l = 32 * l.room + 11
+decreases-expressions::read_joined l = 32 * l.depth_left + 11
 
 abbrev pub decreases-expressions::read_operand : goal.decreases-expressions::read_operand
-decreases-expressions::read_operand l = 32 * l.room + 10
+decreases-expressions::read_operand l = 32 * l.depth_left + 10
 
 abbrev pub decreases-expressions::read_casts : goal.decreases-expressions::read_casts
-decreases-expressions::read_casts l = 32 * l.room + 1
+decreases-expressions::read_casts l = 32 * l.depth_left + 1
 
 abbrev pub decreases-expressions::read_in : goal.decreases-expressions::read_in
-decreases-expressions::read_in l = 32 * l.room + 1
+decreases-expressions::read_in l = 32 * l.depth_left + 1
 
 abbrev pub decreases-expressions::read_choice : goal.decreases-expressions::read_choice
-decreases-expressions::read_choice l = 32 * l.room + 0
+decreases-expressions::read_choice l = 32 * l.depth_left + 0
 
 abbrev pub decreases-expressions::read_tested : goal.decreases-expressions::read_tested
-decreases-expressions::read_tested l = 32 * l.room + 4
+decreases-expressions::read_tested l = 32 * l.depth_left + 4
 
 abbrev pub decreases-expressions::read_branches : goal.decreases-expressions::read_branches
-decreases-expressions::read_branches l = 32 * l.room + 3
+decreases-expressions::read_branches l = 32 * l.depth_left + 3
 
 abbrev pub decreases-expressions::read_else : goal.decreases-expressions::read_else
-decreases-expressions::read_else l = 32 * l.room + 2
+decreases-expressions::read_else l = 32 * l.depth_left + 2
 
 abbrev pub decreases-expressions::read_primary : goal.decreases-expressions::read_primary
-decreases-expressions::read_primary l = 32 * l.room + 9
+decreases-expressions::read_primary l = 32 * l.depth_left + 9
 
 abbrev pub decreases-expressions::read_value : goal.decreases-expressions::read_value
-decreases-expressions::read_value l = 32 * l.room + 8
+decreases-expressions::read_value l = 32 * l.depth_left + 8
 
 abbrev pub decreases-expressions::read_values : goal.decreases-expressions::read_values
-decreases-expressions::read_values l = 32 * l.room + 1
+decreases-expressions::read_values l = 32 * l.depth_left + 1
 
 abbrev pub invariant-types::read_tuple-loop-turn : goal.invariant-types::read_tuple-loop-turn
 invariant-types::read_tuple-loop-turn l =
-    tuple_behind (readers l.room) (l.turns - l.turn) (map type_of l.all.items) l.inside (texts l.names) ≡ tuple_read (readers l.room) l.fn.inside (texts l.fn.names)
+    tuple_behind (readers l.depth_left) (l.turns - l.turn) (map type_of l.all.items) l.inside (texts l.names) ≡ tuple_read (readers l.depth_left) l.fn.inside (texts l.fn.names)
 
 abbrev pub invariant-signatures::read_parameter_types-loop-turn : goal.invariant-signatures::read_parameter_types-loop-turn
 invariant-signatures::read_parameter_types-loop-turn l =
-    parameter_types_from (readers l.room) (l.turns - l.turn) (map type_of l.all.items) l.inside (texts l.names)
-    ≡ parameter_types (readers l.room) l.fn.inside (texts l.fn.names)
+    parameter_types_from (readers l.depth_left) (l.turns - l.turn) (map type_of l.all.items) l.inside (texts l.names)
+    ≡ parameter_types (readers l.depth_left) l.fn.inside (texts l.fn.names)
 
 abbrev pub invariant-paths::read_path-loop-turn : goal.invariant-paths::read_path-loop-turn
 invariant-paths::read_path-loop-turn l =
-    path_from (readers l.room) l.in_type l.is_global (l.turns - l.turn) (map segment_of l.segments.items) l.cursor (texts l.names)
-    ≡ path_read (readers l.room) l.in_type l.fn.cursor (texts l.fn.names)
+    path_from (readers l.depth_left) l.in_type l.is_global (l.turns - l.turn) (map segment_of l.segments.items) l.cursor (texts l.names)
+    ≡ path_read (readers l.depth_left) l.in_type l.fn.cursor (texts l.fn.names)
 
 abbrev pub invariant-paths::read_arguments-loop-turn : goal.invariant-paths::read_arguments-loop-turn
 invariant-paths::read_arguments-loop-turn l =
-    arguments_from (readers l.room) (l.turns - l.turn) (map argument_of l.arguments.items) l.cursor (texts l.names)
-    ≡ arguments_read (readers l.room) l.fn.cursor (texts l.fn.names)
+    arguments_from (readers l.depth_left) (l.turns - l.turn) (map argument_of l.arguments.items) l.cursor (texts l.names)
+    ≡ arguments_read (readers l.depth_left) l.fn.cursor (texts l.fn.names)
 
 abbrev pub invariant-expressions::read_joined-loop-turn : goal.invariant-expressions::read_joined-loop-turn
 invariant-expressions::read_joined-loop-turn l =
-    expr_from (readers l.room) (l.turns - l.turn) (operands_of l.operands.items) (reverse l.waiting.items) l.cursor (texts l.names)
-    ≡ expr_with (readers l.room) l.fn.cursor (texts l.fn.names)
+    expr_from (readers l.depth_left) (l.turns - l.turn) (operands_of l.operands.items) (reverse l.waiting.items) l.cursor (texts l.names)
+    ≡ expr_with (readers l.depth_left) l.fn.cursor (texts l.fn.names)
 
 abbrev pub invariant-expressions::read_casts-loop-turn : goal.invariant-expressions::read_casts-loop-turn
 invariant-expressions::read_casts-loop-turn l =
-    cast_from (readers l.room) (l.turns - l.turn) (expr_of l.operand) l.cursor (texts l.names)
-    ≡ cast_from (readers l.room) most_nested (expr_of l.fn.operand) l.fn.cursor (texts l.fn.names)
+    cast_from (readers l.depth_left) (l.turns - l.turn) (expr_of l.operand) l.cursor (texts l.names)
+    ≡ cast_from (readers l.depth_left) most_nested (expr_of l.fn.operand) l.fn.cursor (texts l.fn.names)
 
 abbrev pub invariant-expressions::read_values-loop-turn : goal.invariant-expressions::read_values-loop-turn
 invariant-expressions::read_values-loop-turn l =
-    values_from (readers l.room) (l.turns - l.turn) (map expr_of l.all.items) l.inside (texts l.names) ≡ expressions_in (readers l.room) l.fn.inside (texts l.fn.names)
+    values_from (readers l.depth_left) (l.turns - l.turn) (map expr_of l.all.items) l.inside (texts l.names) ≡ expressions_in (readers l.depth_left) l.fn.inside (texts l.fn.names)

@@ -18,7 +18,7 @@ returns-in_err-found-clause-one c = one_joining
 
 pub returns-clause-means : goal.returns-clause-means
 returns-clause-means c =
-    read_all c.args.text.now c.args.start.0 (texts c.args.names.now) (texts c.read_alone.new.names) c.read_alone.result c.in_ok-found.found.items c.deref.result.now c.beginning-cursor.result c.in_ok-found.ensures c.deref.ensures.value c.beginning-cursor.ensures c.read_alone.ensures
+    read_all c.args.text.now c.args.start.0 (texts c.args.names.now) (texts c.read_alone.new.names) c.read_alone.result c.in_ok-found.found.items c.deref.result.now c.cursor_at_start-cursor.result c.in_ok-found.ensures c.deref.ensures.value c.cursor_at_start-cursor.ensures c.read_alone.ensures
 
 pub returns-clause-strength : goal.returns-clause-strength
 returns-clause-strength c = bind_by_strength

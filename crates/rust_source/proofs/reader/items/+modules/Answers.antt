@@ -8,7 +8,7 @@ use Rattle.rust_source.proofs.reader.items.+modules.Goals as goal
 
 pub read_all-loop-turn-preserved : goal.read_all-loop-turn-preserved
 read_all-loop-turn-preserved t c =
-    let e = all_more c.saturating_sub-turns.result c.loop-turn.turn c.args.rules.now c.args.room c.args.«module» c.loop-turn.cursor (texts c.loop-turn.names, items_as_read c.loop-turn.items) c.loop-turn-test.true in
+    let e = all_more c.saturating_sub-turns.result c.loop-turn.turn c.args.rules.now c.args.«module».depth_left c.args.«module».number c.loop-turn.cursor (texts c.loop-turn.names, items_as_read c.loop-turn.items) c.loop-turn-test.true in
     record {
       kept = keeps_more _ _ _ c.loop-turn.invariant.kept c.read_one.ensures.kept;
       same = search (rules, e);
