@@ -1,2 +1,4 @@
--- what is told of a type
-pub mod Telling
+-- what is answered of a type
+pub mod Replies
+-- types, values and layouts as numbers
+pub mod NumberLemmas

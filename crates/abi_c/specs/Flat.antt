@@ -7,8 +7,8 @@ use Rattle.abi_base.specs.declared.parse_error.TargetDataLayoutError.TheVariants
 use Rattle.abi_base.specs.DataLayoutFault.{Fault as Flaw, bad_space, bad_bits, missing_alignment, bad_alignment, unknown_pointer}
 use Rattle.abi_tree.specs.Placed.{Placed}
 use Rattle.abi_tree.specs.Tree.{Tree}
-use Rattle.abi_flat.specs.FlatLayout.{flat_layout}
-use Rattle.abi_flat.specs.FlatTree.{flat_tree, IsReadable}
+use Rattle.abi_c.specs.Numbers.FlatLayout.{flat_layout}
+use Rattle.abi_c.specs.Numbers.FlatTree.{flat_tree, IsReadable}
 use Rattle.abi_text.specs.DataLayoutLine.{data_layout_of}
 use Rattle.rustc_abi.specs.declared.error.LayError.{LayError}
 use Rattle.rustc_abi.specs.declared.error.LayError.TheVariants as lay
@@ -46,7 +46,7 @@ flaw_number (missing_alignment cause) = 34
 flaw_number (bad_alignment cause err) = 35
 flaw_number (unknown_pointer rest) = 36
 
--- the same, of the error that tells it
+-- the same, of the error that reports it
 abbrev pub data_layout_error_number : TargetDataLayoutError → ℕ
 data_layout_error_number (data_layout.InvalidAddressSpace text cause err) = 32
 data_layout_error_number (data_layout.InvalidBits kind text cause err) = 33
@@ -57,15 +57,15 @@ data_layout_error_number data_layout.OutOfMemory = 0
 data_layout_error_number _ = 37
 
 -- A status, and the numbers beside it.
-pub record Told : Type 0 where
+pub record Reply : Type 0 where
   pub status : ℕ
   pub numbers : List ℕ
 
 -- the type is laid out, with the numbers of its layout; or refused for its first fault, with the fault's number
-abbrev pub IsLaidTold : TargetDataLayout → Tree → Told → Type 0
-IsLaidTold dl t told =
-    ((placed : Placed) × IsLaying dl t (Ok placed) × (told ≡ record { status = 0; numbers = flat_layout placed }))
-    ⊎ ((e : LayError) × IsFirstFault dl t e × (told ≡ record { status = 1; numbers = refusal_number e ∷ [] }))
+abbrev pub IsLayingReply : TargetDataLayout → Tree → Reply → Type 0
+IsLayingReply dl t reply =
+    ((placed : Placed) × IsLaying dl t (Ok placed) × (reply ≡ record { status = 0; numbers = flat_layout placed }))
+    ⊎ ((e : LayError) × IsFirstFault dl t e × (reply ≡ record { status = 1; numbers = refusal_number e ∷ [] }))
 
 -- The numbers are the type's, and no other's that can be read.
 pub record AreNumbersOf (numbers : List ℕ) (t : Tree) : Type 0 where
@@ -77,31 +77,31 @@ abbrev pub AreNoNumbers : List ℕ → Type 0
 AreNoNumbers numbers = (t : Tree) → IsReadable 201 t → numbers ≡ flat_tree t → ⊥
 
 -- so much of a type that has the numbers; or that none has them
-abbrev pub IsToldOf : (Tree → Told → Type 0) → List ℕ → Told → Type 0
-IsToldOf P numbers told =
-    ((t : Tree) × AreNumbersOf numbers t × P t told)
-    ⊎ (AreNoNumbers numbers × (told ≡ record { status = 2; numbers = 1 ∷ [] }))
+abbrev pub IsReplyOf : (Tree → Reply → Type 0) → List ℕ → Reply → Type 0
+IsReplyOf P numbers reply =
+    ((t : Tree) × AreNumbersOf numbers t × P t reply)
+    ⊎ (AreNoNumbers numbers × (reply ≡ record { status = 2; numbers = 1 ∷ [] }))
 
 -- so much under a data layout; or what is wrong with its string
-abbrev pub IsToldIn : (TargetDataLayout → Told → Type 0) → Result TargetDataLayout Flaw → Told → Type 0
-IsToldIn P (Ok dl) told = P dl told
-IsToldIn P (Err flaw) told = told ≡ record { status = 1; numbers = flaw_number flaw ∷ [] }
+abbrev pub IsReplyIn : (TargetDataLayout → Reply → Type 0) → Result TargetDataLayout Flaw → Reply → Type 0
+IsReplyIn P (Ok dl) reply = P dl reply
+IsReplyIn P (Err flaw) reply = reply ≡ record { status = 1; numbers = flaw_number flaw ∷ [] }
 
 -- so much under the data layout of a string; or that the string isn't UTF-8
-abbrev pub IsToldUnder : (TargetDataLayout → Told → Type 0) → (string : List ℕ) → Told → Type 0
-IsToldUnder P string told =
-    MatchBool (is_utf8 string) (IsToldIn P (data_layout_of string) told) (told ≡ record { status = 2; numbers = 0 ∷ [] })
+abbrev pub IsReplyUnder : (TargetDataLayout → Reply → Type 0) → (string : List ℕ) → Reply → Type 0
+IsReplyUnder P string reply =
+    MatchBool (is_utf8 string) (IsReplyIn P (data_layout_of string) reply) (reply ≡ record { status = 2; numbers = 0 ∷ [] })
 
 -- such numbers, or that memory was wanting, are lent, and the status is theirs
-abbrev pub IsLentTold : (Told → Type 0) → (status : ℕ) → (old new : List ℕ) → (needed : ℕ) → Type 0
-IsLentTold P status old new needed =
-    (told : Told) × (P told ⊎ (told ≡ record { status = 1; numbers = 0 ∷ [] })) × (status ≡ told.status)
-    × Lent old new told.numbers needed
+abbrev pub IsLentReply : (Reply → Type 0) → (status : ℕ) → (old new : List ℕ) → (needed : ℕ) → Type 0
+IsLentReply P status old new needed =
+    (reply : Reply) × (P reply ⊎ (reply ≡ record { status = 1; numbers = 0 ∷ [] })) × (status ≡ reply.status)
+    × Lent old new reply.numbers needed
 
--- what is told of the layout of the type with these numbers under the data layout of a string
-abbrev pub IsLayoutTold : (string numbers : List ℕ) → Told → Type 0
-IsLayoutTold string numbers = IsToldUnder (λ dl. IsToldOf (IsLaidTold dl) numbers) string
+-- what is answered of the layout of the type with these numbers under the data layout of a string
+abbrev pub IsLayoutReply : (string numbers : List ℕ) → Reply → Type 0
+IsLayoutReply string numbers = IsReplyUnder (λ dl. IsReplyOf (IsLayingReply dl) numbers) string
 
 -- an answer, as the definitions see it
-abbrev pub told_by : FlatAnswer → Told
-told_by answer = record { status = answer.status; numbers = answer.numbers.items }
+abbrev pub reply_of : FlatAnswer → Reply
+reply_of answer = record { status = answer.status; numbers = answer.numbers.items }

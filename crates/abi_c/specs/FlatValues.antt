@@ -7,9 +7,9 @@ use Rattle.abi_tree.specs.Placed.{Placed}
 use Rattle.abi_tree.specs.Tree.{Tree}
 use Rattle.abi_tree.specs.Value.{Value}
 use Rattle.abi_tree.specs.Values.{IsValueOf, LocalsHaveValues}
-use Rattle.abi_flat.specs.FlatValue.{flat_value, IsReadableValue}
+use Rattle.abi_c.specs.Numbers.FlatValue.{flat_value, IsReadableValue}
 use Rattle.abi_c.specs.declared.values.BytesAnswer.{BytesAnswer}
-use Rattle.abi_c.specs.Flat.{IsLayoutTold, Told}
+use Rattle.abi_c.specs.Flat.{IsLayoutReply, Reply}
 use Rattle.abi_c.specs.LaidType.{IsLaidType}
 
 -- The numbers are the value's, and no other's that can be read.
@@ -36,29 +36,29 @@ pub record IsValueIn (dl : TargetDataLayout) (t : Tree) (placed : Placed) (b : L
   pub only : LocalsHaveValues dl t → (u : Value) → Holds dl.endian placed b u → u ≡ v
 
 -- the bytes of the value; or it is none of the type's, where each local of a coroutine in that has one
-abbrev pub IsWritten : TargetDataLayout → Tree → Placed → Value → Told → Type 0
-IsWritten dl t placed v told =
-    ((told.status ≡ 0) × AreBytesOf dl t placed v told.numbers)
-    ⊎ ((told ≡ record { status = 3; numbers = [] }) × (LocalsHaveValues dl t → IsValueOf dl t placed v → ⊥))
+abbrev pub IsWritten : TargetDataLayout → Tree → Placed → Value → Reply → Type 0
+IsWritten dl t placed v reply =
+    ((reply.status ≡ 0) × AreBytesOf dl t placed v reply.numbers)
+    ⊎ ((reply ≡ record { status = 3; numbers = [] }) × (LocalsHaveValues dl t → IsValueOf dl t placed v → ⊥))
 
 -- the same of the value with these numbers; or no value has them
-abbrev pub IsWrittenOf : (value : List ℕ) → TargetDataLayout → Tree → Placed → Told → Type 0
-IsWrittenOf value dl t placed told =
-    ((v : Value) × AreValueNumbers value v × IsWritten dl t placed v told)
-    ⊎ (AreNoValueNumbers value × (told ≡ record { status = 2; numbers = 2 ∷ [] }))
+abbrev pub IsWrittenOf : (value : List ℕ) → TargetDataLayout → Tree → Placed → Reply → Type 0
+IsWrittenOf value dl t placed reply =
+    ((v : Value) × AreValueNumbers value v × IsWritten dl t placed v reply)
+    ⊎ (AreNoValueNumbers value × (reply ≡ record { status = 2; numbers = 2 ∷ [] }))
 
 -- the numbers of the value that the bytes hold; or they hold none
-abbrev pub IsReadOf : (b : List ℕ) → TargetDataLayout → Tree → Placed → Told → Type 0
-IsReadOf b dl t placed told =
-    ((v : Value) × IsValueIn dl t placed b v × (told ≡ record { status = 0; numbers = flat_value v }))
-    ⊎ (((v : Value) → Holds dl.endian placed b v → ⊥) × (told ≡ record { status = 3; numbers = [] }))
+abbrev pub IsReadOf : (b : List ℕ) → TargetDataLayout → Tree → Placed → Reply → Type 0
+IsReadOf b dl t placed reply =
+    ((v : Value) × IsValueIn dl t placed b v × (reply ≡ record { status = 0; numbers = flat_value v }))
+    ⊎ (((v : Value) → Holds dl.endian placed b v → ⊥) × (reply ≡ record { status = 3; numbers = [] }))
 
--- so much of the laid-out type; or what is told of a type without a layout
-abbrev pub IsToldOfLaid : (TargetDataLayout → Tree → Placed → Told → Type 0) → (string numbers : List ℕ) → Told → Type 0
-IsToldOfLaid P string numbers told =
-    ((dl : TargetDataLayout) × (t : Tree) × (placed : Placed) × IsLaidType string numbers dl t placed × P dl t placed told)
-    ⊎ (IsLayoutTold string numbers told × (0 < told.status))
+-- so much of the laid-out type; or what is answered of a type without a layout
+abbrev pub IsReplyOfLaid : (TargetDataLayout → Tree → Placed → Reply → Type 0) → (string numbers : List ℕ) → Reply → Type 0
+IsReplyOfLaid P string numbers reply =
+    ((dl : TargetDataLayout) × (t : Tree) × (placed : Placed) × IsLaidType string numbers dl t placed × P dl t placed reply)
+    ⊎ (IsLayoutReply string numbers reply × (0 < reply.status))
 
 -- an answer in bytes, as the definitions see it
-abbrev pub bytes_told_by : BytesAnswer → Told
-bytes_told_by answer = record { status = answer.status; numbers = answer.bytes.items }
+abbrev pub reply_of_bytes : BytesAnswer → Reply
+reply_of_bytes answer = record { status = answer.status; numbers = answer.bytes.items }

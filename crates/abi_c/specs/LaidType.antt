@@ -10,9 +10,9 @@ use Rattle.abi_tree.specs.Tree.{Tree}
 use Rattle.abi_tree.specs.Values.{LocalsHaveValues}
 use Rattle.abi_text.specs.DataLayoutLine.{data_layout_of}
 use Rattle.rustc_abi.specs.Laying.{IsLaying}
-use Rattle.abi_c.specs.declared.laid_type.Failure.{Failure}
-use Rattle.abi_c.specs.declared.laid_type.Failure.TheVariants.{Refused, OutOfMemory}
-use Rattle.abi_c.specs.Flat.{AreNumbersOf, Told}
+use Rattle.abi_c.specs.declared.laid_type.LayoutFailure.{LayoutFailure}
+use Rattle.abi_c.specs.declared.laid_type.LayoutFailure.TheVariants.{Refused, OutOfMemory}
+use Rattle.abi_c.specs.Flat.{AreNumbersOf, Reply}
 
 -- The type with these numbers under the data layout of a string is laid out so.
 pub record IsLaidType (string numbers : List ℕ) (dl : TargetDataLayout) (t : Tree) (placed : Placed) : Type 0 where
@@ -28,7 +28,7 @@ pub record IsLaidFrom (dl : TargetDataLayout) (t : Tree) (laid : Laid) : Type 0 
   pub order : endian_of laid ≡ dl.endian
   pub keeps : LocalsHaveValues dl t → KeepsValues dl t laid
 
--- such numbers beside a status that tells of no layout, want of memory aside
-abbrev pub FailsAs : (Told → Type 0) → Failure → Type 0
+-- such numbers beside a status of no layout, want of memory aside
+abbrev pub FailsAs : (Reply → Type 0) → LayoutFailure → Type 0
 FailsAs P (Refused status number) = P (record { status = status; numbers = number ∷ [] }) × (0 < status)
 FailsAs P OutOfMemory = ⊤

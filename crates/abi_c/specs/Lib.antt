@@ -6,3 +6,5 @@ pub mod Flat
 pub mod LaidType
 -- what is answered to a value, or to bytes, of a type
 pub mod FlatValues
+-- types, values and layouts as numbers
+pub mod Numbers

@@ -3,11 +3,11 @@
 ghost use Rattle.std.specs.Prelude.{◌≡◌, ◌<◌, ◌∷◌, [], IfOk};
 ghost use Rattle.abi_tree.specs.Laid.{placed_of};
 ghost use Rattle.abi_tree.specs.Placed.{layout_of};
-ghost use Rattle.abi_flat.specs.FlatLayout.{flat_layout};
-ghost use Rattle.abi_c.specs.Flat.{IsLayoutTold, told_by};
+ghost use Rattle.abi_c.specs.Numbers.FlatLayout.{flat_layout};
+ghost use Rattle.abi_c.specs.Flat.{IsLayoutReply, reply_of};
 
-use crate::laid_type::{Failure, lay_type};
-use abi_flat::write_layout;
+use crate::laid_type::{LayoutFailure, lay_type};
+use crate::numbers::write_layout;
 use abi_tree::Laid;
 use std::alloc::{AllocError, Global};
 
@@ -22,7 +22,7 @@ pub(crate) struct FlatAnswer {
 
 /// A status with one number.
 pub(crate) fn one_number(alloc: Global, status: u8, number: u8) -> Result<FlatAnswer, AllocError>
-    ensures { IfOk result (λ a. told_by a ≡ record { status = status; numbers = number ∷ [] }) }
+    ensures { IfOk result (λ a. reply_of a ≡ record { status = status; numbers = number ∷ [] }) }
 {
     let mut numbers = Vec::new(alloc);
     numbers.push(u64::from(number))?;
@@ -32,7 +32,7 @@ pub(crate) fn one_number(alloc: Global, status: u8, number: u8) -> Result<FlatAn
 /// The answer to a type that was laid out.
 fn laid_numbers(alloc: Global, laid: &Laid) -> Result<FlatAnswer, AllocError>
     requires { (layout_of (placed_of laid.now)).align.abi < 64 }
-    ensures { IfOk result (λ a. told_by a ≡
+    ensures { IfOk result (λ a. reply_of a ≡
         record { status = 0; numbers = flat_layout (placed_of laid.now) }) }
 {
     Ok(FlatAnswer {
@@ -48,11 +48,11 @@ pub(crate) fn answer_numbers(
     string: &[u8],
     tree: &[u64],
 ) -> Result<FlatAnswer, AllocError>
-    ensures { IfOk result (λ a. IsLayoutTold string.now tree.now (told_by a)) }
+    ensures { IfOk result (λ a. IsLayoutReply string.now tree.now (reply_of a)) }
 {
     match lay_type(alloc, string, tree) {
         Ok(laid) => laid_numbers(alloc, &laid),
-        Err(Failure::Refused { status, number }) => one_number(alloc, status, number),
-        Err(Failure::OutOfMemory) => Err(AllocError),
+        Err(LayoutFailure::Refused { status, number }) => one_number(alloc, status, number),
+        Err(LayoutFailure::OutOfMemory) => Err(AllocError),
     }
 }

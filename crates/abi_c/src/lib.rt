@@ -4,29 +4,30 @@
 // Texts and numbers in memory that a caller lends.
 mod lend;
 
-// Layouts as numbers, and values.
+// Types, values and layouts as numbers, and what is answered to these.
 mod flat;
 mod laid_type;
+mod numbers;
 mod values;
 
 ghost use Rattle.std.specs.Prelude.{◌≡◌, ℕ, List};
 ghost use Rattle.abi_text.specs.Output.{IsOutputOf, Output};
-ghost use Rattle.abi_text.specs.Telling.{TellsLayout};
-ghost use Rattle.abi_map.specs.Map.{TellsMap};
-ghost use Rattle.abi_c.specs.Flat.{IsLayoutTold, IsLentTold};
-ghost use Rattle.abi_c.specs.FlatValues.{IsReadOf, IsToldOfLaid, IsWrittenOf};
+ghost use Rattle.abi_text.specs.Report.{ReportsLayout};
+ghost use Rattle.abi_map.specs.Map.{ReportsMap};
+ghost use Rattle.abi_c.specs.Flat.{IsLayoutReply, IsLentReply};
+ghost use Rattle.abi_c.specs.FlatValues.{IsReadOf, IsReplyOfLaid, IsWrittenOf};
 ghost use Rattle.abi_c.specs.Lent.{IsLentAnswer};
 
 use crate::flat::answer_numbers;
 use crate::lend::lend;
 use crate::values::{answer_read, answer_write};
 use abi_map::MapText;
-use abi_text::{LayoutText, Telling, answer_input};
+use abi_text::{LayoutText, Report, answer_input};
 use std::alloc::Global;
 
-/// Lends the answer to an input, of whose type `T` tells, and answers its status.
-fn tell<T: Telling>(alloc: Global, input: &[u8], output: &mut [u8], needed: &mut usize) -> u8
-    ensures { IsLentAnswer (IsOutputOf T.tells input.now) result output.old output.new needed.new }
+/// Lends the answer to an input, whose type is printed as `T` says, and answers its status.
+fn answer_text<T: Report>(alloc: Global, input: &[u8], output: &mut [u8], needed: &mut usize) -> u8
+    ensures { IsLentAnswer (IsOutputOf T.reports input.now) result output.old output.new needed.new }
 {
     match answer_input::<T>(alloc, input) {
         Ok(answer) => {
@@ -52,11 +53,11 @@ pub extern "C" fn abi_c_layout(
     output: &mut [u8],
     needed: &mut usize,
 ) -> u8
-    ensures answered { IsLentAnswer (IsOutputOf TellsLayout input.now) result output.old output.new needed.new }
-    ensures some { (all : List ℕ) → (o : Output) × IsOutputOf TellsLayout all o }
-    ensures one { (all : List ℕ) (a b : Output) → IsOutputOf TellsLayout all a → IsOutputOf TellsLayout all b → a ≡ b }
+    ensures answered { IsLentAnswer (IsOutputOf ReportsLayout input.now) result output.old output.new needed.new }
+    ensures some { (all : List ℕ) → (o : Output) × IsOutputOf ReportsLayout all o }
+    ensures one { (all : List ℕ) (a b : Output) → IsOutputOf ReportsLayout all a → IsOutputOf ReportsLayout all b → a ≡ b }
 {
-    tell::<LayoutText>(alloc, input, output, needed)
+    answer_text::<LayoutText>(alloc, input, output, needed)
 }
 
 /// Answers what the program `map` writes for an input, as `abi_c_layout` does of `layout`.
@@ -67,11 +68,11 @@ pub extern "C" fn abi_c_map(
     output: &mut [u8],
     needed: &mut usize,
 ) -> u8
-    ensures answered { IsLentAnswer (IsOutputOf TellsMap input.now) result output.old output.new needed.new }
-    ensures some { (all : List ℕ) → (o : Output) × IsOutputOf TellsMap all o }
-    ensures one { (all : List ℕ) (a b : Output) → IsOutputOf TellsMap all a → IsOutputOf TellsMap all b → a ≡ b }
+    ensures answered { IsLentAnswer (IsOutputOf ReportsMap input.now) result output.old output.new needed.new }
+    ensures some { (all : List ℕ) → (o : Output) × IsOutputOf ReportsMap all o }
+    ensures one { (all : List ℕ) (a b : Output) → IsOutputOf ReportsMap all a → IsOutputOf ReportsMap all b → a ≡ b }
 {
-    tell::<MapText>(alloc, input, output, needed)
+    answer_text::<MapText>(alloc, input, output, needed)
 }
 
 /// Lays out the type that has these numbers under the data layout of a string, and answers the status: 0 where it has a
@@ -89,7 +90,7 @@ pub extern "C" fn abi_c_lay_out(
     layout: &mut [u64],
     needed: &mut usize,
 ) -> u8
-    ensures { IsLentTold (IsLayoutTold data_layout.now tree.now) result layout.old layout.new needed.new }
+    ensures { IsLentReply (IsLayoutReply data_layout.now tree.now) result layout.old layout.new needed.new }
 {
     match answer_numbers(alloc, data_layout, tree) {
         Ok(answer) => {
@@ -118,7 +119,7 @@ pub extern "C" fn abi_c_write_value(
     bytes: &mut [u8],
     needed: &mut usize,
 ) -> u8
-    ensures { IsLentTold (IsToldOfLaid (IsWrittenOf value.now) data_layout.now tree.now)
+    ensures { IsLentReply (IsReplyOfLaid (IsWrittenOf value.now) data_layout.now tree.now)
         result bytes.old bytes.new needed.new }
 {
     match answer_write(alloc, data_layout, tree, value) {
@@ -148,7 +149,7 @@ pub extern "C" fn abi_c_read_value(
     value: &mut [u64],
     needed: &mut usize,
 ) -> u8
-    ensures { IsLentTold (IsToldOfLaid (IsReadOf bytes.now) data_layout.now tree.now)
+    ensures { IsLentReply (IsReplyOfLaid (IsReadOf bytes.now) data_layout.now tree.now)
         result value.old value.new needed.new }
 {
     match answer_read(alloc, data_layout, tree, bytes) {

@@ -5,14 +5,14 @@ ghost use Rattle.abi_base.specs.declared.data_layout.TargetDataLayout.{TargetDat
 ghost use Rattle.abi_tree.specs.Laid.{placed_of};
 ghost use Rattle.abi_tree.specs.Tree.{Tree};
 ghost use Rattle.abi_tree.specs.Value.{value_of};
-ghost use Rattle.abi_flat.specs.FlatValue.{flat_value};
-ghost use Rattle.abi_c.specs.Flat.{told_by};
-ghost use Rattle.abi_c.specs.FlatValues.{IsReadOf, IsToldOfLaid, IsWritten, IsWrittenOf, bytes_told_by};
+ghost use Rattle.abi_c.specs.Numbers.FlatValue.{flat_value};
+ghost use Rattle.abi_c.specs.Flat.{reply_of};
+ghost use Rattle.abi_c.specs.FlatValues.{IsReadOf, IsReplyOfLaid, IsWritten, IsWrittenOf, reply_of_bytes};
 ghost use Rattle.abi_c.specs.LaidType.{IsLaidFrom};
 
 use crate::flat::{FlatAnswer, one_number};
-use crate::laid_type::{Failure, lay_type};
-use abi_flat::{ReadError, read_flat_value, write_flat_value};
+use crate::laid_type::{LayoutFailure, lay_type};
+use crate::numbers::{ReadError, read_flat_value, write_flat_value};
 use abi_tree::{Laid, Value, ValueError, read_value, write_value};
 use std::alloc::{AllocError, Global};
 
@@ -27,7 +27,7 @@ pub(crate) struct BytesAnswer {
 
 /// A status with one byte.
 fn one_byte(alloc: Global, status: u8, byte: u8) -> Result<BytesAnswer, AllocError>
-    ensures { IfOk result (λ a. bytes_told_by a ≡ record { status = status; numbers = byte ∷ [] }) }
+    ensures { IfOk result (λ a. reply_of_bytes a ≡ record { status = status; numbers = byte ∷ [] }) }
 {
     let mut bytes = Vec::new(alloc);
     bytes.push(byte)?;
@@ -35,9 +35,9 @@ fn one_byte(alloc: Global, status: u8, byte: u8) -> Result<BytesAnswer, AllocErr
 }
 
 /// The answer to a value of a laid-out type.
-fn written(alloc: Global, laid: &Laid, value: &Value) -> Result<BytesAnswer, AllocError>
+fn bytes_of_value(alloc: Global, laid: &Laid, value: &Value) -> Result<BytesAnswer, AllocError>
     ensures { IfOk result (λ a. (dl : Target) (t : Tree) → IsLaidFrom dl t laid.now →
-        IsWritten dl t (placed_of laid.now) (value_of value.now) (bytes_told_by a)) }
+        IsWritten dl t (placed_of laid.now) (value_of value.now) (reply_of_bytes a)) }
 {
     match write_value(alloc, laid, value) {
         Ok(bytes) => Ok(BytesAnswer { status: 0, bytes }),
@@ -50,12 +50,12 @@ fn written(alloc: Global, laid: &Laid, value: &Value) -> Result<BytesAnswer, All
 }
 
 /// The answer to the numbers of a value of a laid-out type.
-fn written_of(alloc: Global, laid: &Laid, value: &[u64]) -> Result<BytesAnswer, AllocError>
+fn bytes_of_numbers(alloc: Global, laid: &Laid, value: &[u64]) -> Result<BytesAnswer, AllocError>
     ensures { IfOk result (λ a. (dl : Target) (t : Tree) → IsLaidFrom dl t laid.now →
-        IsWrittenOf value.now dl t (placed_of laid.now) (bytes_told_by a)) }
+        IsWrittenOf value.now dl t (placed_of laid.now) (reply_of_bytes a)) }
 {
     match read_flat_value(alloc, value) {
-        Ok(value) => written(alloc, laid, &value),
+        Ok(value) => bytes_of_value(alloc, laid, &value),
         Err(ReadError::Unreadable) => one_byte(alloc, 2, 2),
         Err(ReadError::OutOfMemory) => Err(AllocError),
     }
@@ -70,18 +70,18 @@ pub(crate) fn answer_write(
     value: &[u64],
 ) -> Result<BytesAnswer, AllocError>
     ensures { IfOk result (λ a.
-        IsToldOfLaid (IsWrittenOf value.now) string.now tree.now (bytes_told_by a)) }
+        IsReplyOfLaid (IsWrittenOf value.now) string.now tree.now (reply_of_bytes a)) }
 {
     match lay_type(alloc, string, tree) {
-        Ok(laid) => written_of(alloc, &laid, value),
-        Err(Failure::Refused { status, number }) => one_byte(alloc, status, number),
-        Err(Failure::OutOfMemory) => Err(AllocError),
+        Ok(laid) => bytes_of_numbers(alloc, &laid, value),
+        Err(LayoutFailure::Refused { status, number }) => one_byte(alloc, status, number),
+        Err(LayoutFailure::OutOfMemory) => Err(AllocError),
     }
 }
 
 /// The answer to bytes that hold a value.
 fn value_numbers(alloc: Global, value: &Value) -> Result<FlatAnswer, AllocError>
-    ensures { IfOk result (λ a. told_by a ≡
+    ensures { IfOk result (λ a. reply_of a ≡
         record { status = 0; numbers = flat_value (value_of value.now) }) }
 {
     Ok(FlatAnswer {
@@ -91,9 +91,9 @@ fn value_numbers(alloc: Global, value: &Value) -> Result<FlatAnswer, AllocError>
 }
 
 /// The answer to bytes of a laid-out type.
-fn read_of(alloc: Global, laid: &Laid, bytes: &[u8]) -> Result<FlatAnswer, AllocError>
+fn numbers_of_bytes(alloc: Global, laid: &Laid, bytes: &[u8]) -> Result<FlatAnswer, AllocError>
     ensures { IfOk result (λ a. (dl : Target) (t : Tree) → IsLaidFrom dl t laid.now →
-        IsReadOf bytes.now dl t (placed_of laid.now) (told_by a)) }
+        IsReadOf bytes.now dl t (placed_of laid.now) (reply_of a)) }
 {
     match read_value(alloc, laid, bytes)? {
         Some(value) => value_numbers(alloc, &value),
@@ -111,11 +111,11 @@ pub(crate) fn answer_read(
     tree: &[u64],
     bytes: &[u8],
 ) -> Result<FlatAnswer, AllocError>
-    ensures { IfOk result (λ a. IsToldOfLaid (IsReadOf bytes.now) string.now tree.now (told_by a)) }
+    ensures { IfOk result (λ a. IsReplyOfLaid (IsReadOf bytes.now) string.now tree.now (reply_of a)) }
 {
     match lay_type(alloc, string, tree) {
-        Ok(laid) => read_of(alloc, &laid, bytes),
-        Err(Failure::Refused { status, number }) => one_number(alloc, status, number),
-        Err(Failure::OutOfMemory) => Err(AllocError),
+        Ok(laid) => numbers_of_bytes(alloc, &laid, bytes),
+        Err(LayoutFailure::Refused { status, number }) => one_number(alloc, status, number),
+        Err(LayoutFailure::OutOfMemory) => Err(AllocError),
     }
 }

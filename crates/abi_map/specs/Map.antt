@@ -61,5 +61,5 @@ abbrev pub map_text : (called : PartName → List ℕ) → TargetDataLayout → 
 map_text called dl placed = size_line (layout_of placed) ++ bytes_text called placed ++ niche_text dl (niche_of placed)
 
 -- the text is the map of the type, with its parts called by their indices
-abbrev pub TellsMap : TargetDataLayout → Placed → (text : List ℕ) → Type 0
-TellsMap dl placed text = text ≡ map_text called_text dl placed
+abbrev pub ReportsMap : TargetDataLayout → Placed → (text : List ℕ) → Type 0
+ReportsMap dl placed text = text ≡ map_text called_text dl placed

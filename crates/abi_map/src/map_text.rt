@@ -8,19 +8,23 @@ ghost use Rattle.abi_map.specs.Map.{map_text};
 use crate::called::{ByIndex, Called};
 use crate::print::{write_bytes, write_niche};
 use abi_base::TargetDataLayout;
-use abi_text::{Telling, write_size};
+use abi_text::{Report, write_size};
 use abi_tree::Laid;
 use std::alloc::{AllocError, Global};
 
 /// A type is told by a map of its bytes.
 pub struct MapText;
 
-impl Telling for MapText {
-    ghost use Rattle.abi_map.specs.Map.{TellsMap};
+impl Report for MapText {
+    ghost use Rattle.abi_map.specs.Map.{ReportsMap};
 
-    ghost tells = { TellsMap };
+    ghost reports = { ReportsMap };
 
-    fn told(alloc: Global, dl: &TargetDataLayout, laid: &Laid) -> Result<String, AllocError> {
+    fn report_text(
+        alloc: Global,
+        dl: &TargetDataLayout,
+        laid: &Laid,
+    ) -> Result<String, AllocError> {
         map_of(alloc, dl, &ByIndex, laid)
     }
 }

@@ -1,7 +1,7 @@
-//! Calling conventions: their variants, their order, their hashes.
+//! Calling conventions: their numbers, names, order and hashes.
 
 use abi_base::AbiFromStrErr;
-use abi_types::ExternAbi;
+use abi_types::{ArmCall, CanonAbi, ExternAbi, InterruptKind, X86Call};
 use std::hash::{DefaultHasher, Hash, Hasher};
 
 /// Each convention's number, name and variant.
@@ -56,46 +56,74 @@ static CONVENTIONS: [(u8, &str, ExternAbi); 40] = [
     (39, "x86-interrupt", ExternAbi::X86Interrupt),
 ];
 
-/// Whether the number is that of the convention, both ways.
-fn is_numbered(number: u8, abi: ExternAbi) -> bool {
-    number < 40 && abi.as_packed() == number && ExternAbi::from_packed(number) == abi
+/// Whether the number is that of the convention, and so is the name, both ways.
+fn is_convention(number: u8, name: &str, abi: ExternAbi) -> bool {
+    number < 40
+        && abi.as_packed() == number
+        && ExternAbi::from_packed(number) == abi
+        && abi.as_str() == name
+        && abi.name() == name
+        && name.parse() == Ok(abi)
 }
 
-/// Whether the name is that of the convention, both ways.
-fn is_named(name: &str, abi: ExternAbi) -> bool {
-    let read = match name.parse::<ExternAbi>() {
-        Ok(read) => read == abi,
-        Err(_) => false,
-    };
-    read && abi.as_str() == name && abi.name() == name
-}
+/// The canonical conventions, as they ascend.
+static CANONICAL: [CanonAbi; 23] = [
+    CanonAbi::C,
+    CanonAbi::Rust,
+    CanonAbi::RustCold,
+    CanonAbi::RustPreserveNone,
+    CanonAbi::RustTail,
+    CanonAbi::Custom,
+    CanonAbi::Swift,
+    CanonAbi::Arm(ArmCall::Aapcs),
+    CanonAbi::Arm(ArmCall::CCmseNonSecureCall),
+    CanonAbi::Arm(ArmCall::CCmseNonSecureEntry),
+    CanonAbi::GpuKernel,
+    CanonAbi::Interrupt(InterruptKind::Avr),
+    CanonAbi::Interrupt(InterruptKind::AvrNonBlocking),
+    CanonAbi::Interrupt(InterruptKind::Msp430),
+    CanonAbi::Interrupt(InterruptKind::RiscvMachine),
+    CanonAbi::Interrupt(InterruptKind::RiscvSupervisor),
+    CanonAbi::Interrupt(InterruptKind::X86),
+    CanonAbi::X86(X86Call::Fastcall),
+    CanonAbi::X86(X86Call::Stdcall),
+    CanonAbi::X86(X86Call::SysV64),
+    CanonAbi::X86(X86Call::Thiscall),
+    CanonAbi::X86(X86Call::Vectorcall),
+    CanonAbi::X86(X86Call::Win64),
+];
 
 /// Texts that are no convention's name, and no words.
 static OTHER_TEXTS: [&str; 3] = ["", "C-unwind ", " C"];
 
+/// Whether the text is no convention's name.
+fn is_no_convention(text: &str) -> bool {
+    text.parse::<ExternAbi>() == Err(AbiFromStrErr::Unknown)
+}
+
 #[test]
 fn conventions_have_numbers_and_names(rt: HostRuntime) {
     for &(number, name, abi) in &CONVENTIONS {
-        assert!(rt; is_numbered(number, abi) && is_named(name, abi), "{name}");
+        assert!(rt; is_convention(number, name, abi), "{name}");
     }
-    assert!(rt; ExternAbi::FALLBACK.as_packed() == 0);
     for &text in &OTHER_TEXTS {
-        assert!(rt;
-            text.parse::<ExternAbi>() == Err(AbiFromStrErr::Unknown),
-            "{text}"
-        );
+        assert!(rt; is_no_convention(text), "{text}");
     }
 }
 
-/// Whether each convention is above the one before it.
-fn all_ascend() -> bool {
-    let all = ExternAbi::ALL_VARIANTS;
-    for i in 1..all.len() {
-        if all[i - 1] >= all[i] {
+/// Whether conventions ascend by their names, Rust's among all and the canonical ones among theirs.
+fn do_ascend(abis: &[ExternAbi], canonical: &[CanonAbi]) -> bool {
+    for i in 1..abis.len() {
+        if abis[i - 1] >= abis[i] {
             return false;
         }
     }
-    all.len() == 40
+    for i in 1..canonical.len() {
+        if canonical[i - 1] >= canonical[i] {
+            return false;
+        }
+    }
+    true
 }
 
 /// What a hasher makes of the value.
@@ -113,15 +141,11 @@ fn hash_of_name(name: &str) -> u64 {
     state.finish()
 }
 
-/// Whether the convention's hash is that of the name.
-fn is_hashed(abi: ExternAbi, name: &str) -> bool {
-    hash_of(&abi) == hash_of_name(name)
-}
-
 #[test]
 fn conventions_go_by_their_names(rt: HostRuntime) {
-    assert!(rt; all_ascend());
-    let c = ExternAbi::C { unwind: false };
-    assert!(rt; is_hashed(c, "C") && !is_hashed(c, "C-unwind"));
-    assert!(rt; is_hashed(ExternAbi::C { unwind: true }, "C-unwind"));
+    assert!(rt; do_ascend(&ExternAbi::ALL_VARIANTS, &CANONICAL));
+    for unwind in [false, true] {
+        let abi = ExternAbi::C { unwind };
+        assert!(rt; hash_of(&abi) == hash_of_name(abi.name()));
+    }
 }

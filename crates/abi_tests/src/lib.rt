@@ -1,41 +1,22 @@
-//! What no line of text can ask of the libraries: index types and handles of a caller's own, a caller's own types with
-//! their walks, readers and writers that fail, and what only a text, a hash or a refusal of a tree that no line writes
-//! shows. All of it is tests.
+//! What no line of text can ask of the libraries: types of a caller's own with walks over them, readers and writers that
+//! fail, lists that ask for no memory, and what only a text, a hash or a seed shows.
 #![tactic(auto)]
 
-// Indices, short lists, layouts and views.
+mod own_types;
+
+// Types of a caller's own, layouts and trees.
 #[cfg(test)]
-mod indices;
+mod complex;
 #[cfg(test)]
-mod layouts;
+mod data_layouts;
 #[cfg(test)]
-mod reprs;
-#[cfg(test)]
-mod shapes;
+mod seeds;
 #[cfg(test)]
 mod short_lists;
-#[cfg(test)]
-mod small;
-#[cfg(test)]
-mod views;
 
-// Handles and types of a caller's own, and their walks.
-#[cfg(test)]
-mod kinds;
-#[cfg(test)]
-mod trees;
-#[cfg(test)]
-mod typed;
-#[cfg(test)]
-mod uniform;
-
-// Texts, hashes, conventions, and what no line writes.
-#[cfg(test)]
-mod canonical;
+// Texts, and calling conventions.
 #[cfg(test)]
 mod conventions;
-#[cfg(test)]
-mod edges;
 #[cfg(test)]
 mod layout_texts;
 #[cfg(test)]
@@ -44,3 +25,5 @@ mod texts;
 // Programs, with devices that fail.
 #[cfg(test)]
 mod running;
+
+pub use own_types::{OwnMarks, OwnTy, OwnType, keeps_laws, typed_at};

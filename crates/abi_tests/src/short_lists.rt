@@ -6,7 +6,7 @@
 
 ghost use Rattle.abi_base.specs.DataLayout.{IsLawfulDataLayout};
 
-use abi_base::{Align, Integer, Primitive, Size, TargetDataLayout};
+use abi_base::{Integer, Primitive, Size, TargetDataLayout};
 use abi_index::{FieldIdx, IndexVec, RangeSet, VariantIdx};
 use abi_scalar::{FieldsShape, LayoutData, Scalar, WrappingRange};
 use rustc_abi::LayoutCalculator;
@@ -26,78 +26,96 @@ const WORD: Scalar = Scalar::Union {
     value: Primitive::Int(Integer::I32, false),
 };
 
-/// Whether the layout has `bytes` bytes, this alignment, and fields at these offsets.
-fn has(layout: &Layout, bytes: u64, align: Align, wanted: &[Size]) -> bool {
+/// A layout that asks for no memory.
+#[derive(Clone, Copy)]
+enum ShortLayout {
+    /// A truth and a word.
+    Pair,
+    /// A vector of three words.
+    Vector,
+    Unit,
+    /// A variant without values, by the number of its fields.
+    Uninhabited(usize),
+}
+
+/// The layout, if there is one.
+fn layout_of(alloc: Global, dl: &TargetDataLayout, short: ShortLayout) -> Option<Layout>
+    requires { IsLawfulDataLayout dl.now }
+{
+    match short {
+        ShortLayout::Pair => Some(LayoutData::scalar_pair(alloc, &dl, TRUTH, WORD)),
+        ShortLayout::Vector => {
+            let word: Layout = LayoutData::scalar(&dl, WORD);
+            LayoutCalculator::new(dl)
+                .layout_of_simd_type(alloc, &word, 3, false)
+                .ok()
+        }
+        ShortLayout::Unit => Some(LayoutData::unit(alloc, &dl, true)),
+        ShortLayout::Uninhabited(fields) => {
+            let index = VariantIdx::from_u32(2);
+            Some(LayoutData::uninhabited_variant(alloc, &dl, index, fields))
+        }
+    }
+}
+
+/// Whether these are so many bytes each.
+fn are_bytes(offsets: &[Size], wanted: &[u64]) -> bool {
+    if offsets.len() != wanted.len() {
+        return false;
+    }
+    for i in 0..offsets.len() {
+        if offsets[i].bytes() != wanted[i] {
+            return false;
+        }
+    }
+    true
+}
+
+/// Whether the layout has `bytes` bytes, and fields at these offsets, or as many side by side.
+fn has_fields_at(layout: &Layout, bytes: u64, wanted: &[u64]) -> bool {
     match &layout.fields {
         FieldsShape::Arbitrary { offsets, .. } => {
-            offsets.as_slice().as_raw() == wanted
-                && layout.size.bytes() == bytes
-                && layout.align.abi == align
+            layout.size.bytes() == bytes && are_bytes(offsets.as_slice().as_raw(), wanted)
         }
+        FieldsShape::Union(count) => layout.size.bytes() == bytes && count.get() == wanted.len(),
         _ => false,
     }
 }
 
-/// A truth and a word.
-fn pair(alloc: Global, dl: &TargetDataLayout) -> Option<Layout>
+/// Whether there is the layout, and has this.
+fn is_laid_out(
+    alloc: Global,
+    dl: &TargetDataLayout,
+    short: ShortLayout,
+    bytes: u64,
+    offsets: &[u64],
+) -> bool
     requires { IsLawfulDataLayout dl.now }
 {
-    Some(LayoutData::scalar_pair(alloc, &dl, TRUTH, WORD))
-}
-
-/// A vector of three words, if there is one.
-fn vector(alloc: Global, dl: &TargetDataLayout) -> Option<Layout>
-    requires { IsLawfulDataLayout dl.now }
-{
-    let word: Layout = LayoutData::scalar(&dl, WORD);
-    LayoutCalculator::new(dl)
-        .layout_of_simd_type(alloc, &word, 3, false)
-        .ok()
-}
-
-/// Whether there is a layout that has this.
-fn is_laid(made: Option<Layout>, bytes: u64, align: Align, wanted: &[Size]) -> bool {
-    match &made {
-        Some(layout) => has(layout, bytes, align, wanted),
+    match &layout_of(alloc, dl, short) {
+        Some(layout) => has_fields_at(layout, bytes, offsets),
         None => false,
     }
 }
 
-#[test]
-fn pairs_and_vectors_ask_for_no_memory(rt: HostRuntime) -> Result<(), Fail> {
-    let dl = TargetDataLayout::default_in(rt.alloc())?;
-    let offsets = [Size::ZERO, Size::from_bytes(4)];
-    assert!(rt; is_laid(pair(rt.alloc(), &dl), 8, Align::FOUR, &offsets));
-    let sixteen = Align::max_aligned_factor(Size::from_bytes(16));
-    assert!(rt; is_laid(vector(rt.alloc(), &dl), 16, sixteen, &[Size::ZERO]));
-    Ok(())
-}
-
-/// A unit.
-fn unit(alloc: Global, dl: &TargetDataLayout) -> Option<Layout>
-    requires { IsLawfulDataLayout dl.now }
-{
-    Some(LayoutData::unit(alloc, &dl, true))
-}
-
-/// Whether a variant with so many fields and no values is there.
-fn is_absent(alloc: Global, dl: &TargetDataLayout, fields: usize) -> bool
-    requires { IsLawfulDataLayout dl.now }
-{
-    let layout: Layout = LayoutData::uninhabited_variant(
-        alloc,
-        &dl,
-        VariantIdx::from_u32(2),
-        fields,
-    );
-    layout.uninhabited
-}
+/// Layouts, the bytes of each, and where its fields lie.
+static LAYOUTS: [(ShortLayout, u64, &[u64]); 5] = [
+    (ShortLayout::Pair, 8, &[0, 4]),
+    (ShortLayout::Vector, 16, &[0]),
+    (ShortLayout::Unit, 0, &[]),
+    (ShortLayout::Uninhabited(0), 0, &[]),
+    (ShortLayout::Uninhabited(2), 0, &[0, 0]),
+];
 
 #[test]
-fn bare_layouts_and_empty_sets_ask_for_no_memory(rt: HostRuntime) -> Result<(), Fail> {
+fn short_layouts_and_empty_sets_ask_for_no_memory(rt: HostRuntime) -> Result<(), Fail> {
     let dl = TargetDataLayout::default_in(rt.alloc())?;
-    assert!(rt; is_laid(unit(rt.alloc(), &dl), 0, Align::ONE, &[]));
-    assert!(rt; is_absent(rt.alloc(), &dl, 0) && is_absent(rt.alloc(), &dl, 2));
+    for &(short, bytes, offsets) in &LAYOUTS {
+        assert!(rt;
+            is_laid_out(rt.alloc(), &dl, short, bytes, offsets),
+            "{bytes}"
+        );
+    }
     assert!(rt; RangeSet::new(rt.alloc()).as_slice().is_empty());
     Ok(())
 }
@@ -120,38 +138,31 @@ fn are_copied(alloc: Global) -> bool {
         && is_copied(alloc, &list)
 }
 
-/// Whether a list with so much room is there, and takes two items.
-fn takes_two(alloc: Global, room: usize) -> bool {
-    match IndexVec::<FieldIdx, u32>::with_capacity(alloc, room) {
-        Ok(mut list) => list.push(5).is_ok() && list.push(6).is_ok(),
-        Err(AllocError) => false,
-    }
-}
-
-/// Whether a list with room for five items is there, and takes five: one more than a list that grows has room for at
-/// first.
-fn takes_five(alloc: Global) -> bool {
-    match IndexVec::<FieldIdx, u32>::with_capacity(alloc, 5) {
-        Ok(mut list) => {
-            list.push(5).is_ok()
-                && list.push(6).is_ok()
-                && list.push(7).is_ok()
-                && list.push(8).is_ok()
-                && list.push(9).is_ok()
+/// Whether a list with so much room is there, and takes so many items, of at most eight.
+fn takes(alloc: Global, room: usize, items: u32) -> bool {
+    let Ok(mut list) = IndexVec::<FieldIdx, u32>::with_capacity(alloc, room) else {
+        return false;
+    };
+    for item in 0..items {
+        if list.len() >= 8 || list.push(item).is_err() {
+            return false;
         }
-        Err(AllocError) => false,
     }
+    true
 }
 
 #[test]
 fn lists_of_two_ask_for_no_memory(rt: HostRuntime) {
     assert!(rt; are_copied(rt.alloc()));
-    assert!(rt; takes_two(rt.alloc(), 0) && takes_two(rt.alloc(), 1) && takes_two(rt.alloc(), 2));
+    for room in 0..3 {
+        assert!(rt; takes(rt.alloc(), room, 2), "{room}");
+    }
 }
 
+// One more than a list that grows has room for at first.
 #[test]
 fn room_is_asked_for_once(rt: HostRuntime) {
-    assert!(rt; takes_five(rt.alloc()));
+    assert!(rt; takes(rt.alloc(), 5, 5));
 }
 
 /// Whether two items are put without memory, and a third is put behind them or refused, with the two still there.
@@ -168,7 +179,6 @@ fn third_is_put_or_refused(alloc: Global) -> bool {
 }
 
 #[test]
-fn a_third_item_is_put_or_refused(rt: HostRuntime) -> Result<(), Fail> {
+fn a_third_item_is_put_or_refused(rt: HostRuntime) {
     assert!(rt; third_is_put_or_refused(rt.alloc()));
-    Ok(())
 }

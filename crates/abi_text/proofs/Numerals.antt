@@ -55,13 +55,13 @@ decimal_digits n small =
 
 -- a numeral has digits alone
 pub numeral_digits : (bits n : ℕ) (word : List ℕ) → 2 ^ bits ≤ 2 ^ 128 → IsNumeral bits n word → (0 < length word) × (all_ascii_digits word ≡ true)
-numeral_digits bits n word wide h =
+numeral_digits bits n word number_u128 h =
     let d = decimal_digits n (omega arith) in
     (subst (λ w. 0 < length w) (sym h.2) (zeros_some h.1 (decimal n) d.0), subst (λ w. all_ascii_digits w ≡ true) (sym h.2) (zeros_digits h.1 (decimal n) d.1))
 
 -- a numeral reads back where its number is no greater than the greatest one
 numeral_to : (most bits n : ℕ) (word : List ℕ) → 2 ^ bits ≤ 2 ^ 128 → n ≤ most → IsNumeral bits n word → number_to most word ≡ Some n
-numeral_to most bits n word wide small h =
+numeral_to most bits n word number_u128 small h =
     let d = decimal_digits n (omega arith) in
     let fits : nat_le n most ≡ true = le-leb n most small in
     let whole : fitting most (Some n) ≡ Some n = rw fits refl in
@@ -70,7 +70,7 @@ numeral_to most bits n word wide small h =
 
 -- a numeral reads back as its number
 pub numeral_read : (bits n : ℕ) (word : List ℕ) → 2 ^ bits ≤ 2 ^ 128 → IsNumeral bits n word → number_of_bits bits word ≡ Some n
-numeral_read bits n word wide h = numeral_to (2 ^ bits - 1) bits n word wide (omega arith) h
+numeral_read bits n word number_u128 h = numeral_to (2 ^ bits - 1) bits n word number_u128 (omega arith) h
 
 -- a word that begins with a digit is no negative number
 unsigned_read : (word : List ℕ) → 0 < length word → all_ascii_digits word ≡ true → discriminant_in word ≡ number_of_bits 128 word

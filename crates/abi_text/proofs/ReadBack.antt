@@ -71,8 +71,8 @@ digits_plain (c ∷ cs) h =
     rw (digit_plain c p.0) (digits_plain cs p.1)
 
 numeral_word : (bits n : ℕ) (w : List ℕ) → 2 ^ bits ≤ 2 ^ 128 → IsNumeral bits n w → IsWord w
-numeral_word bits n w wide h =
-    let digits = numeral_digits bits n w wide h in
+numeral_word bits n w number_u128 h =
+    let digits = numeral_digits bits n w number_u128 h in
     plain_word w (digits.0, digits_plain w digits.1)
 
 discriminant_word : (d : ℕ) (w : List ℕ) → IsDiscriminant d w → IsWord w

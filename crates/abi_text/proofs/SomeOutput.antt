@@ -24,7 +24,7 @@ use Rattle.rustc_abi.proofs.Trees.SomeAnswer.{some_answer}
 use Rattle.abi_text.specs.declared.fault.Fault.{Fault}
 use Rattle.abi_text.specs.DataLayoutLine.{data_layout_of}
 use Rattle.abi_text.specs.Lines.{first_line, second_line}
-use Rattle.abi_text.specs.Output.{Output, IsOutputOf, IsOutputOfLayout, IsOutputOfTree, IsOutputOfType, IsOutputUnder, output_of_fault, refused, output_of_text, unreadable}
+use Rattle.abi_text.specs.Output.{Output, IsOutputOf, IsOutputOfLayout, IsOutputOfTree, IsOutputOfType, IsOutputUnder, output_of_fault, refusal, output_of_text, unreadable}
 use Rattle.abi_text.specs.Names.{error_name, flaw_name}
 use Rattle.abi_text.specs.Reading.{read}
 use Rattle.abi_text.specs.Words.{words_of}
@@ -96,31 +96,31 @@ abbrev HasOutput : (Output → Type 0) → Type 0
 HasOutput P = (output : Output) × P output
 
 -- where a type has a text that tells of it
-module _ (tells : TargetDataLayout → Placed → List ℕ → Type 0)
-    (some : (dl : TargetDataLayout) (t : Tree) (p : Placed) → IsLawfulDataLayout dl → IsLaying dl t (Ok p) → (text : List ℕ) × tells dl p text) where
-  of_layout : (dl : TargetDataLayout) (t : Tree) (r : Result Placed LayError) → IsLawfulDataLayout dl → IsLaying dl t r → HasOutput (IsOutputOfLayout tells dl r)
+module _ (reports : TargetDataLayout → Placed → List ℕ → Type 0)
+    (some : (dl : TargetDataLayout) (t : Tree) (p : Placed) → IsLawfulDataLayout dl → IsLaying dl t (Ok p) → (text : List ℕ) × reports dl p text) where
+  of_layout : (dl : TargetDataLayout) (t : Tree) (r : Result Placed LayError) → IsLawfulDataLayout dl → IsLaying dl t r → HasOutput (IsOutputOfLayout reports dl r)
   of_layout dl t (Ok p) law laying = let text = some dl t p law laying in (output_of_text text.0, (text.0, text.1, refl))
-  of_layout dl t (Err e) law laying = (refused (error_name e), refl)
+  of_layout dl t (Err e) law laying = (refusal (error_name e), refl)
 
-  tree_if : (dl : TargetDataLayout) (t : Tree) → IsTold (IsLawfulDataLayout dl) → HasOutput (IsOutputOfTree tells dl t)
+  tree_if : (dl : TargetDataLayout) (t : Tree) → IsTold (IsLawfulDataLayout dl) → HasOutput (IsOutputOfTree reports dl t)
   tree_if dl t (inl law) =
       let answer = some_answer dl law t in
       let output = of_layout dl t answer.0 law answer.1 in
       (output.0, record { lawful = λ _. (answer.0, answer.1, output.1); unlawful = λ un. absurd (un law) })
-  tree_if dl t (inr never) = (refused (codes "UnlawfulDataLayout"), record { lawful = λ law. absurd (never law); unlawful = λ _. refl })
+  tree_if dl t (inr never) = (refusal (codes "UnlawfulDataLayout"), record { lawful = λ law. absurd (never law); unlawful = λ _. refl })
 
-  of_type : (dl : TargetDataLayout) (r : Result Tree Fault) → HasOutput (IsOutputOfType tells dl r)
+  of_type : (dl : TargetDataLayout) (r : Result Tree Fault) → HasOutput (IsOutputOfType reports dl r)
   of_type dl (Ok t) = tree_if dl t (is_lawful dl)
   of_type dl (Err fault) = (output_of_fault fault, refl)
 
-  under : (r : Result TargetDataLayout Flaw) (second : List ℕ) → HasOutput (IsOutputUnder tells r second)
+  under : (r : Result TargetDataLayout Flaw) (second : List ℕ) → HasOutput (IsOutputUnder reports r second)
   under (Ok dl) second = of_type dl (read dl (words_of second))
-  under (Err flaw) second = (refused (flaw_name flaw), refl)
+  under (Err flaw) second = (refusal (flaw_name flaw), refl)
 
-  of_lines : (utf8 : Bool) (r : Result TargetDataLayout Flaw) (second : List ℕ) → HasOutput (λ output. MatchBool utf8 (IsOutputUnder tells r second output) (output ≡ unreadable 0))
+  of_lines : (utf8 : Bool) (r : Result TargetDataLayout Flaw) (second : List ℕ) → HasOutput (λ output. MatchBool utf8 (IsOutputUnder reports r second output) (output ≡ unreadable 0))
   of_lines true r second = under r second
   of_lines false r second = (unreadable 0, refl)
 
   -- an input has an output
-  pub some_output : (input : List ℕ) → HasOutput (IsOutputOf tells input)
+  pub some_output : (input : List ℕ) → HasOutput (IsOutputOf reports input)
   some_output input = of_lines (is_utf8 (first_line input) && is_utf8 (second_line input)) (data_layout_of (first_line input)) (second_line input)

@@ -26,13 +26,13 @@ number_some most [] h = absurd (omega arith)
 number_some most (d ∷ ds) h = refl
 
 digit_more : (w : List ℕ) (k n : ℕ) → k < length w → is_ascii_digit (get_or w k 0) ≡ true → digits_from n (drop k w) ≡ digits_from (n * 10 + (get_or w k 0 - 48)) (drop (k + 1) w)
-digit_more w k n short digit = rw (drop_more w k 0 short, digit) refl
+digit_more w k n number_u32 digit = rw (drop_more w k 0 number_u32, digit) refl
 
 -- a number that no longer fits is none
 pub overflows : (most : ℕ) (w : List ℕ) (k n : ℕ) → k < length w → is_ascii_digit (get_or w k 0) ≡ true → fitting most (digits_from n (drop k w)) ≡ fitting most (digits_from 0 w)
     → most < n * 10 + (get_or w k 0 - 48) → number_to most w ≡ None
-overflows most w k n short digit inv large =
-    number_some most w (omega arith) ∙ sym inv ∙ ap (fitting most) (digit_more w k n short digit) ∙ fitting_large most (n * 10 + (get_or w k 0 - 48)) (drop (k + 1) w) large
+overflows most w k n number_u32 digit inv large =
+    number_some most w (omega arith) ∙ sym inv ∙ ap (fitting most) (digit_more w k n number_u32 digit) ∙ fitting_large most (n * 10 + (get_or w k 0 - 48)) (drop (k + 1) w) large
 
 -- a number that has been read whole
 pub number_read : (most : ℕ) (w : List ℕ) (k n : ℕ) → 0 < length w → length w ≤ k → fitting most (digits_from n (drop k w)) ≡ fitting most (digits_from 0 w) → n ≤ most → number_to most w ≡ Some n

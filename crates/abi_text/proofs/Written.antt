@@ -13,7 +13,7 @@ use Rattle.abi_text.specs.declared.reader.begun.ScalarPlace.TheVariants as scala
 use Rattle.abi_text.specs.declared.reader.begun.CoroutineWant.TheVariants as part
 use Rattle.abi_text.specs.declared.reader.begun.OrderWant.TheVariants as order
 use Rattle.abi_text.specs.declared.reader.repr_text.StructRepr.{StructRepr}
-use Rattle.abi_text.specs.Reading.{Begun, State, elements, lanes, fields, ordering, ordered, members, at_index, at_order_repr, variants_so_far, variant, variants_read, coroutine_with, in_prefix, in_locals, between_states, in_state, in_conflicts, at_count, at_lanes, at_repr, at_union_repr, at_enum_repr, at_discriminant, at_local, at_row, at_column, next, put, read, read_from, waiting}
+use Rattle.abi_text.specs.Reading.{Begun, State, elements, lanes, fields, ordering, ordered, members, at_index, at_order_repr, variants_so_far, variant, variants_read, coroutine_with, in_prefix, in_locals, between_states, in_state, in_conflicts, at_count, at_lanes, at_repr, at_union_repr, at_enum_repr, at_discriminant, at_local, at_row, at_column, next, put_type, read, read_from, waiting}
 use Rattle.abi_text.specs.Written.{IsWrittenAs, AreWrittenAs, a_scalar, a_pair, no_value, one_value, an_array, a_vector, a_struct, an_ordered, a_union, an_enum, a_coroutine, no_more, one_more, AreVariantsWrittenAs, no_variant_more, one_variant_more, IsNumeral, IsDiscriminant, not_negative, negative, in_parentheses, AreNumerals, no_number_more, one_number_more, AreStatesWrittenAs, no_state_more, one_state_more, AreConflictsWrittenAs, no_conflict_more, one_conflict_more, nesting, nesting_of_fields, nesting_of_variants, vector_word}
 use Rattle.abi_text.proofs.Numerals.{both, numeral_read, numeral_digits, discriminant_read}
 use Rattle.abi_text.proofs.ScalarsRead.{not_deep, one_word, pair_takes, read_scalar, type_takes}
@@ -36,7 +36,7 @@ variants_listed (more_variants d ts vs) = ap₂ (more_variants d) (trees_in ts) 
 
 -- a struct, a union, a variant, or a coroutine's prefix or its locals, that take a type as their next one
 abbrev TakesMore : (List Tree → Begun) → Type 0
-TakesMore top = (t : Tree) (ts : List Tree) (begun : List Begun) → put t (top ts ∷ begun) ≡ waiting want.Tree (top (ts ++ t ∷ []) ∷ begun)
+TakesMore top = (t : Tree) (ts : List Tree) (begun : List Begun) → put_type t (top ts ∷ begun) ≡ waiting want.Tree (top (ts ++ t ∷ []) ∷ begun)
 
 takes_fields : (asked : StructRepr) → TakesMore (fields asked)
 takes_fields asked t ts begun = refl
@@ -65,8 +65,8 @@ digits_no_end (c ∷ cs) some h =
     rw no refl
 
 numeral_no_end : (bits n : ℕ) (w : List ℕ) → 2 ^ bits ≤ 2 ^ 128 → IsNumeral bits n w → bytes_eq w (codes ")") ≡ false
-numeral_no_end bits n w wide is =
-    let digits = numeral_digits bits n w wide is in
+numeral_no_end bits n w number_u128 is =
+    let digits = numeral_digits bits n w number_u128 is in
     digits_no_end w digits.0 digits.1
 
 discriminant_no_end : (d : ℕ) (w : List ℕ) → IsDiscriminant d w → bytes_eq w (codes ")") ≡ false
@@ -159,7 +159,7 @@ module _ (dl : TargetDataLayout) where
 
   mutual
     read_tree : (t : Tree) (words : List (List ℕ)) → IsWrittenAs dl t words → (begun : List Begun) (number : ℕ) (rest : List (List ℕ)) → length begun + nesting t ≤ 200
-        → read_from dl number (waiting want.Tree begun) (words ++ rest) ≡ read_from dl (number + length words) (put t begun) rest
+        → read_from dl number (waiting want.Tree begun) (words ++ rest) ≡ read_from dl (number + length words) (put_type t begun) rest
     read_tree t words (a_scalar s text is) begun number rest deep =
         read_scalar dl s text is want.Tree scalar_place.Alone begun number rest (type_takes dl begun (omega arith))
     read_tree t words (a_pair a b one two is also) begun number rest deep =
@@ -168,21 +168,21 @@ module _ (dl : TargetDataLayout) where
         ∙ ap (read_from dl (number + 1) (waiting (want.Scalar scalar_place.First) begun)) (append_assoc one two rest)
         ∙ read_scalar dl a one is (want.Scalar scalar_place.First) scalar_place.First begun (number + 1) (two ++ rest) (pair_takes dl scalar_place.First begun)
         ∙ read_scalar dl b two also (want.Scalar (scalar_place.Second a)) (scalar_place.Second a) begun (number + 1 + length one) rest (pair_takes dl (scalar_place.Second a) begun)
-        ∙ ap (λ n. read_from dl n (put (pair a b) begun) rest) there
-    read_tree t words no_value begun number rest deep = one_word dl want.Tree begun number (codes "never") rest (put never begun) (rw (not_deep begun (omega arith)) refl)
-    read_tree t words one_value begun number rest deep = one_word dl want.Tree begun number (codes "unit") rest (put unit begun) (rw (not_deep begun (omega arith)) refl)
+        ∙ ap (λ n. read_from dl n (put_type (pair a b) begun) rest) there
+    read_tree t words no_value begun number rest deep = one_word dl want.Tree begun number (codes "never") rest (put_type never begun) (rw (not_deep begun (omega arith)) refl)
+    read_tree t words one_value begun number rest deep = one_word dl want.Tree begun number (codes "unit") rest (put_type unit begun) (rw (not_deep begun (omega arith)) refl)
     read_tree t words (an_array count text e more said is) begun number rest deep =
         let there : number + 1 + 1 + length more ≡ number + length (codes "array" ∷ text ∷ more) = omega arith in
         one_word dl want.Tree begun number (codes "array") (text ∷ (more ++ rest)) (waiting want.Count begun) (rw (not_deep begun (omega arith)) refl)
         ∙ one_word dl want.Count begun (number + 1) text (more ++ rest) (waiting want.Tree (elements count ∷ begun)) (ap (at_count (number + 1) begun) (numeral_read 64 count text (omega arith) said))
         ∙ read_tree e more is (elements count ∷ begun) (number + 1 + 1) rest (omega arith)
-        ∙ ap (λ n. read_from dl n (put (array count e) begun) rest) there
+        ∙ ap (λ n. read_from dl n (put_type (array count e) begun) rest) there
     read_tree t words (a_vector count packed text e more said is) begun number rest deep =
         let there : number + 1 + 1 + length more ≡ number + length (vector_word packed ∷ text ∷ more) = omega arith in
         one_word dl want.Tree begun number (vector_word packed) (text ∷ (more ++ rest)) (waiting (want.Lanes packed) begun) (vector_at packed begun number (omega arith))
         ∙ one_word dl (want.Lanes packed) begun (number + 1) text (more ++ rest) (waiting want.Tree (lanes count packed ∷ begun)) (ap (at_lanes (number + 1) packed begun) (numeral_read 64 count text (omega arith) said))
         ∙ read_tree e more is (lanes count packed ∷ begun) (number + 1 + 1) rest (omega arith)
-        ∙ ap (λ n. read_from dl n (put (vector count packed e) begun) rest) there
+        ∙ ap (λ n. read_from dl n (put_type (vector count packed e) begun) rest) there
     read_tree t words (a_struct asked text ts more said are) begun number rest deep =
         let there : number + 1 + 1 + 1 + length more + 1 ≡ number + length (codes "struct" ∷ text ∷ codes "(" ∷ (more ++ codes ")" ∷ [])) = omega (arith, length-append more (codes ")" ∷ [])) in
         one_word dl want.Tree begun number (codes "struct") (text ∷ codes "(" ∷ ((more ++ codes ")" ∷ []) ++ rest)) (waiting want.Repr begun) (rw (not_deep begun (omega arith)) refl)
@@ -190,8 +190,8 @@ module _ (dl : TargetDataLayout) where
         ∙ one_word dl (want.Opening asked) begun (number + 1 + 1) (codes "(") ((more ++ codes ")" ∷ []) ++ rest) (waiting want.Tree (fields asked [] ∷ begun)) refl
         ∙ ap (read_from dl (number + 1 + 1 + 1) (waiting want.Tree (fields asked [] ∷ begun))) (append_assoc more (codes ")" ∷ []) rest)
         ∙ read_trees ts more are (fields asked) (takes_fields asked) begun [] (number + 1 + 1 + 1) (codes ")" ∷ rest) deep
-        ∙ one_word dl want.Tree (fields asked (list_in ts) ∷ begun) (number + 1 + 1 + 1 + length more) (codes ")") rest (put (struct asked.repr asked.always_sized None (trees (list_in ts))) begun) refl
-        ∙ ap₂ (λ n ts. read_from dl n (put (struct asked.repr asked.always_sized None ts) begun) rest) there (trees_in ts)
+        ∙ one_word dl want.Tree (fields asked (list_in ts) ∷ begun) (number + 1 + 1 + 1 + length more) (codes ")") rest (put_type (struct asked.repr asked.always_sized None (trees (list_in ts))) begun) refl
+        ∙ ap₂ (λ n ts. read_from dl n (put_type (struct asked.repr asked.always_sized None ts) begun) rest) there (trees_in ts)
     read_tree t words (an_ordered asked text is ts indices more said numbers are) begun number rest deep =
         let there : number + 1 + 1 + length (in_parentheses indices) + length (in_parentheses more) ≡ number + length (codes "ordered" ∷ text ∷ (in_parentheses indices ++ in_parentheses more))
         = omega (arith, length-append (in_parentheses indices) (in_parentheses more)) in
@@ -202,9 +202,9 @@ module _ (dl : TargetDataLayout) where
         (waiting (want.Order order.FieldsOpening) (ordering asked is ∷ begun)) (λ n. refl)
         (read_numerals (want.Order order.Index) (ordering asked) (takes_index asked) is indices numbers [] begun) (λ n. refl) (number + 1 + 1) (in_parentheses more ++ rest)
         ∙ read_between (want.Order order.FieldsOpening) want.Tree (ordering asked is ∷ begun) (ordered asked is [] ∷ begun) (ordered asked is (list_in ts) ∷ begun) more
-        (put (struct asked.repr asked.always_sized (Some is) (trees (list_in ts))) begun) (λ n. refl)
+        (put_type (struct asked.repr asked.always_sized (Some is) (trees (list_in ts))) begun) (λ n. refl)
         (λ n after. read_trees ts more are (ordered asked is) (takes_ordered asked is) begun [] n after deep) (λ n. refl) (number + 1 + 1 + length (in_parentheses indices)) rest
-        ∙ ap₂ (λ n ts. read_from dl n (put (struct asked.repr asked.always_sized (Some is) ts) begun) rest) there (trees_in ts)
+        ∙ ap₂ (λ n ts. read_from dl n (put_type (struct asked.repr asked.always_sized (Some is) ts) begun) rest) there (trees_in ts)
     read_tree t words (a_union repr text ts more said are) begun number rest deep =
         let there : number + 1 + 1 + 1 + length more + 1 ≡ number + length (codes "union" ∷ text ∷ codes "(" ∷ (more ++ codes ")" ∷ [])) = omega (arith, length-append more (codes ")" ∷ [])) in
         one_word dl want.Tree begun number (codes "union") (text ∷ codes "(" ∷ ((more ++ codes ")" ∷ []) ++ rest)) (waiting want.UnionRepr begun) (rw (not_deep begun (omega arith)) refl)
@@ -212,8 +212,8 @@ module _ (dl : TargetDataLayout) where
         ∙ one_word dl (want.UnionOpening repr) begun (number + 1 + 1) (codes "(") ((more ++ codes ")" ∷ []) ++ rest) (waiting want.Tree (members repr [] ∷ begun)) refl
         ∙ ap (read_from dl (number + 1 + 1 + 1) (waiting want.Tree (members repr [] ∷ begun))) (append_assoc more (codes ")" ∷ []) rest)
         ∙ read_trees ts more are (members repr) (takes_members repr) begun [] (number + 1 + 1 + 1) (codes ")" ∷ rest) deep
-        ∙ one_word dl want.Tree (members repr (list_in ts) ∷ begun) (number + 1 + 1 + 1 + length more) (codes ")") rest (put (union repr (trees (list_in ts))) begun) refl
-        ∙ ap₂ (λ n ts. read_from dl n (put (union repr ts) begun) rest) there (trees_in ts)
+        ∙ one_word dl want.Tree (members repr (list_in ts) ∷ begun) (number + 1 + 1 + 1 + length more) (codes ")") rest (put_type (union repr (trees (list_in ts))) begun) refl
+        ∙ ap₂ (λ n ts. read_from dl n (put_type (union repr ts) begun) rest) there (trees_in ts)
     read_tree t words (an_enum repr text vs more said are) begun number rest deep =
         let there : number + 1 + 1 + 1 + length more + 1 ≡ number + length (codes "enum" ∷ text ∷ codes "(" ∷ (more ++ codes ")" ∷ [])) = omega (arith, length-append more (codes ")" ∷ [])) in
         one_word dl want.Tree begun number (codes "enum") (text ∷ codes "(" ∷ ((more ++ codes ")" ∷ []) ++ rest)) (waiting want.EnumRepr begun) (rw (not_deep begun (omega arith)) refl)
@@ -221,8 +221,8 @@ module _ (dl : TargetDataLayout) where
         ∙ one_word dl (want.EnumOpening repr) begun (number + 1 + 1) (codes "(") ((more ++ codes ")" ∷ []) ++ rest) (waiting want.Discriminant (variants_so_far repr [] ∷ begun)) refl
         ∙ ap (read_from dl (number + 1 + 1 + 1) (waiting want.Discriminant (variants_so_far repr [] ∷ begun))) (append_assoc more (codes ")" ∷ []) rest)
         ∙ read_variants vs more are repr begun [] (number + 1 + 1 + 1) (codes ")" ∷ rest) deep
-        ∙ one_word dl want.Discriminant (variants_so_far repr (variant_list vs) ∷ begun) (number + 1 + 1 + 1 + length more) (codes ")") rest (put (enum repr (variants_read (variant_list vs))) begun) refl
-        ∙ ap₂ (λ n us. read_from dl n (put (enum repr us) begun) rest) there (variants_listed vs)
+        ∙ one_word dl want.Discriminant (variants_so_far repr (variant_list vs) ∷ begun) (number + 1 + 1 + 1 + length more) (codes ")") rest (put_type (enum repr (variants_read (variant_list vs))) begun) refl
+        ∙ ap₂ (λ n us. read_from dl n (put_type (enum repr us) begun) rest) there (variants_listed vs)
     read_tree t words (a_coroutine ps ls ss cs prefix locals states conflicts first_types then_types then_states then_conflicts) begun number rest deep =
         let ps_read = list_in ps in
         let ls_read = list_in ls in
@@ -249,11 +249,11 @@ module _ (dl : TargetDataLayout) where
         (number + 1 + length (in_parentheses prefix) + length (in_parentheses locals)) last
         ∙ read_between (want.Coroutine part.ConflictsOpening) (want.Coroutine part.Row) (coroutine_with (in_conflicts ps_read ls_read ss []) ∷ begun) (coroutine_with (in_conflicts ps_read ls_read ss []) ∷ begun)
         (coroutine_with (in_conflicts ps_read ls_read ss cs) ∷ begun) conflicts
-        (put (coroutine (trees ps_read) (trees ls_read) ss cs) begun) (λ n. refl)
+        (put_type (coroutine (trees ps_read) (trees ls_read) ss cs) begun) (λ n. refl)
         (read_conflicts cs conflicts then_conflicts ps_read ls_read ss [] begun) (λ n. refl)
         (number + 1 + length (in_parentheses prefix) + length (in_parentheses locals) + length (in_parentheses states)) rest
-        ∙ ap₂ (λ ps ls. read_from dl (number + 1 + length (in_parentheses prefix) + length (in_parentheses locals) + length (in_parentheses states) + length (in_parentheses conflicts)) (put (coroutine ps ls ss cs) begun) rest) (trees_in ps) (trees_in ls)
-        ∙ ap (λ n. read_from dl n (put (coroutine ps ls ss cs) begun) rest) there
+        ∙ ap₂ (λ ps ls. read_from dl (number + 1 + length (in_parentheses prefix) + length (in_parentheses locals) + length (in_parentheses states) + length (in_parentheses conflicts)) (put_type (coroutine ps ls ss cs) begun) rest) (trees_in ps) (trees_in ls)
+        ∙ ap (λ n. read_from dl n (put_type (coroutine ps ls ss cs) begun) rest) there
 
     read_trees : (ts : Trees) (words : List (List ℕ)) → AreWrittenAs dl ts words → (top : List Tree → Begun) → TakesMore top → (begun : List Begun) (done : List Tree) (number : ℕ) (rest : List (List ℕ))
         → length begun + nesting_of_fields ts ≤ 200

@@ -19,4 +19,4 @@ pub mod Written
 pub mod Lines
 pub mod Output
 pub mod LaidOut
-pub mod Telling
+pub mod Report

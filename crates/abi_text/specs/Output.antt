@@ -26,8 +26,8 @@ pub record Output : Type 0 where
   pub status : ℕ
 
 -- a type that has no layout, or an input that can't be read
-abbrev pub refused : (name : List ℕ) → Output
-refused name = record { text = codes "refused " ++ name ++ codes "\n"; status = 1 }
+abbrev pub refusal : (name : List ℕ) → Output
+refusal name = record { text = codes "refused " ++ name ++ codes "\n"; status = 1 }
 
 -- a text whose word of this number doesn't fit
 abbrev pub unreadable : (number : ℕ) → Output
@@ -35,12 +35,12 @@ unreadable number = record { text = codes "unreadable word " ++ decimal number +
 
 -- the output where memory is wanting
 abbrev pub out_of_memory : Output
-out_of_memory = refused (codes "OutOfMemory")
+out_of_memory = refusal (codes "OutOfMemory")
 
 -- the output for a text that can't be read
 abbrev pub output_of_fault : Fault → Output
 output_of_fault (Unreadable number) = unreadable number
-output_of_fault TooDeep = refused (codes "TooDeep")
+output_of_fault TooDeep = refusal (codes "TooDeep")
 output_of_fault OutOfMemory = out_of_memory
 
 -- a text that tells of a type
@@ -48,35 +48,35 @@ abbrev pub output_of_text : (text : List ℕ) → Output
 output_of_text text = record { text = text; status = 0 }
 
 -- the output for a type's layout, or for its first fault
-abbrev pub IsOutputOfLayout : (tells : TargetDataLayout → Placed → List ℕ → Type 0) → TargetDataLayout → Result Placed LayError → Output → Type 0
-IsOutputOfLayout tells dl (Ok placed) output = (text : List ℕ) × tells dl placed text × (output ≡ output_of_text text)
-IsOutputOfLayout tells dl (Err error) output = output ≡ refused (error_name error)
+abbrev pub IsOutputOfLayout : (reports : TargetDataLayout → Placed → List ℕ → Type 0) → TargetDataLayout → Result Placed LayError → Output → Type 0
+IsOutputOfLayout reports dl (Ok placed) output = (text : List ℕ) × reports dl placed text × (output ≡ output_of_text text)
+IsOutputOfLayout reports dl (Err error) output = output ≡ refusal (error_name error)
 
 -- the output for a type under a data layout: where the data layout is lawful, that for its layout or its first fault
-pub record IsOutputOfTree (tells : TargetDataLayout → Placed → List ℕ → Type 0) (dl : TargetDataLayout) (tree : Tree) (output : Output) : Type 0 where
-  pub lawful : IsLawfulDataLayout dl → (r : Result Placed LayError) × IsLaying dl tree r × IsOutputOfLayout tells dl r output
-  pub unlawful : (IsLawfulDataLayout dl → ⊥) → output ≡ refused (codes "UnlawfulDataLayout")
+pub record IsOutputOfTree (reports : TargetDataLayout → Placed → List ℕ → Type 0) (dl : TargetDataLayout) (tree : Tree) (output : Output) : Type 0 where
+  pub lawful : IsLawfulDataLayout dl → (r : Result Placed LayError) × IsLaying dl tree r × IsOutputOfLayout reports dl r output
+  pub unlawful : (IsLawfulDataLayout dl → ⊥) → output ≡ refusal (codes "UnlawfulDataLayout")
 
 -- the output for a type that was read, or for the fault of its text
-abbrev pub IsOutputOfType : (tells : TargetDataLayout → Placed → List ℕ → Type 0) → TargetDataLayout → Result Tree Fault → Output → Type 0
-IsOutputOfType tells dl (Ok tree) output = IsOutputOfTree tells dl tree output
-IsOutputOfType tells dl (Err fault) output = output ≡ output_of_fault fault
+abbrev pub IsOutputOfType : (reports : TargetDataLayout → Placed → List ℕ → Type 0) → TargetDataLayout → Result Tree Fault → Output → Type 0
+IsOutputOfType reports dl (Ok tree) output = IsOutputOfTree reports dl tree output
+IsOutputOfType reports dl (Err fault) output = output ≡ output_of_fault fault
 
 -- the output for the line of a type, under a data layout or its fault
-abbrev pub IsOutputUnder : (tells : TargetDataLayout → Placed → List ℕ → Type 0) → Result TargetDataLayout Flaw → (second : List ℕ) → Output → Type 0
-IsOutputUnder tells (Ok dl) second output = IsOutputOfType tells dl (read dl (words_of second)) output
-IsOutputUnder tells (Err flaw) second output = output ≡ refused (flaw_name flaw)
+abbrev pub IsOutputUnder : (reports : TargetDataLayout → Placed → List ℕ → Type 0) → Result TargetDataLayout Flaw → (second : List ℕ) → Output → Type 0
+IsOutputUnder reports (Ok dl) second output = IsOutputOfType reports dl (read dl (words_of second)) output
+IsOutputUnder reports (Err flaw) second output = output ≡ refusal (flaw_name flaw)
 
 -- the output for the first two lines, a data layout and a type
-abbrev pub IsOutputOfLines : (tells : TargetDataLayout → Placed → List ℕ → Type 0) → (first second : List ℕ) → Output → Type 0
-IsOutputOfLines tells first second output =
+abbrev pub IsOutputOfLines : (reports : TargetDataLayout → Placed → List ℕ → Type 0) → (first second : List ℕ) → Output → Type 0
+IsOutputOfLines reports first second output =
     MatchBool (is_utf8 first && is_utf8 second)
-    (IsOutputUnder tells (data_layout_of first) second output)
+    (IsOutputUnder reports (data_layout_of first) second output)
     (output ≡ unreadable 0)
 
 -- the output for an input
-abbrev pub IsOutputOf : (tells : TargetDataLayout → Placed → List ℕ → Type 0) → List ℕ → Output → Type 0
-IsOutputOf tells input output = IsOutputOfLines tells (first_line input) (second_line input) output
+abbrev pub IsOutputOf : (reports : TargetDataLayout → Placed → List ℕ → Type 0) → List ℕ → Output → Type 0
+IsOutputOf reports input output = IsOutputOfLines reports (first_line input) (second_line input) output
 
 -- the text was written whole behind what was there, and the status is the one given; or writing failed: only a beginning
 -- of the text was written, and the status is 1
@@ -92,7 +92,7 @@ SentOutput old new output status = Sent old new output.text output.status status
 abbrev pub Answered : (old new : Option (List ℕ)) → (Output → Type 0) → (status : ℕ) → Type 0
 Answered old new P status =
     ((output : Output) × P output × SentOutput old new output status)
-    ⊎ (SentOutput old new out_of_memory status ⊎ SentOutput old new (refused (codes "Input")) status)
+    ⊎ (SentOutput old new out_of_memory status ⊎ SentOutput old new (refusal (codes "Input")) status)
 
 -- an answer, as the definitions see it
 abbrev pub answered_by : Answer → Output

@@ -103,17 +103,17 @@ with_member t (coroutine_with parts) = coroutine_with (with_type t parts)
 with_member t begun = begun
 
 -- a complete type goes into the innermost type that is begun, and completes it where that is an array or a vector
-abbrev pub put : Tree → List Begun → State
-put t [] = record { want = want.End; begun = []; tree = Some t }
-put t (elements n ∷ begun) = put (array n t) begun
-put t (lanes n packed ∷ begun) = put (vector n packed t) begun
-put t (b ∷ begun) = waiting want.Tree (with_member t b ∷ begun)
+abbrev pub put_type : Tree → List Begun → State
+put_type t [] = record { want = want.End; begun = []; tree = Some t }
+put_type t (elements n ∷ begun) = put_type (array n t) begun
+put_type t (lanes n packed ∷ begun) = put_type (vector n packed t) begun
+put_type t (b ∷ begun) = waiting want.Tree (with_member t b ∷ begun)
 
 -- a complete scalar is a type, or goes into its pair
 abbrev pub put_scalar : Scalar → ScalarPlace → List Begun → State
-put_scalar s scalar_place.Alone begun = put (scalar s) begun
+put_scalar s scalar_place.Alone begun = put_type (scalar s) begun
 put_scalar s scalar_place.First begun = waiting (want.Scalar (scalar_place.Second s)) begun
-put_scalar s (scalar_place.Second a) begun = put (pair a s) begun
+put_scalar s (scalar_place.Second a) begun = put_type (pair a s) begun
 
 -- the variants of a list
 abbrev pub variants_read : List (ℕ × List Tree) → Variants
@@ -126,16 +126,16 @@ part_closed (in_prefix ps) begun = waiting (want.Coroutine part.TypesOpening) (c
 part_closed (in_locals ps ls) begun = waiting (want.Coroutine part.StatesOpening) (coroutine_with (between_states ps ls []) ∷ begun)
 part_closed (between_states ps ls ss) begun = waiting (want.Coroutine part.ConflictsOpening) (coroutine_with (in_conflicts ps ls ss []) ∷ begun)
 part_closed (in_state ps ls ss s) begun = waiting (want.Coroutine part.State) (coroutine_with (between_states ps ls (ss ++ s ∷ [])) ∷ begun)
-part_closed (in_conflicts ps ls ss cs) begun = put (coroutine (trees ps) (trees ls) ss cs) begun
+part_closed (in_conflicts ps ls ss cs) begun = put_type (coroutine (trees ps) (trees ls) ss cs) begun
 
 -- a closing parenthesis completes a struct, a union, an enum or a variant of one, or ends an order or a part of a coroutine
 abbrev pub closed : (number : ℕ) → List Begun → Result State Fault
-closed number (fields asked ts ∷ begun) = Ok (put (struct asked.repr asked.always_sized None (trees ts)) begun)
+closed number (fields asked ts ∷ begun) = Ok (put_type (struct asked.repr asked.always_sized None (trees ts)) begun)
 closed number (ordering asked is ∷ begun) = Ok (waiting (want.Order order.FieldsOpening) (ordering asked is ∷ begun))
-closed number (ordered asked is ts ∷ begun) = Ok (put (struct asked.repr asked.always_sized (Some is) (trees ts)) begun)
-closed number (members repr ts ∷ begun) = Ok (put (union repr (trees ts)) begun)
+closed number (ordered asked is ts ∷ begun) = Ok (put_type (struct asked.repr asked.always_sized (Some is) (trees ts)) begun)
+closed number (members repr ts ∷ begun) = Ok (put_type (union repr (trees ts)) begun)
 closed number (variant repr vs d ts ∷ begun) = Ok (waiting want.Discriminant (variants_so_far repr (vs ++ (d, ts) ∷ []) ∷ begun))
-closed number (variants_so_far repr vs ∷ begun) = Ok (put (enum repr (variants_read vs)) begun)
+closed number (variants_so_far repr vs ∷ begun) = Ok (put_type (enum repr (variants_read vs)) begun)
 closed number (coroutine_with parts ∷ begun) = Ok (part_closed parts begun)
 closed number _ = Err (Unreadable number)
 
@@ -313,8 +313,8 @@ module _ (dl : TargetDataLayout) where
   abbrev pub begin : List Begun → TypeWord → State
   begin begun (type.Scalar w) = begin_scalar form.Full scalar_place.Alone begun w
   begin begun type.Pair = waiting (want.Scalar scalar_place.First) begun
-  begin begun type.Never = put never begun
-  begin begun type.Unit = put unit begun
+  begin begun type.Never = put_type never begun
+  begin begun type.Unit = put_type unit begun
   begin begun type.Array = waiting want.Count begun
   begin begun (type.Vector packed) = waiting (want.Lanes packed) begun
   begin begun type.Struct = waiting want.Repr begun

@@ -22,16 +22,16 @@ mod print_variants;
 
 // The answer to an input, and programs over any reader and writer.
 mod answers;
+mod report;
 mod running;
-mod telling;
 
 pub use answers::{Answer, answer_input};
 pub use data_layout::read_data_layout;
 pub use fault::Fault;
 pub use layout_text::{LayoutText, run_layout};
 pub use names::{data_layout_error_name, error_name};
-pub use number::{decimal, discriminant, short, wide};
-pub use pieces::cut;
+pub use number::{decimal, discriminant, number_u32, number_u128};
+pub use pieces::split_at_byte;
 pub use print::{
     write_niche, write_padding, write_primitive, write_ranges, write_size, write_type,
     write_uninhabited,
@@ -39,6 +39,6 @@ pub use print::{
 pub use print_variants::{listed_unused, runs_of, write_scalar};
 pub use reader::read_type;
 pub use reader::repr_text::{StructRepr, struct_repr};
+pub use report::Report;
 pub use running::run;
-pub use telling::Telling;
 pub use words::next_word;

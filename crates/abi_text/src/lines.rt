@@ -3,7 +3,7 @@
 ghost use Rattle.std.specs.Prelude.{◌≡◌};
 ghost use Rattle.abi_text.specs.Lines.{first_line, second_line, without_return};
 
-use crate::pieces::cut;
+use crate::pieces::split_at_byte;
 
 fn without_return(line: &[u8]) -> &[u8]
     ensures { result.now ≡ without_return line.now }
@@ -19,7 +19,7 @@ pub(crate) fn two_lines(text: &[u8]) -> (&[u8], &[u8])
     ensures first { result.0.now ≡ first_line text.now }
     ensures second { result.1.now ≡ second_line text.now }
 {
-    let (first, rest) = cut(text, b'\n');
-    let (second, _) = cut(rest.unwrap_or(&[]), b'\n');
+    let (first, rest) = split_at_byte(text, b'\n');
+    let (second, _) = split_at_byte(rest.unwrap_or(&[]), b'\n');
     (without_return(first), without_return(second))
 }

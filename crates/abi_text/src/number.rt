@@ -30,7 +30,7 @@ fn number_to(word: &[u8], most: u128) -> Option<u128>
 }
 
 /// The number of 128 bits that a word is: decimal digits without a sign. None where it is something else, or greater.
-pub fn wide(word: &[u8]) -> Option<u128>
+pub fn number_u128(word: &[u8]) -> Option<u128>
     ensures { result ≡ number_of_bits 128 word.now }
 {
     number_to(word, u128::MAX)
@@ -53,7 +53,7 @@ pub fn discriminant(word: &[u8]) -> Option<u128>
 {
     match word.split_first() {
         Some((b'-', digits)) => negated(number_to(digits, 1 << 127)?),
-        _ => wide(word),
+        _ => number_u128(word),
     }
 }
 
@@ -65,7 +65,7 @@ pub fn decimal(word: &[u8]) -> Option<u64>
 }
 
 /// The number of 32 bits that a word is: decimal digits without a sign. None where it is something else, or greater.
-pub fn short(word: &[u8]) -> Option<u32>
+pub fn number_u32(word: &[u8]) -> Option<u32>
     ensures { result ≡ number_of_bits 32 word.now }
 {
     Some(number_to(word, u128::from(u32::MAX))? as u32)

@@ -21,7 +21,7 @@ ghost use Rattle.abi_text.specs.Written.{IsLineOf, IsWrittenAs, nesting};
 
 use crate::fault::Fault;
 use crate::number::{decimal, discriminant};
-use crate::reader::begun::{Open, OrderWant, Reader, ScalarForm, ScalarPlace, Want, put};
+use crate::reader::begun::{Open, OrderWant, Reader, ScalarForm, ScalarPlace, Want, put_type};
 use crate::reader::close::close;
 use crate::reader::read_coroutine::{open_coroutine, read_coroutine_word};
 use crate::reader::read_order::read_order_word;
@@ -69,8 +69,8 @@ fn read_type_word(
             reader.want = Want::Scalar(ScalarPlace::First);
             Ok(())
         }
-        TypeWord::Never => put(alloc, TypeTree::Never, reader),
-        TypeWord::Unit => put(alloc, TypeTree::Unit, reader),
+        TypeWord::Never => put_type(alloc, TypeTree::Never, reader),
+        TypeWord::Unit => put_type(alloc, TypeTree::Unit, reader),
         TypeWord::Array => {
             reader.want = Want::Count;
             Ok(())

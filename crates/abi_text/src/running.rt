@@ -5,7 +5,7 @@ ghost use Rattle.std.specs.Io.KnownBytes.{Appends, Keeps};
 ghost use Rattle.abi_text.specs.Output.{Answered, Sent, IsOutputOf};
 
 use crate::answers::answer_input;
-use crate::telling::Telling;
+use crate::report::Report;
 use std::alloc::Global;
 use std::io::{ErrorKind, Read, Write};
 
@@ -49,9 +49,9 @@ fn send<W: Write>(output: &mut W, text: &[u8], status: u8) -> u8
 /// The input's first line is a data layout string, its second a type. All of the answer is made before any of it is
 /// written. Where reading fails it is `refused Input`, where memory is wanting `refused OutOfMemory`; where writing
 /// fails the status is 1, and nothing more is written.
-pub fn run<T: Telling, R: Read, W: Write>(alloc: Global, input: &mut R, output: &mut W) -> u8
+pub fn run<T: Report, R: Read, W: Write>(alloc: Global, input: &mut R, output: &mut W) -> u8
     ensures { IfSome (R.remaining input.old) (λ all.
-        Answered (W.contents output.old) (W.contents output.new) (IsOutputOf T.tells all) result) }
+        Answered (W.contents output.old) (W.contents output.new) (IsOutputOf T.reports all) result) }
 {
     let mut text = Vec::new(alloc);
     match input.read_to_end(&mut text) {

@@ -13,7 +13,7 @@ fn is_plain(byte: u8) -> bool
 fn after_spaces(line: &[u8]) -> &[u8]
     ensures same { words_of result.now ≡ words_of line.now }
     ensures begins { slice_index result.now 0 ≢ 32 }
-    ensures short { length result.now ≤ length line.now }
+    ensures number_u32 { length result.now ≤ length line.now }
 {
     for (index, byte) in line.iter().enumerate() {
         if *byte != b' ' {

@@ -8,12 +8,12 @@ use Rattle.abi_calc.specs.Enums.Several.{IsLawfulTag}
 use Rattle.abi_index.specs.Relation.{column_count, row_count}
 use Rattle.abi_scalar.specs.Lawful.{IsLawfulLayout}
 use Rattle.rustc_abi.specs.Coroutines.{IsHeld}
-use Rattle.bench.specs.declared.coroutines.Coroutine.{Coroutine}
-use Rattle.bench.specs.declared.enums.Enum.{Enum}
+use Rattle.bench.specs.declared.calculator.TimedCoroutine.{TimedCoroutine}
+use Rattle.bench.specs.declared.calculator.TimedEnum.{TimedEnum}
 
 -- What is asked of an enum: each variant has one discriminant, in order, and those of the variants that may have values differ by
 -- the integer of the tag.
-pub record IsLawfulEnum (e : Enum) : Type 0 where
+pub record IsLawfulEnum (e : TimedEnum) : Type 0 where
   pub data_layout : IsLawfulDataLayout e.dl.now
   pub fields : All (All (λ f. IsLawfulLayout e.dl.now f.now)) e.variants.items
   pub aligns : HasLawfulAligns e.repr
@@ -22,7 +22,7 @@ pub record IsLawfulEnum (e : Enum) : Type 0 where
   pub tag : IsLawfulTag e.dl.now e.repr (inhabited_of (λ i. i) (map (map (λ f. f.now)) e.variants.items) e.discriminants.items) e.tag
 
 -- What is asked of a coroutine: it has states, each holds some of its locals, and the conflicts are between these.
-pub record IsLawfulCoroutine (c : Coroutine) : Type 0 where
+pub record IsLawfulCoroutine (c : TimedCoroutine) : Type 0 where
   pub data_layout : IsLawfulDataLayout c.dl.now
   pub prefix : IsLawfulLayout c.dl.now c.prefix.now
   pub fields : All (λ f. IsLawfulLayout c.dl.now f.now) c.locals

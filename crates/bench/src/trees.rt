@@ -1,33 +1,26 @@
-//! Trees of types.
+//! Trees of types, and walks over types that were laid out: their padding, what a variant leaves unused, and the register
+//! they are passed in.
 
 ghost use Rattle.std.specs.Prelude.{⊤};
+ghost use Rattle.abi_tree.specs.Handles.{IsHandle};
 
-use crate::leaves::scalar;
-use crate::numbers::Numbers;
-use crate::timing::{Timed, time};
-use crate::wanted::asks_for;
+use crate::inputs::{Numbers, scalar};
+use crate::report::{Call, Line, Outcome, Timed, time};
 use abi_base::TargetDataLayout;
-use abi_scalar::ReprOptions;
-use rustc_abi::{TypeTree, lay_out};
+use abi_index::VariantIdx;
+use abi_scalar::{ReprOptions, Variants};
+use abi_tree::Laid;
+use abi_types::{HomogeneousAggregate, TyAndLayout};
+use rustc_abi::{TreeTy, TypeTree, lay_out};
 use std::alloc::{AllocError, Global};
-use std::io;
 
-/// How many nodes the wide tree has.
-pub(crate) const NODES: u64 = 100_000;
-
-/// How many structs it has side by side: of nine nodes each, below the one that holds them.
-const STRUCTS: u64 = (NODES - 1) / 9;
-
-/// How deep structs are nested in the deep tree.
-const DEPTH: u64 = 200;
-
-/// A scalar at random.
-fn leaf(numbers: &mut Numbers) -> TypeTree {
-    TypeTree::Scalar(scalar(numbers.below(5)))
+/// A scalar, by its place among the leaves.
+fn leaf(place: u64) -> TypeTree {
+    TypeTree::Scalar(scalar(place))
 }
 
 /// A struct of these fields.
-pub(crate) fn structure(fields: Vec<TypeTree>) -> TypeTree {
+fn struct_of(fields: Vec<TypeTree>) -> TypeTree {
     TypeTree::Struct {
         repr: ReprOptions::default(),
         always_sized: true,
@@ -36,73 +29,162 @@ pub(crate) fn structure(fields: Vec<TypeTree>) -> TypeTree {
 }
 
 /// A struct of eight scalars.
-fn of_eight(alloc: Global, numbers: &mut Numbers) -> Result<TypeTree, AllocError> {
+fn struct_of_eight(alloc: Global, numbers: &mut Numbers) -> Result<TypeTree, AllocError> {
     let mut fields = Vec::with_capacity(alloc, 8)?;
     for _step in 0..8 {
-        fields.push(leaf(numbers))?;
+        fields.push(leaf(numbers.below(5)))?;
     }
-    Ok(structure(fields))
+    Ok(struct_of(fields))
 }
 
-/// A struct of structs of eight scalars.
-pub(crate) fn wide(alloc: Global) -> Result<TypeTree, AllocError> {
-    let mut numbers = Numbers::from(11);
+/// A struct of structs of eight scalars, of `nodes` nodes in all, or some less.
+pub(crate) fn wide_tree(alloc: Global, nodes: u64) -> Result<TypeTree, AllocError> {
+    let mut numbers = Numbers(11);
     let mut fields = Vec::new(alloc);
-    for _step in 0..STRUCTS {
-        fields.push(of_eight(alloc, &mut numbers)?)?;
+    for _step in 0..nodes.saturating_sub(1) / 9 {
+        fields.push(struct_of_eight(alloc, &mut numbers)?)?;
     }
-    Ok(structure(fields))
+    Ok(struct_of(fields))
 }
 
-/// Structs of a scalar and the struct within, each in the next.
-fn deep(alloc: Global) -> Result<TypeTree, AllocError> {
-    let mut numbers = Numbers::from(13);
-    let mut tree = leaf(&mut numbers);
-    for _step in 0..DEPTH {
+/// `depth` structs of a scalar and the struct within, each in the next.
+pub(crate) fn deep_tree(alloc: Global, depth: u64) -> Result<TypeTree, AllocError> {
+    let mut numbers = Numbers(13);
+    let mut tree = leaf(numbers.below(5));
+    for _step in 0..depth {
         let mut fields = Vec::with_capacity(alloc, 2)?;
-        fields.push(leaf(&mut numbers))?;
+        fields.push(leaf(numbers.below(5)))?;
         fields.push(tree)?;
-        tree = structure(fields);
+        tree = struct_of(fields);
     }
     Ok(tree)
 }
 
-/// A type under a data layout.
-#[derive(Drop)]
-struct Type<'a> {
-    dl: &'a TargetDataLayout,
-    tree: TypeTree,
+/// A struct of `count` fields, each a `u64`.
+pub(crate) fn struct_of_words(alloc: Global, count: u64) -> Result<TypeTree, AllocError> {
+    let mut fields = Vec::new(alloc);
+    for _step in 0..count {
+        fields.push(leaf(4))?;
+    }
+    Ok(struct_of(fields))
 }
 
-impl Timed for Type<'_> {
+/// An enum of `count` variants, each of a `u64`, or of a `u16` and a `u8`, in turn.
+pub(crate) fn enum_in_turn(alloc: Global, count: u64) -> Result<TypeTree, AllocError> {
+    let mut variants = Vec::new(alloc);
+    for step in 0..count {
+        let fields = if step % 2 == 0 {
+            vec![in alloc; leaf(4)]?
+        } else {
+            vec![in alloc; leaf(2), leaf(0)]?
+        };
+        variants.push((u128::from(step), fields))?;
+    }
+    let repr = ReprOptions::default();
+    Ok(TypeTree::Enum { repr, variants })
+}
+
+/// The size of a type that is laid out, 0 where it is refused.
+fn size_of_tree(alloc: Global, dl: &TargetDataLayout, tree: &TypeTree) -> u64 {
+    match lay_out(alloc, dl, tree) {
+        Ok(laid) => laid.layout().size.bytes(),
+        Err(_) => 0,
+    }
+}
+
+/// A type with its layout.
+type Handle<'a> = TyAndLayout<'a, TreeTy<'a>>;
+
+/// How many runs of padding a type has, 0 where its size isn't known.
+fn padding_of(alloc: Global, root: Handle<'_>) -> u64
+    requires { IsHandle root }
+{
+    if root.data().is_unsized() {
+        return 0;
+    }
+    match root.variant_independent_padding_ranges(alloc, &()) {
+        Ok(runs) => runs.as_slice().len() as u64,
+        Err(_) => 0,
+    }
+}
+
+/// How many runs the variant at index 1 leaves to others, 0 where it is none.
+fn unused_of(alloc: Global, root: Handle<'_>) -> u64
+    requires { IsHandle root }
+{
+    let Variants::Multiple { variants, .. } = &root.data().variants else {
+        return 0;
+    };
+    if variants.len() < 2 {
+        return 0;
+    }
+    match root.variant_dependent_padding_ranges(alloc, &(), VariantIdx::from_u32(1)) {
+        Ok(runs) => runs.as_slice().len() as u64,
+        Err(_) => 0,
+    }
+}
+
+/// The size of the registers that a type is passed in, 0 where they aren't all of one kind and size.
+fn register_of(root: Handle<'_>) -> u64
+    requires { IsHandle root }
+{
+    match root.homogeneous_aggregate(&()) {
+        Ok(HomogeneousAggregate::Homogeneous(register)) => register.size.bytes(),
+        _ => 0,
+    }
+}
+
+/// How many runs of padding the nodes of a type list, 0 where memory is refused.
+fn node_padding_of(alloc: Global, laid: &Laid) -> u64 {
+    match laid.padding(alloc) {
+        Ok((runs, _visits)) => runs.as_slice().len() as u64,
+        Err(_) => 0,
+    }
+}
+
+/// A type under a data layout, which was laid out for a walk over it: its padding, by its nodes or by its handle, what its
+/// second variant leaves unused, or the register that it is passed in.
+#[derive(Drop)]
+struct TimedTree<'a> {
+    dl: &'a TargetDataLayout,
+    tree: TypeTree,
+    laid: Option<Laid>,
+    call: Call,
+}
+
+impl Timed for TimedTree<'_> {
     ghost is_ready = { λ _. ⊤ };
 
-    fn made(&self, alloc: Global) -> u64 {
-        match lay_out(alloc, self.dl, &self.tree) {
-            Ok(laid) => laid.layout().size.bytes(),
-            Err(_) => 0,
+    fn answer(&self, alloc: Global) -> u64 {
+        let Some(laid) = &self.laid else {
+            return size_of_tree(alloc, self.dl, &self.tree);
+        };
+        match self.call {
+            Call::NodePadding => node_padding_of(alloc, laid),
+            Call::HandlePadding => padding_of(alloc, laid.root()),
+            Call::UnusedBytes => unused_of(alloc, laid.root()),
+            _ => register_of(laid.root()),
         }
     }
 }
 
-/// Times the layout of a tree with `size` nodes, or of that depth.
-fn time_tree(
+/// Times the layout of a tree, or a walk over it.
+pub(crate) fn time_tree(
     rt: &HostRuntime,
     dl: &TargetDataLayout,
-    name: &str,
-    size: u64,
+    line: Line,
+    call: Call,
     tree: TypeTree,
-) -> io::Result<()> {
-    time(rt, name, size, &Type { dl, tree })
-}
-
-/// Times whole trees.
-pub(crate) fn time_all(rt: &HostRuntime, words: &str, dl: &TargetDataLayout) -> io::Result<()> {
-    if asks_for(words, "lay_out_wide", NODES) {
-        time_tree(rt, dl, "lay_out_wide", NODES, wide(rt.alloc())?)?;
-    }
-    if asks_for(words, "lay_out_deep", DEPTH) {
-        time_tree(rt, dl, "lay_out_deep", DEPTH, deep(rt.alloc())?)?;
-    }
-    Ok(())
+) -> Outcome {
+    let laid = match call {
+        Call::WideTree | Call::DeepTree => None,
+        _ => lay_out(rt.alloc(), dl, &tree).ok(),
+    };
+    let call = TimedTree {
+        dl,
+        tree,
+        laid,
+        call,
+    };
+    time(rt, line, &call)
 }

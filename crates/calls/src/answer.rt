@@ -2,8 +2,8 @@
 
 ghost use Rattle.abi_base.specs.DataLayout.{IsLawfulDataLayout};
 
-use crate::command::{Command, Place};
-use crate::stop::{Clause, OUT_OF_MEMORY, Stop};
+use crate::command::{Command, WordSpan};
+use crate::stop::{Clause, OUT_OF_MEMORY, Refusal};
 use crate::{data_layouts, lists, numbers, ranges, registers, sets, types};
 use abi_base::{Endian, TargetDataLayout};
 use std::alloc::{AllocError, Global};
@@ -31,16 +31,16 @@ fn answer_under(dl: &TargetDataLayout, command: &mut Command) -> bool {
 }
 
 /// Answers the call of a line, or stops.
-fn answer_words(command: &mut Command) -> Result<(), Stop> {
+fn answer_words(command: &mut Command) -> Result<(), Refusal> {
     let text = if command.takes(b"under") {
         command.text()
     } else {
-        Place::NOWHERE
+        WordSpan::NOWHERE
     };
     command.read_name();
     command.go_on()?;
-    let unknown = Stop::Unreadable(command.count());
-    let mut dl = data_layouts::read(command.alloc, command.text_at(text))?;
+    let unknown = Refusal::Unreadable(command.count());
+    let mut dl = data_layouts::data_layout_of(command.alloc, command.text_at(text))?;
     if command.takes(b"le") {
         dl.endian = Endian::Little;
     } else if command.takes(b"be") {
@@ -54,34 +54,34 @@ fn answer_words(command: &mut Command) -> Result<(), Stop> {
 }
 
 /// Writes why a line has no answer but a refusal.
-fn write_stop(command: &mut Command, stop: Stop) {
+fn write_refusal(command: &mut Command, stop: Refusal) {
     match stop {
-        Stop::Unreadable(number) => command.put("unreadable word ", number),
-        Stop::Refused(name) => {
+        Refusal::Unreadable(number) => command.write_with_number("unreadable word ", number),
+        Refusal::Refused(name) => {
             command.write("refused ");
             command.write(name.as_str());
         }
-        Stop::Asks(clause) => {
+        Refusal::Asks(clause) => {
             command.write("asks ");
             command.write(clause.as_str());
         }
-        Stop::OutOfMemory => command.write(OUT_OF_MEMORY),
+        Refusal::OutOfMemory => command.write(OUT_OF_MEMORY),
     }
 }
 
 /// The command that a line is, with its answer.
-fn answered(alloc: Global, line: &[u8]) -> Result<Command, AllocError> {
+fn answered_command(alloc: Global, line: &[u8]) -> Result<Command, AllocError> {
     let mut command = Command::new(alloc, line)?;
     if let Err(stop) = answer_words(&mut command) {
         command.clear();
-        write_stop(&mut command, stop);
+        write_refusal(&mut command, stop);
     }
     Ok(command)
 }
 
 /// Writes the answer to a line, and ends it.
 pub(crate) fn answer_line(alloc: Global, out: &mut String, line: &[u8]) -> Result<(), AllocError> {
-    match answered(alloc, line) {
+    match answered_command(alloc, line) {
         Ok(command) => out.push_str(command.answer())?,
         Err(_) => out.push_str(OUT_OF_MEMORY)?,
     }

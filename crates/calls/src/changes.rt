@@ -3,7 +3,7 @@
 
 use crate::command::Command;
 use crate::layouts::Layout;
-use crate::stop::{Stop, calculator};
+use crate::stop::{Refusal, calculator};
 use abi_base::{AbiAlign, Align, NumScalableVectors, Size, TargetDataLayout};
 use abi_index::{FieldIdx, IndexList};
 use abi_scalar::{BackendLaneCount, BackendRepr, Niche, Scalar, TagEncoding, Variants};
@@ -53,13 +53,13 @@ fn niche(dl: &TargetDataLayout, command: &mut Command) -> Option<Niche> {
             valid_range,
         }),
         Scalar::Union { .. } => {
-            command.stop(Stop::Unreadable(before));
+            command.stop(Refusal::Unreadable(before));
             None
         }
     }
 }
 
-/// Gives a layout this tag, and no variants that it tells apart.
+/// Gives a layout this tag, and no variants that it distinguishes.
 fn put_tag(alloc: Global, tag: Scalar, layout: &mut Layout) {
     layout.variants = Variants::Multiple {
         tag,
@@ -99,7 +99,7 @@ const CHANGE_WORDS: [(&[u8], ChangeWord); 11] = [
     (b"tag", ChangeWord::Tag),
 ];
 
-/// Changes what the next words tell of a layout.
+/// Changes what the next words name of a layout.
 pub(crate) fn change(dl: &TargetDataLayout, command: &mut Command, layout: &mut Layout) {
     match command.one_of(&CHANGE_WORDS, ChangeWord::Memory) {
         ChangeWord::Size => layout.size = command.size(),

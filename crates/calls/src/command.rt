@@ -3,20 +3,20 @@
 mod text;
 mod words;
 
-use crate::stop::{Clause, Stop};
+use crate::stop::{Clause, Refusal};
 use std::alloc::{AllocError, AllocFailed, Global};
-pub(crate) use words::named;
+pub(crate) use words::meaning_of;
 
 /// Where a word stands in its line.
 #[derive(Clone, Copy)]
-pub(crate) struct Place {
+pub(crate) struct WordSpan {
     start: usize,
     end: usize,
 }
 
-impl Place {
+impl WordSpan {
     /// Where no word stands.
-    pub(crate) const NOWHERE: Place = Place { start: 0, end: 0 };
+    pub(crate) const NOWHERE: WordSpan = WordSpan { start: 0, end: 0 };
 }
 
 /// A line, where what is left of it starts, how many of its words were read, which of them names the call, why it
@@ -29,8 +29,8 @@ pub(crate) struct Command {
     line: Vec<u8>,
     start: usize,
     count: u64,
-    name: Place,
-    stop: Option<Stop>,
+    name: WordSpan,
+    stop: Option<Refusal>,
     answer: String,
     is_cut: bool,
 }
@@ -45,7 +45,7 @@ impl Command {
             line: own,
             start: 0,
             count: 0,
-            name: Place::NOWHERE,
+            name: WordSpan::NOWHERE,
             stop: None,
             answer: String::new(alloc),
             is_cut: false,
@@ -53,7 +53,7 @@ impl Command {
     }
 
     /// Stops the line, unless it did before.
-    pub(crate) fn stop(&mut self, stop: Stop) {
+    pub(crate) fn stop(&mut self, stop: Refusal) {
         if self.stop.is_none() {
             self.stop = Some(stop);
         }
@@ -61,7 +61,7 @@ impl Command {
 
     /// Stops the line, since what a call's clause asks for doesn't hold.
     pub(crate) fn lacks(&mut self, clause: Clause) {
-        self.stop(Stop::Asks(clause));
+        self.stop(Refusal::Asks(clause));
     }
 
     /// Stops the line unless what a call's clause asks for holds.
@@ -73,11 +73,11 @@ impl Command {
 
     /// Stops the line where the word that was read last doesn't fit.
     pub(crate) fn misfit(&mut self) {
-        self.stop(Stop::Unreadable(self.count));
+        self.stop(Refusal::Unreadable(self.count));
     }
 
     /// Why the line stopped, if it did.
-    pub(crate) fn go_on(&self) -> Result<(), Stop> {
+    pub(crate) fn go_on(&self) -> Result<(), Refusal> {
         match self.stop {
             Some(stop) => Err(stop),
             None => Ok(()),
@@ -85,7 +85,7 @@ impl Command {
     }
 
     /// Stops the line where what was done couldn't be.
-    pub(crate) fn keep(&mut self, done: Result<(), Stop>) {
+    pub(crate) fn keep(&mut self, done: Result<(), Refusal>) {
         if let Err(stop) = done {
             self.stop(stop);
         }
@@ -94,7 +94,7 @@ impl Command {
     /// Stops the line where a list couldn't grow.
     pub(crate) fn grow<T: Drop>(&mut self, grown: Result<(), AllocFailed<T>>) {
         if grown.is_err() {
-            self.stop(Stop::OutOfMemory);
+            self.stop(Refusal::OutOfMemory);
         }
     }
 }

@@ -4,13 +4,13 @@ ghost use Rattle.std.specs.Prelude.{IsTrue};
 ghost use Rattle.abi_base.specs.DataLayout.{IsPointerWidth};
 
 use crate::command::Command;
-use crate::stop::{Clause, Stop, data_layout};
+use crate::stop::{Clause, Refusal, data_layout};
 use abi_base::{AddressSpace, Size, TargetDataLayout, TargetDataLayoutError};
 use abi_text::read_data_layout;
 use std::alloc::{AllocError, Global};
 
 /// The data layout that a text says.
-pub(crate) fn read(alloc: Global, text: &str) -> Result<TargetDataLayout, Stop> {
+pub(crate) fn data_layout_of(alloc: Global, text: &str) -> Result<TargetDataLayout, Refusal> {
     match read_data_layout(alloc, text) {
         Ok(dl) => Ok(dl),
         Err(error) => Err(data_layout(&error)),
@@ -24,7 +24,7 @@ fn write_read(command: &mut Command) -> Result<(), AllocError> {
     text.push_str(command.text_at(place))?;
     match read_data_layout(command.alloc, &text) {
         Ok(dl) => command.write_debugged(&dl),
-        Err(TargetDataLayoutError::OutOfMemory) => command.cut(),
+        Err(TargetDataLayoutError::OutOfMemory) => command.mark_cut(),
         Err(error) => command.write_debugged(&error),
     }
     Ok(())
@@ -80,11 +80,11 @@ fn answer(
 pub(crate) fn answers(command: &mut Command) -> bool {
     if command.is_named(b"read-data-layout") {
         if write_read(command).is_err() {
-            command.cut();
+            command.mark_cut();
         }
         return true;
     }
-    let Some(asked) = command.named(&DATA_LAYOUT_CALLS) else {
+    let Some(asked) = command.meaning_of_name(&DATA_LAYOUT_CALLS) else {
         return false;
     };
     let space = match asked {
@@ -92,7 +92,7 @@ pub(crate) fn answers(command: &mut Command) -> bool {
         _ => AddressSpace::ZERO,
     };
     let text = command.text();
-    match read(command.alloc, command.text_at(text)) {
+    match data_layout_of(command.alloc, command.text_at(text)) {
         Ok(dl) => answer(&dl, command, asked, space),
         Err(stop) => command.stop(stop),
     }

@@ -5,7 +5,7 @@ ghost use Rattle.abi_base.specs.DataLayout.{IsLawfulDataLayout};
 use crate::command::Command;
 use crate::layouts::{Layout, layouts};
 use crate::lists::{list_made, list_repr};
-use crate::stop::Stop;
+use crate::stop::Refusal;
 use abi_base::TargetDataLayout;
 use abi_index::FieldIdx;
 use abi_scalar::ReprFlags;
@@ -37,7 +37,7 @@ fn order_of(command: &mut Command) -> Vec<FieldIdx> {
 pub(crate) fn univariant_in_order(
     dl: &TargetDataLayout,
     command: &mut Command,
-) -> Result<Layout, Stop>
+) -> Result<Layout, Refusal>
     requires { IsLawfulDataLayout dl.now }
 {
     let mut asked = list_repr(command);

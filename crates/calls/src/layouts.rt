@@ -6,7 +6,7 @@ ghost use Rattle.abi_scalar.specs.Lawful.{IsLawfulLayout};
 
 use crate::changes::change;
 use crate::command::Command;
-use crate::stop::{Clause, Stop, calculator};
+use crate::stop::{Clause, Refusal, calculator};
 use abi_base::{Align, TargetDataLayout};
 use abi_calc::LayoutCalculator;
 use abi_index::{FieldIdx, TryClone, VariantIdx};
@@ -22,29 +22,29 @@ pub(crate) type Layout = LayoutData<FieldIdx, VariantIdx>;
 pub(crate) const MOST_ITEMS: usize = 1_000_000;
 
 /// The type, laid out.
-fn laid_tree(alloc: Global, dl: &TargetDataLayout, tree: &TypeTree) -> Result<Laid, Stop> {
+fn laid_tree(alloc: Global, dl: &TargetDataLayout, tree: &TypeTree) -> Result<Laid, Refusal> {
     match lay_out(alloc, dl, tree) {
         Ok(laid) => Ok(laid),
-        Err(error) => Err(Stop::from(error)),
+        Err(error) => Err(Refusal::from(error)),
     }
 }
 
 /// The type that the next words write, laid out.
-pub(crate) fn laid_type(dl: &TargetDataLayout, command: &mut Command) -> Result<Laid, Stop> {
+pub(crate) fn laid_type(dl: &TargetDataLayout, command: &mut Command) -> Result<Laid, Refusal> {
     let tree = command.tree(dl)?;
     laid_tree(command.alloc, dl, &tree)
 }
 
 /// The layout of a type, copied.
-fn copied(alloc: Global, laid: &Laid) -> Result<Layout, Stop> {
+fn copied(alloc: Global, laid: &Laid) -> Result<Layout, Refusal> {
     match laid.layout().try_clone(alloc) {
         Ok(layout) => Ok(layout),
-        Err(_) => Err(Stop::OutOfMemory),
+        Err(_) => Err(Refusal::OutOfMemory),
     }
 }
 
 /// The layout of the type that the next words write.
-fn type_layout(dl: &TargetDataLayout, command: &mut Command) -> Result<Layout, Stop> {
+fn type_layout(dl: &TargetDataLayout, command: &mut Command) -> Result<Layout, Refusal> {
     let laid = laid_type(dl, command)?;
     copied(command.alloc, &laid)
 }
@@ -52,7 +52,7 @@ fn type_layout(dl: &TargetDataLayout, command: &mut Command) -> Result<Layout, S
 /// The layout that the calculator answers, or its refusal.
 pub(crate) fn calculated<F: Drop>(
     answer: Result<Layout, LayoutCalculatorError<F>>,
-) -> Result<Layout, Stop> {
+) -> Result<Layout, Refusal> {
     match answer {
         Ok(layout) => Ok(layout),
         Err(error) => Err(calculator(error)),
@@ -60,17 +60,17 @@ pub(crate) fn calculated<F: Drop>(
 }
 
 /// The slice of these.
-fn slice_of(dl: &TargetDataLayout, element: &Layout) -> Result<Layout, Stop>
+fn slice_of(dl: &TargetDataLayout, element: &Layout) -> Result<Layout, Refusal>
     requires { IsLawfulDataLayout dl.now }
 {
     if !element.is_lawful(dl) {
-        return Err(Stop::Asks(Clause::Element));
+        return Err(Refusal::Asks(Clause::Element));
     }
     calculated::<&Layout>(LayoutCalculator::new(dl).layout_of_array_like(element, None))
 }
 
 /// The layout that is made; of a line that stops, since there is none, that of the unit type.
-fn or_unit(dl: &TargetDataLayout, command: &mut Command, made: Result<Layout, Stop>) -> Layout {
+fn or_unit(dl: &TargetDataLayout, command: &mut Command, made: Result<Layout, Refusal>) -> Layout {
     match made {
         Ok(layout) => layout,
         Err(stop) => {
@@ -81,14 +81,14 @@ fn or_unit(dl: &TargetDataLayout, command: &mut Command, made: Result<Layout, St
 }
 
 /// The layout of the slice of the type that the next words write.
-fn slice_layout(dl: &TargetDataLayout, command: &mut Command) -> Result<Layout, Stop>
+fn slice_layout(dl: &TargetDataLayout, command: &mut Command) -> Result<Layout, Refusal>
     requires { IsLawfulDataLayout dl.now }
 {
     let element = type_layout(dl, command)?;
     slice_of(dl, &element)
 }
 
-/// The layout that the next words tell: that of a type, or of a slice of it, changed where `but` follows.
+/// The layout that the next words describe: that of a type, or of a slice of it, changed where `but` follows.
 pub(crate) fn layout(dl: &TargetDataLayout, command: &mut Command) -> Layout
     requires { IsLawfulDataLayout dl.now }
 {
@@ -124,7 +124,7 @@ pub(crate) fn layouts(dl: &TargetDataLayout, command: &mut Command) -> Vec<Layou
 }
 
 /// Each of these, lent.
-fn lent_each<'a>(alloc: Global, layouts: &'a [Layout]) -> Result<Vec<&'a Layout>, AllocError> {
+fn lend_each<'a>(alloc: Global, layouts: &'a [Layout]) -> Result<Vec<&'a Layout>, AllocError> {
     let mut all = Vec::with_capacity(alloc, layouts.len())?;
     for layout in layouts {
         all.push(layout)?;
@@ -133,13 +133,16 @@ fn lent_each<'a>(alloc: Global, layouts: &'a [Layout]) -> Result<Vec<&'a Layout>
 }
 
 /// Each of these, lent, where they aren't too many.
-pub(crate) fn lent<'a>(alloc: Global, layouts: &'a [Layout]) -> Result<Vec<&'a Layout>, Stop>
+pub(crate) fn lend_layouts<'a>(
+    alloc: Global,
+    layouts: &'a [Layout],
+) -> Result<Vec<&'a Layout>, Refusal>
     ensures { IfOk result (λ all. length all.items ≤ 1_000_000) }
 {
-    match lent_each(alloc, layouts) {
+    match lend_each(alloc, layouts) {
         Ok(all) if all.len() <= MOST_ITEMS => Ok(all),
-        Ok(_) => Err(Stop::Asks(Clause::Count)),
-        Err(_) => Err(Stop::OutOfMemory),
+        Ok(_) => Err(Refusal::Asks(Clause::Count)),
+        Err(_) => Err(Refusal::OutOfMemory),
     }
 }
 

@@ -1,5 +1,5 @@
 //! Calls of the calculator for lists of fields, unions and scalable vectors, and layouts that a line hands in: whether one
-//! is lawful, and all that it tells.
+//! is lawful, and all that it reports.
 
 ghost use Rattle.std.specs.Prelude.{◌≤◌, All, IfOk, IsTrue, length};
 ghost use Rattle.abi_base.specs.DataLayout.{IsLawfulDataLayout, size_bound};
@@ -10,10 +10,10 @@ ghost use Rattle.abi_univariant.specs.Placement.{IsWellFormedPrefix, IsNonEmptyI
 use crate::command::Command;
 use crate::in_order::univariant_in_order;
 use crate::layouts::{
-    Layout, MOST_ITEMS, are_lawful, calculated, is_lawful_align, layout, layouts, lent,
+    Layout, MOST_ITEMS, are_lawful, calculated, is_lawful_align, layout, layouts, lend_layouts,
 };
 use crate::print::write_made;
-use crate::stop::{Clause, Stop};
+use crate::stop::{Clause, Refusal};
 use abi_base::{Align, NumScalableVectors, Size, StructKind, TargetDataLayout};
 use abi_calc::LayoutCalculator;
 use abi_index::{FieldIdx, IndexSlice, IndexVec};
@@ -91,7 +91,7 @@ fn has_lawful_aligns(repr: &ReprOptions) -> bool
 }
 
 /// Whether these fields may be handed in as a list, or which clause says that they may not.
-fn check_list(dl: &TargetDataLayout, fields: &[&Layout], asked: &ListRepr) -> Result<(), Stop>
+fn check_list(dl: &TargetDataLayout, fields: &[&Layout], asked: &ListRepr) -> Result<(), Refusal>
     requires { IsLawfulDataLayout dl.now }
     ensures count { IfOk result (λ _. length fields.now ≤ 1_000_000) }
     ensures fields { IfOk result (λ _. All (λ f. IsLawfulLayout dl.now f.now) fields.now) }
@@ -100,19 +100,19 @@ fn check_list(dl: &TargetDataLayout, fields: &[&Layout], asked: &ListRepr) -> Re
     ensures tail { IfOk result (λ _. IsNonEmptyIfUnsized asked.now.kind (length fields.now)) }
 {
     if fields.len() > MOST_ITEMS {
-        return Err(Stop::Asks(Clause::Count));
+        return Err(Refusal::Asks(Clause::Count));
     }
     if !are_lawful(dl, fields) {
-        return Err(Stop::Asks(Clause::Fields));
+        return Err(Refusal::Asks(Clause::Fields));
     }
     if !has_lawful_aligns(&asked.repr) {
-        return Err(Stop::Asks(Clause::Repr));
+        return Err(Refusal::Asks(Clause::Repr));
     }
     if !is_well_formed_prefix(dl, &asked.kind) {
-        return Err(Stop::Asks(Clause::Prefix));
+        return Err(Refusal::Asks(Clause::Prefix));
     }
     if !has_tail(&asked.kind, fields.len()) {
-        return Err(Stop::Asks(Clause::Tail));
+        return Err(Refusal::Asks(Clause::Tail));
     }
     Ok(())
 }
@@ -124,7 +124,7 @@ fn list_of(
     fields: &[&Layout],
     asked: &ListRepr,
     order: Option<&[FieldIdx]>,
-) -> Result<Layout, Stop>
+) -> Result<Layout, Refusal>
     requires { IsLawfulDataLayout dl.now }
 {
     check_list(dl, fields, asked)?;
@@ -135,7 +135,7 @@ fn list_of(
         return calculated(laying.layout_of_univariant(alloc, fields, &repr, kind));
     };
     if !repr.can_randomize_type_layout() {
-        return Err(Stop::Asks(Clause::Random));
+        return Err(Refusal::Asks(Clause::Random));
     }
     calculated(laying.layout_of_univariant_in_order(alloc, fields, &repr, kind, order))
 }
@@ -147,15 +147,15 @@ pub(crate) fn list_made(
     made: &[Layout],
     asked: &ListRepr,
     order: Option<&[FieldIdx]>,
-) -> Result<Layout, Stop>
+) -> Result<Layout, Refusal>
     requires { IsLawfulDataLayout dl.now }
 {
-    let fields = lent(alloc, made)?;
+    let fields = lend_layouts(alloc, made)?;
     list_of(alloc, dl, &fields, asked, order)
 }
 
 /// `univariant REPR KIND ( LAYOUT.. )`
-fn univariant(dl: &TargetDataLayout, command: &mut Command) -> Result<Layout, Stop>
+fn univariant(dl: &TargetDataLayout, command: &mut Command) -> Result<Layout, Refusal>
     requires { IsLawfulDataLayout dl.now }
 {
     let asked = list_repr(command);
@@ -169,22 +169,22 @@ fn union_made(
     dl: &TargetDataLayout,
     made: &[Layout],
     repr: &ReprOptions,
-) -> Result<Layout, Stop>
+) -> Result<Layout, Refusal>
     requires { IsLawfulDataLayout dl.now }
 {
-    let fields = lent(alloc, made)?;
+    let fields = lend_layouts(alloc, made)?;
     if !are_lawful(dl, &fields) {
-        return Err(Stop::Asks(Clause::Fields));
+        return Err(Refusal::Asks(Clause::Fields));
     }
     if !has_lawful_aligns(repr) {
-        return Err(Stop::Asks(Clause::Repr));
+        return Err(Refusal::Asks(Clause::Repr));
     }
     let lists = [IndexVec::from_raw(fields)];
     calculated(LayoutCalculator::new(dl).layout_of_union(alloc, repr, IndexSlice::new(&lists)))
 }
 
 /// `union REPR ( LAYOUT.. )`
-fn union_of(dl: &TargetDataLayout, command: &mut Command) -> Result<Layout, Stop>
+fn union_of(dl: &TargetDataLayout, command: &mut Command) -> Result<Layout, Refusal>
     requires { IsLawfulDataLayout dl.now }
 {
     let repr = command.repr().repr;
@@ -199,18 +199,18 @@ fn vectors_of(
     element: &Layout,
     lanes: u64,
     vectors: NumScalableVectors,
-) -> Result<Layout, Stop>
+) -> Result<Layout, Refusal>
     requires { IsLawfulDataLayout dl.now }
 {
     if !element.is_lawful(dl) {
-        return Err(Stop::Asks(Clause::Element));
+        return Err(Refusal::Asks(Clause::Element));
     }
     let laying = LayoutCalculator::new(dl);
     calculated(laying.layout_of_scalable_vector_type(alloc, element, lanes, vectors))
 }
 
 /// `scalable VECTORS LANES LAYOUT`
-fn scalable(dl: &TargetDataLayout, command: &mut Command) -> Result<Layout, Stop>
+fn scalable(dl: &TargetDataLayout, command: &mut Command) -> Result<Layout, Refusal>
     requires { IsLawfulDataLayout dl.now }
 {
     let vectors = NumScalableVectors(command.byte());
@@ -246,7 +246,7 @@ const LIST_CALLS: [(&[u8], ListCall); 5] = [
 ];
 
 /// The answer to a call.
-fn answer(dl: &TargetDataLayout, command: &mut Command, asked: ListCall) -> Result<Layout, Stop>
+fn answer(dl: &TargetDataLayout, command: &mut Command, asked: ListCall) -> Result<Layout, Refusal>
     requires { IsLawfulDataLayout dl.now }
 {
     match asked {
@@ -266,7 +266,7 @@ pub(crate) fn answers(dl: &TargetDataLayout, command: &mut Command) -> bool
         write_lawful(dl, command);
         return true;
     }
-    let Some(asked) = command.named(&LIST_CALLS) else {
+    let Some(asked) = command.meaning_of_name(&LIST_CALLS) else {
         return false;
     };
     let made = answer(dl, command, asked);

@@ -18,7 +18,7 @@ mod stop;
 mod types;
 mod values;
 
-use abi_text::cut;
+use abi_text::split_at_byte;
 use answer::answer_line;
 use std::alloc::{AllocError, Global};
 use std::io;
@@ -33,7 +33,7 @@ fn answers(alloc: Global, text: &[u8]) -> Result<String, AllocError> {
         if rest.is_empty() {
             break;
         }
-        let (line, more) = cut(rest, b'\n');
+        let (line, more) = split_at_byte(rest, b'\n');
         answer_line(alloc, &mut out, line)?;
         rest = more.unwrap_or(&[]);
     }

@@ -53,7 +53,7 @@ const NUMBER_CALLS: [(&[u8], NumberCall); 4] = [
 pub(crate) fn answers(dl: &TargetDataLayout, command: &mut Command) -> bool
     requires { IsLawfulDataLayout dl.now }
 {
-    match command.named(&NUMBER_CALLS) {
+    match command.meaning_of_name(&NUMBER_CALLS) {
         Some(NumberCall::AlignFromBytes) => write_align_from_bytes(command),
         Some(NumberCall::CheckedAdd) => {
             let (first, second) = (command.size(), command.size());

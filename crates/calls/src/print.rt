@@ -2,7 +2,7 @@
 
 use crate::command::Command;
 use crate::layouts::Layout;
-use crate::stop::Stop;
+use crate::stop::Refusal;
 use abi_base::{Align, Size};
 use abi_index::{FieldIdx, RangeSet, VariantIdx};
 use abi_scalar::{BackendRepr, FieldsShape, Niche, Scalar, TagEncoding, Variants, WrappingRange};
@@ -21,8 +21,8 @@ pub(crate) fn write_align(command: &mut Command, align: Align) {
 pub(crate) fn write_runs(command: &mut Command, runs: &RangeSet) {
     let mut between = "";
     for (start, size) in runs.as_slice() {
-        command.put(between, *start);
-        command.put("..", start.saturating_add(*size));
+        command.write_with_number(between, *start);
+        command.write_with_number("..", start.saturating_add(*size));
         between = " ";
     }
     if between.is_empty() {
@@ -69,11 +69,11 @@ fn write_scalar(command: &mut Command, scalar: Scalar) {
 fn write_listed(command: &mut Command, offsets: &[Size], order: &[FieldIdx]) {
     command.write(" offsets");
     for offset in offsets {
-        command.put(" ", offset.bytes());
+        command.write_with_number(" ", offset.bytes());
     }
     command.write(" order");
     for field in order {
-        command.put(" ", u64::from(field.as_u32()));
+        command.write_with_number(" ", u64::from(field.as_u32()));
     }
 }
 
@@ -81,10 +81,10 @@ fn write_listed(command: &mut Command, offsets: &[Size], order: &[FieldIdx]) {
 fn write_shape(command: &mut Command, shape: &FieldsShape<FieldIdx>) {
     match shape {
         FieldsShape::Primitive => command.write(" primitive"),
-        FieldsShape::Union(count) => command.put(" union ", count.get() as u64),
+        FieldsShape::Union(count) => command.write_with_number(" union ", count.get() as u64),
         FieldsShape::Array { stride, count } => {
-            command.put(" stride ", stride.bytes());
-            command.put(" count ", *count);
+            command.write_with_number(" stride ", stride.bytes());
+            command.write_with_number(" count ", *count);
         }
         FieldsShape::Arbitrary {
             offsets,
@@ -107,7 +107,7 @@ pub(crate) fn write_niche(command: &mut Command, niche: Option<Niche>) {
                 valid_range,
             },
         ) => {
-            command.put("niche ", offset.bytes());
+            command.write_with_number("niche ", offset.bytes());
             command.write(" ");
             write_scalar(command, Scalar::Initialized { value, valid_range });
         }
@@ -121,7 +121,7 @@ fn write_pair(command: &mut Command, a: Scalar, b: Scalar, offset: Size) {
     write_scalar(command, a);
     command.write(" and ");
     write_scalar(command, b);
-    command.put(" at ", offset.bytes());
+    command.write_with_number(" at ", offset.bytes());
 }
 
 /// Writes how a code generator sees a type; of sized bytes in memory nothing.
@@ -135,7 +135,7 @@ fn write_view(command: &mut Command, view: BackendRepr) {
         }
         BackendRepr::ScalarPair { a, b, b_offset } => write_pair(command, a, b, b_offset),
         BackendRepr::SimdVector { element, count } => {
-            command.put(" seen ", count.as_u64());
+            command.write_with_number(" seen ", count.as_u64());
             command.write(" of ");
             write_scalar(command, element);
         }
@@ -144,8 +144,8 @@ fn write_view(command: &mut Command, view: BackendRepr) {
             count,
             number_of_vectors,
         } => {
-            command.put(" seen ", u64::from(number_of_vectors.0));
-            command.put(" scalable ", count.as_u64());
+            command.write_with_number(" seen ", u64::from(number_of_vectors.0));
+            command.write_with_number(" scalable ", count.as_u64());
             command.write(" of ");
             write_scalar(command, element);
         }
@@ -169,7 +169,7 @@ fn write_marks(command: &mut Command, layout: &Layout) {
 
 /// Writes a layout without its variants.
 fn write_whole(command: &mut Command, layout: &Layout) {
-    command.put("size ", layout.size.bytes());
+    command.write_with_number("size ", layout.size.bytes());
     command.write(" align ");
     write_align(command, layout.align.abi);
     if layout.uninhabited {
@@ -191,9 +191,9 @@ fn write_encoding(command: &mut Command, encoding: TagEncoding<VariantIdx>) {
             niche_variants,
             niche_start,
         } => {
-            command.put(" niche untagged ", u64::from(untagged_variant.as_u32()));
-            command.put(" variants ", u64::from(niche_variants.start.as_u32()));
-            command.put("..=", u64::from(niche_variants.last.as_u32()));
+            command.write_with_number(" niche untagged ", u64::from(untagged_variant.as_u32()));
+            command.write_with_number(" variants ", u64::from(niche_variants.start.as_u32()));
+            command.write_with_number("..=", u64::from(niche_variants.last.as_u32()));
             command.write(" start ");
             command.write_wide(niche_start);
         }
@@ -204,11 +204,11 @@ fn write_encoding(command: &mut Command, encoding: TagEncoding<VariantIdx>) {
 fn write_variant(command: &mut Command, layout: &Layout, index: VariantIdx) {
     match &layout.variants {
         Variants::Multiple { variants, .. } if index.as_usize() < variants.len() => {
-            command.put("; variant ", u64::from(index.as_u32()));
+            command.write_with_number("; variant ", u64::from(index.as_u32()));
             command.write(" ");
             match Layout::for_variant(command.alloc, layout, index) {
                 Ok(variant) => write_whole(command, &variant),
-                Err(_) => command.cut(),
+                Err(_) => command.mark_cut(),
             }
         }
         _ => {}
@@ -222,7 +222,7 @@ fn write_variants(command: &mut Command, layout: &Layout) {
         Variants::Single { index } => {
             let number = index.as_u32();
             if number > 0 {
-                command.put(" variant ", u64::from(number));
+                command.write_with_number(" variant ", u64::from(number));
             }
         }
         Variants::Multiple {
@@ -231,7 +231,7 @@ fn write_variants(command: &mut Command, layout: &Layout) {
             tag_field,
             variants,
         } => {
-            command.put(" tag ", u64::from(tag_field.as_u32()));
+            command.write_with_number(" tag ", u64::from(tag_field.as_u32()));
             command.write(" ");
             write_scalar(command, *tag);
             write_encoding(command, *tag_encoding);
@@ -254,12 +254,12 @@ fn write_answer(command: &mut Command, layout: &Layout) {
     command.end();
     write_layout(command, layout);
     if with_seed {
-        command.put(" seed ", layout.randomization_seed.as_u64());
+        command.write_with_number(" seed ", layout.randomization_seed.as_u64());
     }
 }
 
 /// Writes the layout that a call answers, or stops the line.
-pub(crate) fn write_made(command: &mut Command, made: Result<Layout, Stop>) {
+pub(crate) fn write_made(command: &mut Command, made: Result<Layout, Refusal>) {
     match made {
         Ok(layout) => write_answer(command, &layout),
         Err(stop) => command.stop(stop),

@@ -8,7 +8,7 @@ ghost use Rattle.abi_scalar.specs.Scalar.{IsWellFormed};
 
 use crate::command::Command;
 use crate::print::{write_niche, write_range};
-use crate::stop::{Clause, Stop};
+use crate::stop::{Clause, Refusal};
 use abi_base::{Primitive, Size, TargetDataLayout};
 use abi_scalar::{Niche, Scalar, WrappingRange};
 use std::alloc::{AllocError, Global};
@@ -29,7 +29,7 @@ fn range(command: &mut Command, size: Size) -> WrappingRange
     requires most { size ≤ 16 }
     ensures { AreWithin size result }
 {
-    let (start, end) = (command.wide(), command.wide());
+    let (start, end) = (command.wide_number(), command.wide_number());
     let most = size.unsigned_int_max();
     command.asks(start <= most && end <= most, Clause::Within);
     WrappingRange {
@@ -68,24 +68,24 @@ fn numbers(command: &mut Command) -> Result<Vec<u128>, AllocError> {
         if !command.has_word() {
             break;
         }
-        all.push(command.wide())?;
+        all.push(command.wide_number())?;
     }
     Ok(all)
 }
 
 /// The least range of these numbers, which have to be of `size` bytes.
-fn least_range(alloc: Global, size: Size, all: Vec<u128>) -> Result<Option<WrappingRange>, Stop>
+fn least_range(alloc: Global, size: Size, all: Vec<u128>) -> Result<Option<WrappingRange>, Refusal>
     requires some { 1 ≤ size }
     requires most { size ≤ 16 }
 {
     if !are_within(&all, size) {
-        return Err(Stop::Asks(Clause::Within));
+        return Err(Refusal::Asks(Clause::Within));
     }
     Ok(WrappingRange::smallest_range_containing(alloc, all, size)?)
 }
 
 /// Writes the least range of the numbers that are next, behind the bytes that each has.
-fn write_least(command: &mut Command) -> Result<(), Stop> {
+fn write_least(command: &mut Command) -> Result<(), Refusal> {
     let size = width(command);
     let all = numbers(command)?;
     match least_range(command.alloc, size, all)? {
@@ -166,7 +166,7 @@ fn write_reserved(command: &mut Command, reserved: Option<(u128, Scalar)>) {
 /// Writes what is handed out of the free numbers of the scalar that is next, where as many as follow are asked for.
 fn write_reserve(dl: &TargetDataLayout, command: &mut Command) {
     let scalar = command.scalar(dl);
-    let count = command.wide();
+    let count = command.wide_number();
     let Some(niche) = niche(dl, scalar) else {
         return command.lacks(Clause::Readable);
     };
@@ -205,7 +205,7 @@ const RANGE_CALLS: [(&[u8], RangeCall); 4] = [
 
 /// Answers the call; whether it is one of these.
 pub(crate) fn answers(dl: &TargetDataLayout, command: &mut Command) -> bool {
-    match command.named(&RANGE_CALLS) {
+    match command.meaning_of_name(&RANGE_CALLS) {
         Some(RangeCall::ContainsRange) => write_contained(command),
         Some(RangeCall::LeastRange) => {
             let done = write_least(command);

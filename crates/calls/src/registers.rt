@@ -5,7 +5,7 @@ ghost use Rattle.abi_types.specs.Reg.{HasAlign};
 
 use crate::command::Command;
 use crate::print::{write_align, write_true};
-use crate::stop::{Clause, Name, Stop};
+use crate::stop::{Clause, Name, Refusal};
 use abi_base::{Integer, Primitive, RegKind, Size, TargetDataLayout};
 use abi_types::{CVariadicStatus, ExternAbi, Reg, all_names};
 use std::alloc::{AllocError, Global};
@@ -13,7 +13,7 @@ use std::alloc::{AllocError, Global};
 /// Writes a register: its kind and its size in bytes.
 pub(crate) fn write_reg(command: &mut Command, reg: Reg) {
     command.write(kind_name(reg.kind));
-    command.put(" ", reg.size.bytes());
+    command.write_with_number(" ", reg.size.bytes());
     if let RegKind::Vector { hint_vector_elem } = reg.kind {
         command.write(" of ");
         command.write_primitive(hint_vector_elem);
@@ -73,7 +73,7 @@ fn convention(command: &mut Command) -> ExternAbi {
     match command.text_at(name).parse::<ExternAbi>() {
         Ok(abi) => abi,
         Err(_) => {
-            command.stop(Stop::Refused(Name::Unknown));
+            command.stop(Refusal::Refused(Name::Unknown));
             ExternAbi::Rust
         }
     }
@@ -81,7 +81,7 @@ fn convention(command: &mut Command) -> ExternAbi {
 
 /// Writes a convention's number and name, and what it is fit for.
 fn write_convention(command: &mut Command, abi: ExternAbi) {
-    command.put("", u64::from(abi.as_packed()));
+    command.write_with_number("", u64::from(abi.as_packed()));
     command.write(" ");
     command.write(abi.as_str());
     command.write(" ");
@@ -127,7 +127,7 @@ const REGISTER_CALLS: [(&[u8], RegisterCall); 3] = [
 
 /// Answers the call; whether it is one of these.
 pub(crate) fn answers(dl: &TargetDataLayout, command: &mut Command) -> bool {
-    match command.named(&REGISTER_CALLS) {
+    match command.meaning_of_name(&REGISTER_CALLS) {
         Some(RegisterCall::RegAlign) => write_reg_align(dl, command),
         Some(RegisterCall::Convention) => {
             let abi = convention(command);
@@ -135,7 +135,7 @@ pub(crate) fn answers(dl: &TargetDataLayout, command: &mut Command) -> bool {
         }
         Some(RegisterCall::ConventionNames) => {
             if write_names(command).is_err() {
-                command.cut();
+                command.mark_cut();
             }
         }
         None => return false,

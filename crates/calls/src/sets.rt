@@ -15,7 +15,7 @@ fn bytes(command: &mut Command) -> RangeSet {
         }
         let (offset, size) = (command.short(), command.short());
         if bytes.add_range(u64::from(offset), u64::from(size)).is_err() {
-            command.cut();
+            command.mark_cut();
         }
     }
     bytes
@@ -27,7 +27,7 @@ fn write_difference(command: &mut Command) {
     let cuts = bytes(command);
     match all.difference(command.alloc, &cuts) {
         Ok(left) => write_runs(command, &left),
-        Err(_) => command.cut(),
+        Err(_) => command.mark_cut(),
     }
 }
 

@@ -93,7 +93,7 @@ impl Clause {
 
 /// Why a line has no answer but a refusal.
 #[derive(Clone, Copy)]
-pub(crate) enum Stop {
+pub(crate) enum Refusal {
     /// The word of this number doesn't fit; words are numbered from 1.
     Unreadable(u64),
     /// The call refuses what it was given.
@@ -104,41 +104,43 @@ pub(crate) enum Stop {
     OutOfMemory,
 }
 
-impl From<AllocError> for Stop {
+impl From<AllocError> for Refusal {
     fn from(_error: AllocError) -> Self {
-        Stop::OutOfMemory
+        Refusal::OutOfMemory
     }
 }
 
-impl From<LayError> for Stop {
+impl From<LayError> for Refusal {
     fn from(error: LayError) -> Self {
         match error {
-            LayError::OutOfMemory => Stop::OutOfMemory,
-            _ => Stop::Refused(Name::Lay(error)),
+            LayError::OutOfMemory => Refusal::OutOfMemory,
+            _ => Refusal::Refused(Name::Lay(error)),
         }
     }
 }
 
 /// The refusal that an error of the calculator is.
-pub(crate) fn calculator<F: Drop>(error: LayoutCalculatorError<F>) -> Stop {
+pub(crate) fn calculator<F: Drop>(error: LayoutCalculatorError<F>) -> Refusal {
     match error {
-        LayoutCalculatorError::UnexpectedUnsized(_) => Stop::from(LayError::UnexpectedUnsized),
-        LayoutCalculatorError::SizeOverflow => Stop::from(LayError::SizeOverflow),
-        LayoutCalculatorError::EmptyUnion => Stop::from(LayError::EmptyUnion),
-        LayoutCalculatorError::ReprConflict => Stop::from(LayError::ReprConflict),
-        LayoutCalculatorError::ZeroLengthSimdType => Stop::from(LayError::ZeroLengthSimdType),
-        LayoutCalculatorError::OversizedSimdType { .. } => Stop::from(LayError::OversizedSimdType),
+        LayoutCalculatorError::UnexpectedUnsized(_) => Refusal::from(LayError::UnexpectedUnsized),
+        LayoutCalculatorError::SizeOverflow => Refusal::from(LayError::SizeOverflow),
+        LayoutCalculatorError::EmptyUnion => Refusal::from(LayError::EmptyUnion),
+        LayoutCalculatorError::ReprConflict => Refusal::from(LayError::ReprConflict),
+        LayoutCalculatorError::ZeroLengthSimdType => Refusal::from(LayError::ZeroLengthSimdType),
+        LayoutCalculatorError::OversizedSimdType { .. } => Refusal::from(
+            LayError::OversizedSimdType,
+        ),
         LayoutCalculatorError::NonPrimitiveSimdType(_) => {
-            Stop::from(LayError::NonPrimitiveSimdType)
+            Refusal::from(LayError::NonPrimitiveSimdType)
         }
-        LayoutCalculatorError::BadOrder => Stop::from(LayError::BadOrder),
-        LayoutCalculatorError::OutOfMemory => Stop::OutOfMemory,
+        LayoutCalculatorError::BadOrder => Refusal::from(LayError::BadOrder),
+        LayoutCalculatorError::OutOfMemory => Refusal::OutOfMemory,
     }
 }
 
 /// The refusal that a fault of a data layout string is.
-pub(crate) fn data_layout(error: &TargetDataLayoutError<'_>) -> Stop {
-    Stop::Refused(match error {
+pub(crate) fn data_layout(error: &TargetDataLayoutError<'_>) -> Refusal {
+    Refusal::Refused(match error {
         TargetDataLayoutError::InvalidAddressSpace { .. } => Name::InvalidAddressSpace,
         TargetDataLayoutError::InvalidBits { .. } => Name::InvalidBits,
         TargetDataLayoutError::MissingAlignment { .. } => Name::MissingAlignment,
@@ -146,7 +148,7 @@ pub(crate) fn data_layout(error: &TargetDataLayoutError<'_>) -> Stop {
         TargetDataLayoutError::UnknownPointerSpecification { .. } => {
             Name::UnknownPointerSpecification
         }
-        TargetDataLayoutError::OutOfMemory => return Stop::OutOfMemory,
+        TargetDataLayoutError::OutOfMemory => return Refusal::OutOfMemory,
         _ => Name::Inconsistent,
     })
 }

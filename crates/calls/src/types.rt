@@ -1,4 +1,4 @@
-//! Calls of laid-out types: what handles of them tell, their padding, and their values.
+//! Calls of laid-out types: what handles of them report, their padding, and their values.
 
 ghost use Rattle.std.specs.Prelude.{IsTrue};
 ghost use Rattle.abi_tree.specs.Handles.{IsHandle};
@@ -8,8 +8,8 @@ use crate::command::Command;
 use crate::layouts::{Layout, laid_type};
 use crate::print::write_runs;
 use crate::registers::write_reg;
-use crate::stop::{Clause, Stop};
-use crate::values::{read, write, write_decider};
+use crate::stop::{Clause, Refusal};
+use crate::values::{answer_read, answer_write, write_decider};
 use abi_base::TargetDataLayout;
 use abi_index::VariantIdx;
 use abi_scalar::Variants;
@@ -33,35 +33,35 @@ fn write_uniform(command: &mut Command, it: Handle<'_>)
 }
 
 /// Writes the padding of a type, by any of its variants.
-fn write_padding(command: &mut Command, it: Handle<'_>) -> Result<(), Stop>
+fn write_padding(command: &mut Command, it: Handle<'_>) -> Result<(), Refusal>
     requires { IsHandle it }
 {
     if it.data().is_unsized() {
-        return Err(Stop::Asks(Clause::Sized));
+        return Err(Refusal::Asks(Clause::Sized));
     }
     let padding = it.variant_independent_padding_ranges(command.alloc, &())?;
     write_runs(command, &padding);
     Ok(())
 }
 
-/// Writes the padding of a type, and how many of its nodes were read to tell.
+/// Writes the padding of a type, and how many of its nodes were read for it.
 fn write_laid_padding(command: &mut Command, laid: &Laid) -> Result<(), AllocError> {
     let (padding, visits) = laid.padding(command.alloc)?;
     write_runs(command, &padding);
-    command.put(" reads ", visits as u64);
-    command.put(" of ", laid.node_count() as u64);
+    command.write_with_number(" reads ", visits as u64);
+    command.write_with_number(" of ", laid.node_count() as u64);
     Ok(())
 }
 
 /// The index of a variant; no line asks for one above a million.
-fn variant_of(index: u64) -> Result<VariantIdx, Stop> {
+fn variant_of(index: u64) -> Result<VariantIdx, Refusal> {
     if index > 1_000_000 {
-        return Err(Stop::Asks(Clause::Variant));
+        return Err(Refusal::Asks(Clause::Variant));
     }
     Ok(VariantIdx::from_usize(index as usize))
 }
 
-/// Whether the index is that of a variant, where a tag tells several apart.
+/// Whether the index is that of a variant, where a tag distinguishes several.
 fn is_variant(layout: &Layout, index: VariantIdx) -> bool
     ensures { IsTrue result → IsVariantIndex layout.now.variants index }
 {
@@ -77,12 +77,12 @@ fn is_variant(layout: &Layout, index: VariantIdx) -> bool
 }
 
 /// Writes the bytes that other variants of a type use, and the one that is next doesn't.
-fn write_unused(command: &mut Command, it: Handle<'_>) -> Result<(), Stop>
+fn write_unused(command: &mut Command, it: Handle<'_>) -> Result<(), Refusal>
     requires { IsHandle it }
 {
     let index = variant_of(command.number())?;
     if !is_variant(it.data(), index) {
-        return Err(Stop::Asks(Clause::Variant));
+        return Err(Refusal::Asks(Clause::Variant));
     }
     let unused = it.variant_dependent_padding_ranges(command.alloc, &(), index)?;
     write_runs(command, &unused);
@@ -114,14 +114,14 @@ const TYPE_CALLS: [(&[u8], TypeCall); 8] = [
 ];
 
 /// Answers a call on a laid-out type.
-fn answer(command: &mut Command, asked: TypeCall, laid: &Laid) -> Result<(), Stop> {
+fn answer(command: &mut Command, asked: TypeCall, laid: &Laid) -> Result<(), Refusal> {
     match asked {
         TypeCall::Uniform => write_uniform(command, laid.root()),
         TypeCall::Padding => return write_padding(command, laid.root()),
         TypeCall::LaidPadding => return Ok(write_laid_padding(command, laid)?),
         TypeCall::Unused => return write_unused(command, laid.root()),
-        TypeCall::Write => return write(command, laid),
-        TypeCall::Read => return read(command, laid),
+        TypeCall::Write => return answer_write(command, laid),
+        TypeCall::Read => return answer_read(command, laid),
         TypeCall::Decider => return Ok(write_decider(command, laid)?),
         TypeCall::AllInhabited => command.write_truth(laid.all_inhabited()),
     }
@@ -129,14 +129,18 @@ fn answer(command: &mut Command, asked: TypeCall, laid: &Laid) -> Result<(), Sto
 }
 
 /// Answers a call on the type that is next.
-fn call_on_type(dl: &TargetDataLayout, command: &mut Command, asked: TypeCall) -> Result<(), Stop> {
+fn call_on_type(
+    dl: &TargetDataLayout,
+    command: &mut Command,
+    asked: TypeCall,
+) -> Result<(), Refusal> {
     let laid = laid_type(dl, command)?;
     answer(command, asked, &laid)
 }
 
 /// Answers the call; whether it is one of these.
 pub(crate) fn answers(dl: &TargetDataLayout, command: &mut Command) -> bool {
-    let Some(asked) = command.named(&TYPE_CALLS) else {
+    let Some(asked) = command.meaning_of_name(&TYPE_CALLS) else {
         return false;
     };
     let done = call_on_type(dl, command, asked);

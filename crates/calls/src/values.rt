@@ -1,27 +1,27 @@
-//! Calls that write values to bytes and read them from bytes, and that tell which bytes decide.
+//! Calls that write values to bytes and read them from bytes, and that say which bytes decide.
 
 mod print;
-mod told;
+mod words;
 
 use crate::command::Command;
-use crate::stop::{Name, Stop};
+use crate::stop::{Name, Refusal};
 use crate::values::print::{write_bytes, write_meant};
-use crate::values::told::{bytes, value};
+use crate::values::words::{bytes, value};
 use rustc_abi::{Laid, Value, ValueError, read_value, write_value};
 use std::alloc::{AllocError, Global};
 
 /// Writes the bytes of a value.
-fn write_written(command: &mut Command, laid: &Laid, value: &Value) -> Result<(), Stop> {
+fn write_written(command: &mut Command, laid: &Laid, value: &Value) -> Result<(), Refusal> {
     match write_value(command.alloc, laid, value) {
         Ok(bytes) => write_bytes(command, &bytes),
-        Err(ValueError::NotAValue) => return Err(Stop::Refused(Name::NotAValue)),
-        Err(ValueError::OutOfMemory) => command.cut(),
+        Err(ValueError::NotAValue) => return Err(Refusal::Refused(Name::NotAValue)),
+        Err(ValueError::OutOfMemory) => command.mark_cut(),
     }
     Ok(())
 }
 
 /// `write TYPE VALUE`, from the value on
-pub(crate) fn write(command: &mut Command, laid: &Laid) -> Result<(), Stop> {
+pub(crate) fn answer_write(command: &mut Command, laid: &Laid) -> Result<(), Refusal> {
     let value = value(command);
     command.end();
     write_written(command, laid, &value)
@@ -37,7 +37,7 @@ fn write_held(command: &mut Command, laid: &Laid, bytes: &[u8]) -> Result<(), Al
 }
 
 /// `read TYPE BYTE..`, from the bytes on
-pub(crate) fn read(command: &mut Command, laid: &Laid) -> Result<(), Stop> {
+pub(crate) fn answer_read(command: &mut Command, laid: &Laid) -> Result<(), Refusal> {
     let bytes = bytes(command);
     command.end();
     Ok(write_held(command, laid, &bytes)?)

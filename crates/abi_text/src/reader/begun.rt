@@ -2,7 +2,7 @@
 
 ghost use Rattle.std.specs.Prelude.{◌≡◌, ◌++◌, ◌∷◌, [], IfOk, IfErr, OnOk};
 ghost use Rattle.abi_tree.specs.Tree.{tree_of, vector};
-ghost use Rattle.abi_text.specs.Reading.{begun_by, begun_in, coroutine_with, parts_by, put, put_primitive, put_scalar, state_of, waiting, with_member, with_type};
+ghost use Rattle.abi_text.specs.Reading.{begun_by, begun_in, coroutine_with, parts_by, put_type, put_primitive, put_scalar, state_of, waiting, with_member, with_type};
 
 use crate::fault::Fault;
 use crate::reader::repr_text::StructRepr;
@@ -223,9 +223,9 @@ fn with_member(tree: TypeTree, top: &mut Open) -> Result<(), Fault>
 }
 
 /// Puts a complete type into the innermost type that is begun.
-pub(crate) fn put(alloc: Global, tree: TypeTree, reader: &mut Reader) -> Result<(), Fault>
+pub(crate) fn put_type(alloc: Global, tree: TypeTree, reader: &mut Reader) -> Result<(), Fault>
     ensures ok { OnOk result (state_of reader.new
-        ≡ put (tree_of tree) (begun_in reader.old.begun.items)) }
+        ≡ put_type (tree_of tree) (begun_in reader.old.begun.items)) }
     ensures err { IfErr result (λ fault. fault ≡ Fault.OutOfMemory) }
 {
     let mut tree = tree;
@@ -258,12 +258,12 @@ pub(crate) fn put_scalar(
     ensures err { IfErr result (λ fault. fault ≡ Fault.OutOfMemory) }
 {
     match place {
-        ScalarPlace::Alone => put(alloc, TypeTree::Scalar(scalar), reader),
+        ScalarPlace::Alone => put_type(alloc, TypeTree::Scalar(scalar), reader),
         ScalarPlace::First => {
             reader.want = Want::Scalar(ScalarPlace::Second(scalar));
             Ok(())
         }
-        ScalarPlace::Second(first) => put(alloc, TypeTree::Pair(first, scalar), reader),
+        ScalarPlace::Second(first) => put_type(alloc, TypeTree::Pair(first, scalar), reader),
     }
 }
 

@@ -6,7 +6,7 @@ ghost use Rattle.abi_text.specs.Reading.{Agrees, begun_in, closed, indices_by, p
 
 use crate::fault::Fault;
 use crate::reader::begun::{
-    CoroutineParts, CoroutineWant, Open, OrderWant, Reader, Want, put, wait_for,
+    CoroutineParts, CoroutineWant, Open, OrderWant, Reader, Want, put_type, wait_for,
 };
 use crate::reader::repr_text::StructRepr;
 use abi_scalar::ReprOptions;
@@ -76,7 +76,7 @@ fn close_part(alloc: Global, parts: CoroutineParts, reader: &mut Reader) -> Resu
             wait_for(CoroutineWant::State, parts, reader)
         }
         CoroutineParts::Conflicts(prefix, locals, states, conflicts) => {
-            put(
+            put_type(
                 alloc,
                 whole_coroutine(prefix, locals, states, conflicts),
                 reader,
@@ -97,7 +97,7 @@ pub(crate) fn close(alloc: Global, number: u64, reader: &mut Reader) -> Result<(
                 always_sized: asked.always_sized,
                 fields,
             };
-            put(alloc, tree, reader)
+            put_type(alloc, tree, reader)
         }
         Some(Open::Ordering(asked, order)) => {
             reader.begun.push(Open::Ordering(asked, order))?;
@@ -105,16 +105,20 @@ pub(crate) fn close(alloc: Global, number: u64, reader: &mut Reader) -> Result<(
             Ok(())
         }
         Some(Open::Ordered(asked, order, fields)) => {
-            put(alloc, ordered(&asked, order, fields), reader)
+            put_type(alloc, ordered(&asked, order, fields), reader)
         }
-        Some(Open::Members(repr, fields)) => put(alloc, TypeTree::Union { repr, fields }, reader),
+        Some(Open::Members(repr, fields)) => put_type(
+            alloc,
+            TypeTree::Union { repr, fields },
+            reader,
+        ),
         Some(Open::Variant(repr, mut variants, discriminant, fields)) => {
             variants.push((discriminant, fields))?;
             reader.begun.push(Open::Variants(repr, variants))?;
             reader.want = Want::Discriminant;
             Ok(())
         }
-        Some(Open::Variants(repr, variants)) => put(alloc, whole_enum(repr, variants), reader),
+        Some(Open::Variants(repr, variants)) => put_type(alloc, whole_enum(repr, variants), reader),
         Some(Open::Coroutine(parts)) => close_part(alloc, parts, reader),
         _ => Err(Fault::Unreadable(number)),
     }

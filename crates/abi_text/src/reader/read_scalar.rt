@@ -6,7 +6,7 @@ ghost use Rattle.abi_text.specs.Reading.{Agrees, at_end, at_primitive, at_scalar
 ghost use Rattle.abi_text.specs.ScalarWords.{scalar_word};
 
 use crate::fault::Fault;
-use crate::number::{short, wide};
+use crate::number::{number_u32, number_u128};
 use crate::reader::begun::{
     Open, Reader, ScalarForm, ScalarPlace, Want, put_primitive, put_scalar,
 };
@@ -136,7 +136,7 @@ pub(crate) fn read_space(
         (at_space dl.now number form place (begun_in reader.old.begun.items)
         (number_of_bits 32 word.now)) result }
 {
-    match short(word) {
+    match number_u32(word) {
         Some(space) => {
             let value = Primitive::Pointer(AddressSpace(space));
             put_primitive(alloc, dl, value, form, place, reader)
@@ -157,7 +157,7 @@ pub(crate) fn read_start(
         (at_start number value place (begun_in reader.old.begun.items)
         (number_of_bits 128 word.now)) result }
 {
-    match wide(word) {
+    match number_u128(word) {
         Some(start) => {
             reader.want = Want::RangeEnd(value, start, place);
             Ok(())
@@ -180,7 +180,7 @@ pub(crate) fn read_end(
         (at_end number value start place (begun_in reader.old.begun.items)
         (number_of_bits 128 word.now)) result }
 {
-    match wide(word) {
+    match number_u128(word) {
         Some(end) => {
             let valid_range = WrappingRange { start, end };
             put_scalar(

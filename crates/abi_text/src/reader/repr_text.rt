@@ -5,7 +5,7 @@ ghost use Rattle.std.specs.List.{list_all};
 ghost use Rattle.abi_text.specs.Repr.{alignment_after, are_repr_words, asked_by, has_kind, integer_type_named, is_single, repr_kind, flagged, repr_part, repr_parts, plain, struct_repr, union_repr, valued_part, with_part};
 
 use crate::number::decimal;
-use crate::pieces::cut;
+use crate::pieces::split_at_byte;
 use crate::reader::scalar_word::integer_named;
 use abi_base::{Align, IntegerType};
 use abi_index::Hash64;
@@ -143,7 +143,7 @@ fn are_known(text: &[u8]) -> bool
 {
     let mut rest = Some(text);
     while let Some(text) = rest {
-        let (part, more) = cut(text, b',');
+        let (part, more) = split_at_byte(text, b',');
         if part_of(part).is_none() {
             return false;
         }
@@ -159,7 +159,7 @@ fn is_single(text: &[u8], kind: ReprKind) -> bool
     let mut seen = false;
     let mut rest = Some(text);
     while let Some(text) = rest {
-        let (part, more) = cut(text, b',');
+        let (part, more) = split_at_byte(text, b',');
         if has_kind(part, kind) {
             if seen {
                 return false;
@@ -225,7 +225,7 @@ fn asked_by(text: &[u8]) -> StructRepr
     let mut asked = plain();
     let mut rest = Some(text);
     while let Some(text) = rest {
-        let (part, more) = cut(text, b',');
+        let (part, more) = split_at_byte(text, b',');
         if let Some(part) = part_of(part) {
             asked = with_part(&asked, &part);
         }

@@ -24,14 +24,14 @@ impl Command {
     }
 
     /// Something is missing.
-    pub(crate) fn cut(&mut self) {
+    pub(crate) fn mark_cut(&mut self) {
         self.is_cut = true;
     }
 
     /// Something is missing where it couldn't be written.
     fn note(&mut self, written: Result<(), AllocError>) {
         if written.is_err() {
-            self.cut();
+            self.mark_cut();
         }
     }
 
@@ -70,13 +70,13 @@ impl Command {
     }
 
     /// Writes a text, and a number behind it.
-    pub(crate) fn put(&mut self, before: &str, number: u64) {
+    pub(crate) fn write_with_number(&mut self, before: &str, number: u64) {
         self.write(before);
         self.write_number(number);
     }
 
     /// Writes a text, and behind it whether something is so.
-    pub(crate) fn tell(&mut self, before: &str, holds: bool) {
+    pub(crate) fn write_with_truth(&mut self, before: &str, holds: bool) {
         self.write(before);
         self.write_truth(holds);
     }

@@ -1,14 +1,16 @@
 //! The words of a line, one after another.
 
-use crate::command::{Command, Place};
-use crate::stop::{Name, Stop};
+use crate::command::{Command, WordSpan};
+use crate::stop::{Name, Refusal};
 use abi_base::{Align, Integer, Primitive, Size, TargetDataLayout};
 use abi_scalar::{ReprOptions, Scalar};
-use abi_text::{Fault, StructRepr, decimal, next_word, read_type, short, struct_repr, wide};
+use abi_text::{
+    Fault, StructRepr, decimal, next_word, number_u32, number_u128, read_type, struct_repr,
+};
 use abi_tree::TypeTree;
 
 /// What the word stands for by a table, if it is there.
-pub(crate) fn named<T: Copy>(table: &[(&[u8], T)], word: &[u8]) -> Option<T> {
+pub(crate) fn meaning_of<T: Copy>(table: &[(&[u8], T)], word: &[u8]) -> Option<T> {
     for (name, meaning) in table {
         if *name == word {
             return Some(*meaning);
@@ -18,50 +20,50 @@ pub(crate) fn named<T: Copy>(table: &[(&[u8], T)], word: &[u8]) -> Option<T> {
 }
 
 /// The scalar that a type is, whose first word has this number.
-fn scalar_of(tree: &TypeTree, first: u64) -> Result<Scalar, Stop> {
+fn scalar_of(tree: &TypeTree, first: u64) -> Result<Scalar, Refusal> {
     match tree {
         TypeTree::Scalar(scalar) => Ok(*scalar),
-        _ => Err(Stop::Unreadable(first)),
+        _ => Err(Refusal::Unreadable(first)),
     }
 }
 
 /// What a fault in the words behind the first `count` stops their line with.
-fn stop_of(fault: Fault, count: u64) -> Stop {
+fn stop_of(fault: Fault, count: u64) -> Refusal {
     match fault {
-        Fault::Unreadable(number) => Stop::Unreadable(count.saturating_add(number)),
-        Fault::TooDeep => Stop::Refused(Name::TooDeep),
-        Fault::OutOfMemory => Stop::OutOfMemory,
+        Fault::Unreadable(number) => Refusal::Unreadable(count.saturating_add(number)),
+        Fault::TooDeep => Refusal::Refused(Name::TooDeep),
+        Fault::OutOfMemory => Refusal::OutOfMemory,
     }
 }
 
 impl Command {
     /// What is left of the line.
-    fn rest(&self) -> &[u8] {
+    fn rest_of_line(&self) -> &[u8] {
         self.line.get(self.start..).unwrap_or(&[])
     }
 
     /// The word at a place.
-    fn word_at(&self, place: Place) -> &[u8] {
+    fn word_at(&self, place: WordSpan) -> &[u8] {
         self.line.get(place.start..place.end).unwrap_or(&[])
     }
 
     /// The word at a place, where it is text.
-    pub(crate) fn text_at(&self, place: Place) -> &str {
+    pub(crate) fn text_at(&self, place: WordSpan) -> &str {
         str::from_utf8(self.word_at(place)).unwrap_or("")
     }
 
     /// Where the next word stands, which stays, if one is left.
-    fn next(&self) -> Option<Place> {
-        let (word, rest) = next_word(self.rest())?;
+    fn next(&self) -> Option<WordSpan> {
+        let (word, rest) = next_word(self.rest_of_line())?;
         let end = self.line.len().saturating_sub(rest.len());
         let start = end.saturating_sub(word.len());
-        Some(Place { start, end })
+        Some(WordSpan { start, end })
     }
 
     /// Where the next word stands; it is missing, else.
-    fn step(&mut self) -> Place {
+    fn step(&mut self) -> WordSpan {
         if self.stop.is_some() {
-            return Place::NOWHERE;
+            return WordSpan::NOWHERE;
         }
         self.count = self.count.saturating_add(1);
         match self.next() {
@@ -71,7 +73,7 @@ impl Command {
             }
             None => {
                 self.misfit();
-                Place::NOWHERE
+                WordSpan::NOWHERE
             }
         }
     }
@@ -140,8 +142,8 @@ impl Command {
     }
 
     /// What the call's name stands for by a table, if it is there.
-    pub(crate) fn named<T: Copy>(&self, table: &[(&[u8], T)]) -> Option<T> {
-        named(table, self.word_at(self.name))
+    pub(crate) fn meaning_of_name<T: Copy>(&self, table: &[(&[u8], T)]) -> Option<T> {
+        meaning_of(table, self.word_at(self.name))
     }
 
     /// What was read last; it doesn't fit where there is nothing.
@@ -157,12 +159,12 @@ impl Command {
 
     /// What the next word stands for by a table.
     pub(crate) fn one_of<T: Copy>(&mut self, table: &[(&[u8], T)], otherwise: T) -> T {
-        let read = named(table, self.word());
+        let read = meaning_of(table, self.word());
         self.fits(read, otherwise)
     }
 
     /// Where the next word stands, which has to be text.
-    pub(crate) fn text(&mut self) -> Place {
+    pub(crate) fn text(&mut self) -> WordSpan {
         let place = self.step();
         let is_text = str::from_utf8(self.word_at(place)).is_ok();
         if !is_text {
@@ -179,7 +181,7 @@ impl Command {
 
     /// A number of 32 bits.
     pub(crate) fn short(&mut self) -> u32 {
-        let read = short(self.word());
+        let read = number_u32(self.word());
         self.fits(read, 0)
     }
 
@@ -194,8 +196,8 @@ impl Command {
     }
 
     /// A number of 128 bits.
-    pub(crate) fn wide(&mut self) -> u128 {
-        let read = wide(self.word());
+    pub(crate) fn wide_number(&mut self) -> u128 {
+        let read = number_u128(self.word());
         self.fits(read, 0)
     }
 
@@ -231,10 +233,10 @@ impl Command {
     }
 
     /// The type that the next words write. It ends where the first word stands that is none of it.
-    pub(crate) fn tree(&mut self, dl: &TargetDataLayout) -> Result<TypeTree, Stop> {
+    pub(crate) fn tree(&mut self, dl: &TargetDataLayout) -> Result<TypeTree, Refusal> {
         self.go_on()?;
         let (start, count) = (self.start, self.count);
-        match read_type(self.alloc, dl, self.rest()) {
+        match read_type(self.alloc, dl, self.rest_of_line()) {
             Ok(tree) => {
                 self.skip(u64::MAX);
                 return Ok(tree);
@@ -243,7 +245,7 @@ impl Command {
             Err(fault) => return Err(stop_of(fault, count)),
         }
         let end = self.start;
-        match read_type(self.alloc, dl, self.word_at(Place { start, end })) {
+        match read_type(self.alloc, dl, self.word_at(WordSpan { start, end })) {
             Ok(tree) => Ok(tree),
             Err(fault) => Err(stop_of(fault, count)),
         }

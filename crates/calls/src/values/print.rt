@@ -46,7 +46,7 @@ pub(crate) fn write_meant(command: &mut Command, value: &Value) {
         }
         Value::List(values) => write_each(command, values),
         Value::Variant(index, values) => {
-            command.put("variant ", *index as u64);
+            command.write_with_number("variant ", *index as u64);
             command.write(" ");
             write_each(command, values);
         }
@@ -55,7 +55,7 @@ pub(crate) fn write_meant(command: &mut Command, value: &Value) {
             prefix,
             locals,
         } => {
-            command.put("state ", *state as u64);
+            command.write_with_number("state ", *state as u64);
             command.write(" ");
             write_each(command, prefix);
             command.write(" ");

@@ -3,8 +3,8 @@ use Rattle.std.proofs.lemmas.Result.{IfErr-weaker, IfOk-weaker}
 use Rattle.std.proofs.lemmas.Str.{is_utf8-from_IsUtf8}
 use Rattle.abi_text.proofs.Utf8.{no_utf8}
 use Rattle.abi_text.specs.DataLayoutLine.{data_layout_of}
-use Rattle.abi_c.specs.Flat.{IsLaidTold, IsToldOf}
-use Rattle.abi_c.proofs.Telling.{fails_weaker, under_none, under_text}
+use Rattle.abi_c.specs.Flat.{IsLayingReply, IsReplyOf}
+use Rattle.abi_c.proofs.Replies.{fails_weaker, under_none, under_text}
 use Rattle.abi_c.proofs.laid_type.lay_type.Goals as goal
 
 pub returns-in-Ok-clause-ok : goal.returns-in-Ok-clause-ok
@@ -22,9 +22,9 @@ pub returns-in-Ok-clause-err : goal.returns-in-Ok-clause-err
 returns-in-Ok-clause-err c =
     IfErr-weaker c.lay_under.result _ _
     (λ f. fails_weaker _ _
-    (λ told is. under_text (λ dl. IsToldOf (IsLaidTold dl) c.args.tree.now) c.args.string.now c.in-Ok.text.now told (is_utf8-from_IsUtf8 c.args.string.now c.in-Ok.ensures.cases.1) c.in-Ok.ensures.cases.0 is) f)
+    (λ reply is. under_text (λ dl. IsReplyOf (IsLayingReply dl) c.args.tree.now) c.args.string.now c.in-Ok.text.now reply (is_utf8-from_IsUtf8 c.args.string.now c.in-Ok.ensures.cases.1) c.in-Ok.ensures.cases.0 is) f)
     c.lay_under.ensures.err
 
 pub returns-in-Err-clause-err : goal.returns-in-Err-clause-err
 returns-in-Err-clause-err c =
-    (under_none (λ dl. IsToldOf (IsLaidTold dl) c.args.tree.now) c.args.string.now _ (sym (no_utf8 c.args.string.now c.in-Err.ensures.cases.0)) refl, omega arith)
+    (under_none (λ dl. IsReplyOf (IsLayingReply dl) c.args.tree.now) c.args.string.now _ (sym (no_utf8 c.args.string.now c.in-Err.ensures.cases.0)) refl, omega arith)

@@ -1,19 +1,19 @@
 use Rattle.std.proofs.Common.{inl, inr}
 use Rattle.std.proofs.lemmas.Result.{IfOk-weaker}
 use Rattle.abi_tree.specs.Laid.{placed_of}
-use Rattle.abi_c.specs.Flat.{IsLayoutTold, told_by}
-use Rattle.abi_c.proofs.Telling.{told_failure}
+use Rattle.abi_c.specs.Flat.{IsLayoutReply, reply_of}
+use Rattle.abi_c.proofs.Replies.{reply_failure}
 use Rattle.abi_c.proofs.values.answer_read.Goals as goal
 
 pub returns-in-Ok : goal.returns-in-Ok
 returns-in-Ok c =
     let laid = c.in-Ok.ensures.ok in
-    IfOk-weaker c.read_of.result _ _
+    IfOk-weaker c.numbers_of_bytes.result _ _
     (λ a is. inl (laid.0, laid.1, placed_of c.in-Ok.laid, laid.2, is laid.0 laid.1 laid.3))
-    c.read_of.ensures
+    c.numbers_of_bytes.ensures
 
 pub returns-in-Err-Refused : goal.returns-in-Err-Refused
 returns-in-Err-Refused c =
     IfOk-weaker c.one_number.result _ _
-    (λ a is. inr (told_failure (IsLayoutTold c.args.string.now c.args.tree.now) c.in-Err-Refused.field-0 c.in-Err-Refused.status c.in-Err-Refused.number (told_by a) c.in-Err-Refused.field-0-is c.in-Err-Refused.ensures.err is))
+    (λ a is. inr (reply_failure (IsLayoutReply c.args.string.now c.args.tree.now) c.in-Err-Refused.field-0 c.in-Err-Refused.status c.in-Err-Refused.number (reply_of a) c.in-Err-Refused.field-0-is c.in-Err-Refused.ensures.err is))
     c.one_number.ensures

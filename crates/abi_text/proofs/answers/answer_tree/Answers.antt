@@ -9,15 +9,15 @@ use Rattle.abi_tree.specs.Laid.{placed_of}
 use Rattle.abi_tree.specs.Placed.{Placed}
 use Rattle.abi_tree.specs.Tree.{Tree, tree_of}
 use Rattle.abi_text.specs.Names.{error_name}
-use Rattle.abi_text.specs.Output.{Output, IsOutputOfTree, answered_by, refused}
+use Rattle.abi_text.specs.Output.{Output, IsOutputOfTree, answered_by, refusal}
 use Rattle.abi_text.proofs.answers.answer_tree.Goals as goal
 
 -- a refusal, as it is written
-told : (tells : TargetDataLayout → Placed → List ℕ → Type 0) (dl : TargetDataLayout) (t : Tree) (e : LayError) → IsRefusedFor dl t e → e ≢ OutOfMemory → (output : Output)
-    → output ≡ refused (error_name e) → IsOutputOfTree tells dl t output
-told tells dl t e (inl memory) granted output is = absurd (granted memory)
-told tells dl t e (inr (inl (unlawful, name))) granted output is = record { lawful = λ law. absurd (unlawful law); unlawful = λ _. is ∙ ap (λ x. refused (error_name x)) name }
-told tells dl t e (inr (inr (law, laying))) granted output is = record { lawful = λ _. (Err e, laying, is); unlawful = λ un. absurd (un law) }
+report_text : (reports : TargetDataLayout → Placed → List ℕ → Type 0) (dl : TargetDataLayout) (t : Tree) (e : LayError) → IsRefusedFor dl t e → e ≢ OutOfMemory → (output : Output)
+    → output ≡ refusal (error_name e) → IsOutputOfTree reports dl t output
+report_text reports dl t e (inl memory) granted output is = absurd (granted memory)
+report_text reports dl t e (inr (inl (unlawful, name))) granted output is = record { lawful = λ law. absurd (unlawful law); unlawful = λ _. is ∙ ap (λ x. refusal (error_name x)) name }
+report_text reports dl t e (inr (inr (law, laying))) granted output is = record { lawful = λ _. (Err e, laying, is); unlawful = λ un. absurd (un law) }
 
 pub answer_laid-requires : goal.answer_laid-requires
 answer_laid-requires g c = record {
@@ -35,5 +35,5 @@ returns-in-Ok g c =
 pub returns-in-Err : goal.returns-in-Err
 returns-in-Err g c =
     IfOk-weaker c.answer_error.result _ _
-    (λ a is. told g.T.Telling.tells c.args.dl.now (tree_of c.args.tree.now) c.in-Err.error c.in-Err.ensures.refused is.0 (answered_by a) is.1)
+    (λ a is. report_text g.T.Report.reports c.args.dl.now (tree_of c.args.tree.now) c.in-Err.error c.in-Err.ensures.refused is.0 (answered_by a) is.1)
     c.answer_error.ensures

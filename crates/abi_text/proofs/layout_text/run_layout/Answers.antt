@@ -2,11 +2,11 @@ use Rattle.std.proofs.Common.{refl, sym, ◌∙◌}
 use Rattle.abi_text.specs.Printing.{type_text}
 use Rattle.abi_text.proofs.OneOutput.{one_output}
 use Rattle.abi_text.proofs.SomeOutput.{some_output}
-use Rattle.abi_text.specs.Telling.{TellsLayout}
+use Rattle.abi_text.specs.Report.{ReportsLayout}
 use Rattle.abi_text.proofs.layout_text.run_layout.Goals as goal
 
 pub returns-clause-one : goal.returns-clause-one
-returns-clause-one g c all a b h k = one_output TellsLayout (λ dl t p x y law laying this that. this ∙ sym that) all a b h k
+returns-clause-one g c all a b h k = one_output ReportsLayout (λ dl t p x y law laying this that. this ∙ sym that) all a b h k
 
 pub returns-clause-some : goal.returns-clause-some
-returns-clause-some g c all = some_output TellsLayout (λ dl t p law laying. (type_text p, refl)) all
+returns-clause-some g c all = some_output ReportsLayout (λ dl t p law laying. (type_text p, refl)) all

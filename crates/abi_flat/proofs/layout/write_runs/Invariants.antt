@@ -1,6 +1,0 @@
-use Rattle.std.proofs.Common.{◌≡◌, ◌++◌, take}
-use Rattle.abi_flat.specs.FlatTree.{flat_pairs}
-use Rattle.abi_flat.proofs.layout.write_runs.Given as goal
-
-abbrev pub invariant-loop-run : goal.invariant-loop-run
-invariant-loop-run l = l.out.items ≡ l.initial.out.items ++ flat_pairs (take l.run-index l.runs)

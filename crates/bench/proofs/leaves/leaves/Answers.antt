@@ -1,4 +1,0 @@
-use Rattle.bench.proofs.leaves.leaves.Goals as goal
-
-pub scalar-requires-in-loop-place : goal.scalar-requires-in-loop-place
-scalar-requires-in-loop-place c = c.scalar.ensures c.args.dl.now

@@ -1,6 +1,0 @@
--- As many as the place says.
-use Rattle.std.proofs.Common.{◌≡◌, vec_len}
-use Rattle.bench.proofs.leaves.leaves.Given as goal
-
-abbrev pub invariant-loop-place : goal.invariant-loop-place
-invariant-loop-place l = vec_len l.leaves ≡ l.place

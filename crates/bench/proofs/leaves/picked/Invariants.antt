@@ -1,6 +1,0 @@
--- As many as the steps.
-use Rattle.std.proofs.Common.{◌≡◌, length}
-use Rattle.bench.proofs.leaves.picked.Given as goal
-
-abbrev pub invariant-loop-step : goal.invariant-loop-step
-invariant-loop-step l = length l.fields ≡ l._step

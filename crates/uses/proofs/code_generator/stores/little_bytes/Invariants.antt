@@ -1,9 +1,0 @@
-use Rattle.std.proofs.Common.{◌-◌, length}
-use Rattle.uses.proofs.Stored.{IsStored}
-use Rattle.uses.proofs.code_generator.stores.little_bytes.Given as goal
-
-abbrev pub invariant-loop-bytes : goal.invariant-loop-bytes
-invariant-loop-bytes l = IsStored l.bytes.items l.rest l.number l.size
-
-abbrev pub decreases-loop-bytes : goal.decreases-loop-bytes
-decreases-loop-bytes l = l.size - length l.bytes.items
