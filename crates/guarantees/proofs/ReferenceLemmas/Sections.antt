@@ -1,5 +1,5 @@
 -- The rules of a section, together.
-use Rattle.std.proofs.Common.{◌≡◌, Ok, Err, Result}
+use Rattle.std.proofs.Common.{Ok, Err, Result}
 use Rattle.std.specs.Prelude.{IfOk}
 use Rattle.abi_base.specs.declared.data_layout.TargetDataLayout.{TargetDataLayout}
 use Rattle.abi_tree.specs.declared.laid.Laid.{Laid}

@@ -1,4 +1,4 @@
-use Rattle.std.proofs.Common.{IsTrue, arith, rules, subst, ◌∙◌}
+use Rattle.std.proofs.Common.{IsTrue, rules}
 use Rattle.bench.proofs.calculator.time_coroutine.Goals as goal
 
 pub time-requires : goal.time-requires

@@ -1,16 +1,12 @@
 -- The discriminants that are given are those of the list, and what is answered for the tag's integer is the enum's.
-use Rattle.std.proofs.Common.{◌≡◌, ℕ, Bor, List, ap, length, map, rules, subst, sym, ◌∙◌, IsPermutation}
+use Rattle.std.proofs.Common.{◌≡◌, Bor, List, length, rules, subst, sym, ◌∙◌, IsPermutation}
 use Rattle.std.proofs.lemmas.List.Sorted.{IsPermutation-refl}
-use Rattle.abi_base.specs.declared.data_layout.TargetDataLayout.{TargetDataLayout}
-use Rattle.abi_base.specs.declared.integer.Integer.{Integer}
 use Rattle.abi_index.specs.declared.idx.FieldIdx.{FieldIdx}
 use Rattle.abi_index.specs.declared.idx.VariantIdx.{VariantIdx}
 use Rattle.abi_index.specs.Slice.{items_of}
 use Rattle.abi_scalar.specs.declared.layout_data.LayoutData.{LayoutData}
 use Rattle.abi_univariant.specs.Placement.{source_order}
 use Rattle.abi_calc.specs.Enums.Answer.{HasOneEach}
-use Rattle.abi_calc.specs.Enums.Discriminants.{inhabited_of}
-use Rattle.abi_calc.specs.Enums.Several.{IsLawfulTag}
 use Rattle.bench.proofs.calculator.TimedEnumTimed.answer.Goals as goal
 
 pub layout_of_struct_or_enum-requires-clause-fields : goal.layout_of_struct_or_enum-requires-clause-fields

@@ -1,4 +1,4 @@
-use Rattle.std.proofs.Common.{Bor, List, All, rules, subst, sym}
+use Rattle.std.proofs.Common.{Bor, List, All, subst, sym}
 use Rattle.abi_index.specs.declared.idx.FieldIdx.{FieldIdx}
 use Rattle.abi_index.specs.declared.idx.VariantIdx.{VariantIdx}
 use Rattle.abi_scalar.specs.declared.layout_data.LayoutData.{LayoutData}

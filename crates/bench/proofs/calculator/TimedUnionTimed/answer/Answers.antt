@@ -1,4 +1,4 @@
-use Rattle.std.proofs.Common.{Bor, List, [], ◌∷◌, ◌≡◌, All, length}
+use Rattle.std.proofs.Common.{Bor, List, [], ◌∷◌, All}
 use Rattle.std.proofs.lemmas.List.Elements.{All-head, All-nil}
 use Rattle.abi_univariant.specs.Union.{only_of}
 use Rattle.abi_index.specs.declared.idx.FieldIdx.{FieldIdx}
