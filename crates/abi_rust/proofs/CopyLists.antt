@@ -1,15 +1,17 @@
 -- Whether types are `Copy` within less room, and lists of parts, one more.
-use Rattle.std.proofs.Common.{◌≡◌, ℕ, zero, suc, ◌+◌, ◌<◌, ◌≤◌, Bool, true, false, List, [], ◌∷◌, Ok, length, map, drop, get_or, drop-cons, add-one, refl, ap, arith}
+use Rattle.std.proofs.Common.{◌≡◌, ℕ, zero, suc, ◌+◌, ◌<◌, ◌≤◌, Bool, true, false, List, [], ◌∷◌, Ok, Some, length, map, drop, get_or, drop-cons, add-one, refl, ap, arith}
 use Rattle.std.specs.Prelude.{◌&&◌, ◌||◌}
 use Rattle.std.proofs.lemmas.List.{drop_all}
 use Rattle.rust_source.specs.declared.item.Field.{Field}
+use Rattle.rust_source.specs.declared.item.Item.{Item}
 use Rattle.rust_source.specs.declared.item.Variant.{Variant}
 use Rattle.abi_rust.specs.declared.budget.Context.{Context}
 use Rattle.abi_rust.specs.declared.ty.Ty.{Ty}
-use Rattle.abi_rust.specs.CopyTypes.{all_fit_union, fields_lack, fits_union, lacks_copy, lacks_copy_with, meant_lacks, parts_lack, union_fields_checked, union_type_checked, variants_lack}
+use Rattle.abi_rust.specs.CopyTypes.{all_fit_union, fields_lack, fits_union, is_never_copy, item_lacks_by, kind_lacks, lacks_copy, lacks_copy_with, meant_lacks, parts_lack, union_fields_checked, union_type_checked, variants_lack}
 use Rattle.abi_rust.specs.Meaning.{then_meant}
-use Rattle.abi_rust.specs.Resolving.{resolved}
-use Rattle.abi_rust.specs.Types.{TyRead, Where, ty_of, types}
+use Rattle.abi_rust.specs.Resolving.{inside_item, resolved}
+use Rattle.abi_rust.specs.Types.{GenericArgRead, TyRead, Where, givens, ty_of, types}
+use Rattle.abi_rust.proofs.Lasts.{list_given_is}
 
 module _ (cx : Context) where
   pub copy_less : (depth_left left : ℕ) (t : TyRead) → left + 1 ≡ depth_left → lacks_copy cx depth_left t ≡ lacks_copy_with cx (lacks_copy cx left) t
@@ -23,6 +25,11 @@ module _ (cx : Context) where
   copy_none (suc depth_left) t is = absurd (omega arith)
 
   module _ (lacks : TyRead → Bool) where
+    -- an item that may be `Copy` lacks it where a field does, under what its parameters are given
+    pub item_on : (n : ℕ) (it : Item) (gs : List GenericArgRead) → is_never_copy cx it ≡ false
+        → item_lacks_by cx lacks n (givens gs) (Some it) ≡ kind_lacks cx lacks (inside_item n it gs) it.kind
+    item_on n it gs may = rw (may, list_given_is gs) refl
+
     pub parts_on : (all : List Ty) (i : ℕ) (t : Ty) → i < length all → t ≡ get_or all i t
         → parts_lack cx lacks (types (map ty_of (drop i all))) ≡ (lacks (ty_of t) || parts_lack cx lacks (types (map ty_of (drop (i + 1) all))))
     parts_on all i t more is = rw (drop-cons all i t, ← is, add-one i) refl

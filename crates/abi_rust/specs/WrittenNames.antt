@@ -4,8 +4,10 @@ use Rattle.rust_source.specs.declared.item.Field.{Field}
 use Rattle.rust_source.specs.declared.item.Item.{Item}
 use Rattle.rust_source.specs.declared.item.ItemKind.{ItemKind}
 use Rattle.rust_source.specs.declared.item.ItemKind.TheVariants.{Alias as AliasItem, Const as ConstItem, Enum as EnumItem, Struct as StructItem, Union as UnionItem}
+use Rattle.rust_source.specs.declared.item.Parameter.{Parameter}
 use Rattle.rust_source.specs.declared.item.ParameterKind.{ParameterKind}
 use Rattle.rust_source.specs.declared.item.ParameterKind.TheVariants.{Const as ConstParameter, «Type» as TypeParameter}
+use Rattle.rust_source.specs.declared.item.Variant.{Variant}
 use Rattle.rust_source.specs.declared.place.Symbol.{Symbol}
 use Rattle.rust_source.specs.declared.place.TheConstants.Symbol.{SELF_TYPE}
 use Rattle.rust_source.specs.declared.syntax.Argument.{Argument, out-Argument}
@@ -150,14 +152,22 @@ module _ (cx : Context) (w : Where) where
     abbrev pub fields_named : List Field → Checked
     fields_named fs = each_checked (λ f. check f.ty) fs
 
+    -- those of the fields of variants
+    unfoldable pub variants_named : List Variant → Checked
+    variants_named vs = each_checked (λ v. fields_named v.fields.all.items) vs
+
+    -- those of parameters
+    unfoldable pub parameters_named : List Parameter → Checked
+    parameters_named ps = each_checked (λ p. parameter_kind_named p.kind) ps
+
     -- those of what an item defines; a constant's are looked for where it is needed
     abbrev pub kind_named : ItemKind → Checked
     kind_named (StructItem fields) = fields_named fields.all.items
     kind_named (UnionItem fields) = fields_named fields.all.items
-    kind_named (EnumItem all) = each_checked (λ v. fields_named v.fields.all.items) all.variants.items
+    kind_named (EnumItem all) = variants_named all.variants.items
     kind_named (AliasItem t) = check t
     kind_named (ConstItem c) = Ok tt
 
     -- those of an item: its parameters', and then those of what it defines
     abbrev pub item_named : Item → Checked
-    item_named it = then_meant (λ _. kind_named it.kind) (each_checked (λ p. parameter_kind_named p.kind) it.parameters.items)
+    item_named it = then_meant (λ _. kind_named it.kind) (parameters_named it.parameters.items)

@@ -101,7 +101,7 @@ fn parts_lack<'a>(
 
 /// Whether an item isn't `Copy` under what its parameters are given.
 #[cycle(copies)]
-#[tactic(auto, unfolding(crate::specs::CopyTypes::item_lacks))]
+#[tactic(auto, unfolding(crate::specs::CopyTypes::item_lacks), using(crate::proofs::CopyLists::item_on))]
 fn item_lacks<'a>(
     cx: &Context<'a, '_>,
     budget: &mut Budget<'a>,

@@ -1,13 +1,13 @@
 //! Whether the names in written types name types, whoever needs these.
 
-ghost use Rattle.std.specs.Prelude.{◌≡◌, []};
+ghost use Rattle.std.specs.Prelude.{◌≡◌, [], false};
 ghost use Rattle.rust_source.specs.declared.syntax.Path.{out-Path};
 ghost use Rattle.rust_source.specs.declared.syntax.Segment.{out-Segment};
 ghost use Rattle.abi_rust.specs.Names.{found};
 ghost use Rattle.abi_rust.specs.Places.{last_name};
 ghost use Rattle.abi_rust.specs.Resolving.{inside_item, most_deep};
 ghost use Rattle.abi_rust.specs.Types.{where_of};
-ghost use Rattle.abi_rust.specs.WrittenNames.{argument_named, begins_inside, each_checked, fields_named, first_name, is_type_inside, item_named, kind_named, leads_out, may_name_none, module_named, named_by, names_constant, no_type_named, parameter_kind_named, path_named, segment_named, type_named, type_named_with, types_named, unknown_type, whole_path_named};
+ghost use Rattle.abi_rust.specs.WrittenNames.{argument_named, begins_inside, each_checked, fields_named, first_name, is_type_inside, item_named, kind_named, leads_out, may_name_none, module_named, named_by, names_constant, no_type_named, parameter_kind_named, parameters_named, path_named, segment_named, type_named, type_named_with, types_named, unknown_type, variants_named, whole_path_named};
 
 use crate::budget::{Context, Env, less, most_deep};
 use crate::fault::{FaultKind, Stop, stop_at};
@@ -293,10 +293,10 @@ fn check_fields(cx: &Context<'_, '_>, env: Env<'_>, fields: &[Field]) -> Result<
 }
 
 /// A fault where a name in the fields of variants names no type.
-#[tactic(auto, using(crate::proofs::NamesChecked::each_more, crate::proofs::NamesChecked::each_done))]
+#[tactic(auto, unfolding(crate::specs::WrittenNames::variants_named), using(crate::proofs::NamesChecked::each_more, crate::proofs::NamesChecked::each_done))]
 fn check_variants(cx: &Context<'_, '_>, env: Env<'_>, variants: &[Variant]) -> Result<(), Stop>
-    ensures { result ≡ each_checked (λ v. fields_named cx.now (where_of env.entry)
-        (type_named cx.now (where_of env.entry) most_deep false) v.fields.all.items) variants.now }
+    ensures { result ≡ variants_named cx.now (where_of env.entry)
+        (type_named cx.now (where_of env.entry) most_deep false) variants.now }
 {
     for variant in variants {
         check_fields(cx, env, variant.fields.all.as_slice())?;
@@ -317,14 +317,14 @@ fn check_parameter(cx: &Context<'_, '_>, env: Env<'_>, parameter: &Parameter) ->
 }
 
 /// The same of all parameters.
-#[tactic(auto, using(crate::proofs::NamesChecked::each_more, crate::proofs::NamesChecked::each_done))]
+#[tactic(auto, unfolding(crate::specs::WrittenNames::parameters_named), using(crate::proofs::NamesChecked::each_more, crate::proofs::NamesChecked::each_done))]
 fn check_parameters(
     cx: &Context<'_, '_>,
     env: Env<'_>,
     parameters: &[Parameter],
 ) -> Result<(), Stop>
-    ensures { result ≡ each_checked (λ p. parameter_kind_named cx.now (where_of env.entry)
-        (type_named cx.now (where_of env.entry) most_deep false) p.kind) parameters.now }
+    ensures { result ≡ parameters_named cx.now (where_of env.entry)
+        (type_named cx.now (where_of env.entry) most_deep false) parameters.now }
 {
     for parameter in parameters {
         check_parameter(cx, env, parameter)?;
@@ -346,16 +346,23 @@ fn check_kind(cx: &Context<'_, '_>, env: Env<'_>, item: &Item) -> Result<(), Sto
     }
 }
 
+/// The inside of an item whose parameters are given nothing.
+fn inside_item(number: u32, item: &Item) -> Env<'static>
+    ensures { where_of result ≡ inside_item number item.now [] }
+{
+    Env {
+        module: item.module,
+        item: Some(number),
+        given: &[],
+    }
+}
+
 /// A fault where a name that stands in an item names no type, whatever its parameters are given.
 pub(crate) fn check_item(cx: &Context<'_, '_>, number: u32, item: &Item) -> Result<(), Stop>
     ensures { result ≡ item_named cx.now (inside_item number item.now [])
         (type_named cx.now (inside_item number item.now []) most_deep false) item.now }
 {
-    let env = Env {
-        module: item.module,
-        item: Some(number),
-        given: &[],
-    };
+    let env = inside_item(number, item);
     check_parameters(cx, env, item.parameters.as_slice())?;
     check_kind(cx, env, item)
 }

@@ -5,8 +5,7 @@ use Rattle.rust_source.specs.declared.place.Place.{Place}
 use Rattle.rust_source.specs.declared.place.Symbol.{Symbol}
 use Rattle.rust_source.specs.declared.reader.cursor.Cursor.{Cursor}
 use Rattle.rust_source.specs.declared.tokens.keyword.Keyword.TheVariants as keyword
-use Rattle.rust_source.specs.declared.tokens.token.Bracket.TheVariants as bracket
-use Rattle.rust_source.specs.Cursor.{expected, group_passed, inside, is_lifetime, is_name, is_next, is_nth, is_nth_pair, is_keyword_next, next_kind, passed}
+use Rattle.rust_source.specs.Cursor.{expected, is_lifetime, is_name, is_next, is_nth, is_nth_pair, is_keyword_next, next_kind, passed}
 use Rattle.rust_source.specs.Items.{ParameterKindRead, ParameterRead, for_constant, for_type}
 use Rattle.rust_source.specs.Lifetimes.{hashes_passed}
 use Rattle.rust_source.specs.Passing.{bounds}

@@ -81,7 +81,7 @@ fn write_one_of(
     offsets: &[Size],
 ) -> Result<(), AllocError>
     ensures { OnOk result (string_bytes out.new ≡ string_bytes out.old
-        ++ labelled_variant all.names.now (slice_get all.labels.now index) offsets.now) }
+        ++ labelled_variant all.entry.names.now (slice_get all.entry.labels.now index) offsets.now) }
 {
     match all.labels.get(index) {
         Some(variant) => write_one(out, all.names, variant, offsets),
@@ -119,7 +119,7 @@ fn write_several(
     requires variants { (i : ℕ) → i < length layouts.now →
         IsVariantOfSeveral (layout_of (placed_of laid.now)).variants i }
     ensures { OnOk result (string_bytes out.new ≡ string_bytes out.old
-        ++ several_lines all.names.now all.labels.now (placed_of laid.now) 0 layouts.now) }
+        ++ several_lines all.entry.names.now all.entry.labels.now (placed_of laid.now) 0 layouts.now) }
 {
     let unused = listed_unused(alloc, laid)?;
     for (index, layout) in layouts.iter().enumerate() {
@@ -141,7 +141,7 @@ fn write_range(
     named: RangeInclusive<VariantIdx>,
 ) -> Result<(), AllocError>
     ensures { OnOk result (string_bytes out.new
-        ≡ string_bytes out.old ++ labelled_range all.names.now all.labels.now named) }
+        ≡ string_bytes out.old ++ labelled_range all.entry.names.now all.entry.labels.now named) }
 {
     out.push_str(" variants ")?;
     write_variant(out, all.names, all.labels, named.start.as_usize())?;
@@ -158,7 +158,7 @@ fn write_named(
     start: u128,
 ) -> Result<(), AllocError>
     ensures { OnOk result (string_bytes out.new
-        ≡ string_bytes out.old ++ labelled_niche all.names.now all.labels.now untagged named start) }
+        ≡ string_bytes out.old ++ labelled_niche all.entry.names.now all.entry.labels.now untagged named start) }
 {
     out.push_str(" untagged ")?;
     write_variant(out, all.names, all.labels, untagged.as_usize())?;
@@ -175,7 +175,7 @@ fn write_tag(
     encoding: TagEncoding<VariantIdx>,
 ) -> Result<(), AllocError>
     ensures { OnOk result (string_bytes out.new
-        ≡ string_bytes out.old ++ labelled_tag all.names.now all.labels.now offset tag encoding) }
+        ≡ string_bytes out.old ++ labelled_tag all.entry.names.now all.entry.labels.now offset tag encoding) }
 {
     match encoding {
         TagEncoding::Direct => {

@@ -6,5 +6,5 @@ use Rattle.types.proofs.lines.write_several.Given as goal
 
 abbrev pub invariant-loop-index : goal.invariant-loop-index
 invariant-loop-index l =
-    string_bytes l.out ++ several_lines l.all.names.now l.all.labels.now (placed_of l.laid) l.index (drop l.index l.layouts)
-    ≡ string_bytes l.initial.out ++ several_lines l.all.names.now l.all.labels.now (placed_of l.laid) 0 l.layouts
+    string_bytes l.out ++ several_lines l.fn.all.names.now l.fn.all.labels.now (placed_of l.laid) l.index (drop l.index l.layouts)
+    ≡ string_bytes l.initial.out ++ several_lines l.fn.all.names.now l.fn.all.labels.now (placed_of l.laid) 0 l.layouts
