@@ -369,20 +369,30 @@ impl FileReport {
         Ok(())
     }
 
-    /// Reads the source, and reports on its types.
-    fn add_source(&mut self, cx: ReportContext<'_>, target: &Target) -> Result<(), SourceFailure> {
-        let alloc = self.alloc;
+    /// Reads the source into these sources, and reports on its types.
+    fn add_types(
+        &mut self,
+        cx: ReportContext<'_>,
+        target: &Target,
+        sources: &mut Sources,
+    ) -> Result<(), SourceFailure> {
         let file = cx.file;
-        let mut sources = Sources::new(alloc)?;
-        if let Err(fault) = sources.read(alloc, &target.cfg, file.is_root, file.text) {
-            return Err(failure_of(alloc, &sources, &fault, Spot::Nowhere));
+        if let Err(fault) = sources.read(self.alloc, &target.cfg, file.is_root, file.text) {
+            return Err(failure_of(self.alloc, sources, &fault, Spot::Nowhere));
         }
-        write_notes(alloc, &mut self.notes, &sources, file.name, file.text)?;
+        write_notes(self.alloc, &mut self.notes, sources, file.name, file.text)?;
         if cx.options.types.is_empty() {
-            self.add_all(cx, &sources)
+            self.add_all(cx, sources)
         } else {
-            self.add_asked(cx, &mut sources, &cx.options.types)
+            self.add_asked(cx, sources, &cx.options.types)
         }
+    }
+
+    /// Reports on the types of the source. (What is read is made here alone: a function that makes it drops it at each way
+    /// out, which takes long to prove.)
+    fn add_source(&mut self, cx: ReportContext<'_>, target: &Target) -> Result<(), SourceFailure> {
+        let mut sources = Sources::new(self.alloc)?;
+        self.add_types(cx, target, &mut sources)
     }
 
     /// Reports on types under a target, whose name is printed where several are asked for.
