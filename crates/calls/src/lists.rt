@@ -12,7 +12,7 @@ use crate::in_order::univariant_in_order;
 use crate::layouts::{
     Layout, MOST_ITEMS, are_lawful, calculated, is_lawful_align, layout, layouts, lend_layouts,
 };
-use crate::print::write_made;
+use crate::print::write_layout_or_stop;
 use crate::stop::{Clause, Refusal};
 use abi_base::{Align, NumScalableVectors, Size, StructKind, TargetDataLayout};
 use abi_calc::LayoutCalculator;
@@ -270,6 +270,6 @@ pub(crate) fn answers(dl: &TargetDataLayout, command: &mut Command) -> bool
         return false;
     };
     let made = answer(dl, command, asked);
-    write_made(command, made);
+    write_layout_or_stop(command, made);
     true
 }

@@ -259,7 +259,7 @@ fn write_answer(command: &mut Command, layout: &Layout) {
 }
 
 /// Writes the layout that a call answers, or stops the line.
-pub(crate) fn write_made(command: &mut Command, made: Result<Layout, Refusal>) {
+pub(crate) fn write_layout_or_stop(command: &mut Command, made: Result<Layout, Refusal>) {
     match made {
         Ok(layout) => write_answer(command, &layout),
         Err(stop) => command.stop(stop),
