@@ -46,7 +46,8 @@ impl Endian {
 impl FromStr for Endian {
     type Err = UnknownEndian;
 
-    ghost from_str_gives = { λ text result. MatchResult result (λ endian. text ≡ endian_text endian) (λ _. (endian : Endian) → text ≢ endian_text endian) };
+    ghost from_str_gives = { λ text result. MatchResult result (λ endian. text ≡ endian_text endian)
+        (λ _. (endian : Endian) → text ≢ endian_text endian) };
 
     /// The order of this name. `UnknownEndian` where it is no order's name.
     fn from_str(s: &str) -> Result<Endian, UnknownEndian> {

@@ -55,7 +55,8 @@ impl<R: Idx, C: Idx> Eq for BitMatrix<R, C> {
     ghost use Rattle.std.specs.Cmp.Lexicographic.{lists_equiv};
     ghost use Rattle.std.specs.Cmp.Rules.{comparing};
 
-    ghost laws = { and_equiv (on_equiv (λ m. m.columns) (Prim.search comparing)) (on_equiv (λ m. m.rows) (lists_equiv (lists_equiv (Prim.search comparing)))) };
+    ghost laws = { and_equiv (on_equiv (λ m. m.columns) (Prim.search comparing))
+        (on_equiv (λ m. m.rows) (lists_equiv (lists_equiv (Prim.search comparing)))) };
 }
 
 impl<R: Idx, C: Idx> Debug for BitMatrix<R, C> {

@@ -291,7 +291,8 @@ fn read_braces(
 ) -> Result<(), SourceFault>
     ensures kept { KeepsItems items.old items.new }
     ensures read { Reads (λ _. cursor.new)
-        (module_items rules.now (module_within rules.now «module».depth_left) «module».number cursor.old (inside cursor.old Bracket.Curly) (texts names.old, items_as_read items.old))
+        (module_items rules.now (module_within rules.now «module».depth_left) «module».number cursor.old
+        (inside cursor.old Bracket.Curly) (texts names.old, items_as_read items.old))
         (texts names.new, items_as_read items.new) result }
 {
     match take_group(cursor, Bracket::Curly) {
@@ -340,7 +341,8 @@ fn read_in_context(
 ) -> Result<(), SourceFault>
     ensures kept { KeepsItems items.old items.new }
     ensures read { Reads (λ _. cursor.new)
-        (standing_read rules.now (module_within rules.now context.now.depth_left) context.now.standing context.now.said cursor.old (texts names.old, items_as_read items.old))
+        (standing_read rules.now (module_within rules.now context.now.depth_left) context.now.standing
+        context.now.said cursor.old (texts names.old, items_as_read items.old))
         (texts names.new, items_as_read items.new) result }
 {
     refuse_misplaced_repr(&context.said, cursor)?;
