@@ -4,7 +4,7 @@ use Rattle.std.specs.Prelude.{◌&&◌, slice_get}
 use Rattle.std.proofs.lemmas.List.{drop_all}
 use Rattle.std.proofs.lemmas.Option.{slice_get_within, get_or_from_slice_get}
 use Rattle.abi_rust.specs.declared.ty.GenericArg.{GenericArg, Value as GivenValue}
-use Rattle.abi_rust.specs.declared.ty.Value.TheVariants.{Char}
+use Rattle.abi_rust.specs.declared.ty.ConstValue.TheVariants.{Char}
 use Rattle.abi_rust.specs.declared.ty.Ty.{Ty, Never}
 use Rattle.abi_rust.specs.Known.{same_given, same_givens, same_ty, same_tys}
 use Rattle.abi_rust.specs.Types.{given_of, givens, ty_of, types}

@@ -25,20 +25,20 @@ use Rattle.abi_rust.specs.declared.budget.Context.{Context}
 use Rattle.abi_rust.proofs.Lasts.{list_given_is}
 
 module _ (cx : Context) (m : Measure) where
-  pub type_less : (depth_left left : ℕ) (outer : Outer) (t : TyRead) → left + 1 ≡ depth_left → (tree_inner cx m depth_left).of_type outer t ≡ type_tree cx m (tree_inner cx m left) outer t
+  pub type_less : (depth_left left : ℕ) (outer inner : Outer) (t : TyRead) → left + 1 ≡ depth_left → inner ≡ outer → (tree_inner cx m depth_left).of_type outer t ≡ type_tree cx m (tree_inner cx m left) inner t
   unfolding tree_inner
-  type_less zero left outer t is = absurd (omega arith)
-  type_less (suc depth_left) left outer t is = let q : depth_left ≡ left = omega arith in ap (λ r. type_tree cx m (tree_inner cx m r) outer t) q
+  type_less zero left outer inner t is same = absurd (omega arith)
+  type_less (suc depth_left) left outer inner t is same = let q : depth_left ≡ left = omega arith in rw (q, same) refl
 
   pub type_none : (depth_left : ℕ) (outer : Outer) (t : TyRead) → depth_left ≡ 0 → (tree_inner cx m depth_left).of_type outer t ≡ too_deep
   unfolding tree_inner
   type_none zero outer t is = refl
   type_none (suc depth_left) outer t is = absurd (omega arith)
 
-  pub item_less : (depth_left left : ℕ) (outer : Outer) (n : ℕ) (gs : GenericArgsRead) → left + 1 ≡ depth_left → (tree_inner cx m depth_left).of_item outer n gs ≡ item_tree cx m (tree_inner cx m left) outer n gs
+  pub item_less : (depth_left left : ℕ) (outer inner : Outer) (n : ℕ) (gs : GenericArgsRead) → left + 1 ≡ depth_left → inner ≡ outer → (tree_inner cx m depth_left).of_item outer n gs ≡ item_tree cx m (tree_inner cx m left) inner n gs
   unfolding tree_inner
-  item_less zero left outer n gs is = absurd (omega arith)
-  item_less (suc depth_left) left outer n gs is = let q : depth_left ≡ left = omega arith in ap (λ r. item_tree cx m (tree_inner cx m r) outer n gs) q
+  item_less zero left outer inner n gs is same = absurd (omega arith)
+  item_less (suc depth_left) left outer inner n gs is same = let q : depth_left ≡ left = omega arith in rw (q, same) refl
 
   pub item_none : (depth_left : ℕ) (outer : Outer) (n : ℕ) (gs : GenericArgsRead) → depth_left ≡ 0 → (tree_inner cx m depth_left).of_item outer n gs ≡ too_deep
   unfolding tree_inner

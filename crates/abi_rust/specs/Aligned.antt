@@ -8,8 +8,8 @@ use Rattle.rust_source.specs.declared.item.Variant.{Variant}
 use Rattle.rust_source.specs.declared.place.Place.{Place}
 use Rattle.rust_source.specs.declared.syntax.«Type».{«Type» as Written}
 use Rattle.abi_rust.specs.declared.fault.FaultKind.TheVariants.{AlignedInPacked, DiscriminantWithoutRepr}
-use Rattle.abi_rust.specs.declared.paths.Found.{Found}
-use Rattle.abi_rust.specs.declared.paths.Found.TheVariants.{Item as ItemFound}
+use Rattle.abi_rust.specs.declared.paths.Resolution.{Resolution}
+use Rattle.abi_rust.specs.declared.paths.Resolution.TheVariants.{Item as ItemFound}
 use Rattle.abi_rust.specs.declared.budget.Context.{Context}
 use Rattle.abi_rust.specs.Kinds.{found_by, is_parameter_of, item_at}
 use Rattle.abi_rust.specs.Meaning.{Meaning, then_meant, fault_at, too_deep}
@@ -62,7 +62,7 @@ module _ (cx : Context) where
     item_aligned None = Ok false
     item_aligned (Some it) = kind_aligned it it.kind
 
-    abbrev pub found_aligned : Option Found → Meaning Bool
+    abbrev pub found_aligned : Option Resolution → Meaning Bool
     found_aligned (Some (ItemFound n)) = item_aligned (item_at cx.items.now cx.scope.now n)
     found_aligned _ = Ok false
 

@@ -22,8 +22,8 @@ use Rattle.rust_source.specs.declared.syntax.Unevaluated.TheVariants.{Associated
 use Rattle.abi_rust.specs.declared.fault.FaultKind.{FaultKind}
 use Rattle.abi_rust.specs.declared.fault.FaultKind.TheVariants.{Ambiguous, EnumCast, Private, Unevaluated, UnknownConstant, WrongType}
 use Rattle.abi_rust.specs.declared.fault.Stop.TheVariants.{Fault, Size}
-use Rattle.abi_rust.specs.declared.paths.Found.{Found}
-use Rattle.abi_rust.specs.declared.paths.Found.TheVariants.{Ambiguous as AmbiguousFound, Hidden, Module, Item as ItemFound}
+use Rattle.abi_rust.specs.declared.paths.Resolution.{Resolution}
+use Rattle.abi_rust.specs.declared.paths.Resolution.TheVariants.{Ambiguous as AmbiguousFound, Hidden, Module, Item as ItemFound}
 use Rattle.abi_rust.specs.declared.paths.Space.TheVariants.{Types, Values}
 use Rattle.abi_rust.specs.declared.ty.Kind.{Kind}
 use Rattle.abi_rust.specs.declared.ty.Kind.TheVariants.{Bool as BoolKind, Char as CharKind, Integer as KindInteger}
@@ -156,13 +156,18 @@ limit_named cx kind name =
     else (if is_word words name word.Min then Some (number kind (cond s (neg_ℤ (pos (2 ^ (k - 1)))) (pos 0)))
     else (if is_word words name word.Bits then Some (number U32 (pos k)) else None))
 
+-- the branch that a condition of this value chooses
+abbrev pub branch_of : ValueRead → (yes no : Expr) → Expr
+branch_of (truth true) yes no = yes
+branch_of _ yes no = no
+
 -- how expressions are evaluated where they stand, of the type that is wanted
 abbrev pub Evaluator : Type 0
 Evaluator = Where → Expr → (wanted : Option Kind) → Meaning ValueRead
 
 module _ (cx : Context) where
   -- what is wrong with a path whose last name is no constant's
-  abbrev pub unknown_constant : Symbol → Option Found → FaultKind
+  abbrev pub unknown_constant : Symbol → Option Resolution → FaultKind
   unknown_constant name (Some (Module m)) = UnknownConstant name
   unknown_constant name _ = Unevaluated Associated
 
@@ -178,7 +183,7 @@ module _ (cx : Context) where
   limit_or at kind None = fault_at at kind
 
   -- what is wrong with a path to a constant that may not be used where it stands, or to one of several
-  abbrev pub barred_by : Option Found → Option FaultKind
+  abbrev pub barred_by : Option Resolution → Option FaultKind
   barred_by (Some (Hidden name)) = Some (Private name)
   barred_by (Some (AmbiguousFound name)) = Some (Ambiguous name)
   barred_by _ = None
@@ -211,7 +216,7 @@ module _ (cx : Context) where
       else (if is_word cx.scope.now.words it.name word.AlignOf then Some false else None))
       else None
 
-  abbrev pub asks_found : Option Found → Option Bool
+  abbrev pub asks_found : Option Resolution → Option Bool
   asks_found (Some (ItemFound n)) =
       asks_by (module_in cx.scope.now cx.scope.now.std_root (symbol_of cx.scope.now.words word.Mem)) (item_at cx.items.now cx.scope.now n)
   asks_found _ = None
@@ -247,7 +252,7 @@ module _ (cx : Context) where
   variant_of_item name None = None
   variant_of_item name (Some it) = variant_of_kind name it it.kind
 
-  abbrev pub variant_found : Symbol → Option Found → Option (Item × ℕ)
+  abbrev pub variant_found : Symbol → Option Resolution → Option (Item × ℕ)
   variant_found name (Some (ItemFound n)) = variant_of_item name (item_at cx.items.now cx.scope.now n)
   variant_found name _ = None
 
@@ -300,14 +305,14 @@ module _ (cx : Context) where
         then_meant (second_value w b l r) (E w l (operand_kind cx.items.now cx.scope.now w b l r wanted))
 
     -- a discriminant that is written, or the first
-    abbrev pub begun : Item → Option Expr → Meaning ValueRead
-    begun it None = Ok (number (discriminant_kind it) (pos 0))
-    begun it (Some e) = E (outside it.«module») e (Some (KindInteger (discriminant_kind it)))
+    abbrev pub discriminant_base : Item → Option Expr → Meaning ValueRead
+    discriminant_base it None = Ok (number (discriminant_kind it) (pos 0))
+    discriminant_base it (Some e) = E (outside it.«module») e (Some (KindInteger (discriminant_kind it)))
 
     abbrev pub discriminant_of_kind : Item → (index : ℕ) → ItemKind → Meaning ValueRead
     discriminant_of_kind it index (EnumItem all) =
         let w = written_before index all.variants.items in
-        then_meant (counted_on it w.0) (begun it w.1)
+        then_meant (counted_on it w.0) (discriminant_base it w.1)
     discriminant_of_kind it index _ = fault_at it.at WrongType
 
     -- a variant's discriminant: the one that is written last before it, and one more for each variant behind that
@@ -360,10 +365,6 @@ module _ (cx : Context) where
     abbrev pub is_bare : Expr → Bool
     is_bare e = elim (out-Expr e) as (λ _. Bool) [ layer.Call p all at ↦ nat_eq (length all.items) 0 | _ ↦ false ]
 
-    abbrev pub branch_value : Where → (yes no : Expr) → (wanted : Option Kind) → ValueRead → Meaning ValueRead
-    branch_value w l r wanted (truth true) = E w l wanted
-    branch_value w l r wanted _ = E w r wanted
-
     -- the value of an expression, of whatever type
     abbrev pub value_by : Where → (wanted : Option Kind) → Expr → Meaning ValueRead
     value_by w wanted (IntegerExpr n suffix at) = literal cx.pointer_bits (pos n) suffix wanted at
@@ -375,7 +376,7 @@ module _ (cx : Context) where
     value_by w wanted (Unary' u p e at) = unary_value w u e wanted
     value_by w wanted (Binary' b p l q r at) = binary_value w b l r wanted
     value_by w wanted (Cast' p e q t at) = cast_value w e t at
-    value_by w wanted (If' p c q l o r at) = then_meant (branch_value w l r wanted) (E w c (Some BoolKind))
+    value_by w wanted (If' p c q l o r at) = then_meant (λ v. E w (branch_of v l r) wanted) (E w c (Some BoolKind))
     value_by w wanted (UnevaluatedExpr what at) = fault_at at (Unevaluated what)
 
     -- the value of an expression

@@ -4,8 +4,8 @@ use Rattle.std.specs.List.{list_any}
 use Rattle.std.specs.Option.{option_map}
 use Rattle.rust_source.specs.declared.item.Items.{Items}
 use Rattle.rust_source.specs.declared.item.Use.{Use}
-use Rattle.abi_rust.specs.declared.paths.Found.{Found}
-use Rattle.abi_rust.specs.declared.paths.Found.TheVariants.{Module, Item}
+use Rattle.abi_rust.specs.declared.paths.Resolution.{Resolution}
+use Rattle.abi_rust.specs.declared.paths.Resolution.TheVariants.{Module, Item}
 use Rattle.abi_rust.specs.declared.paths.Space.TheVariants.{Types}
 use Rattle.abi_rust.specs.declared.scope.Scope.{Scope}
 use Rattle.abi_rust.specs.declared.ways.Glob.{Glob}
@@ -39,7 +39,7 @@ glob_target scope n u =
     if u.is_glob then option_map (glob_to u) (other_than u.«module» (module_found (target_in scope.use_targets.items n Types))) else None
 
 -- nowhere, but for a module, and for an item: the glob of an enum brings in its variants, which are no types
-abbrev pub nowhere_by : Option Found → Option ℕ
+abbrev pub nowhere_by : Option Resolution → Option ℕ
 nowhere_by (Some (Module m)) = None
 nowhere_by (Some (Item n)) = None
 nowhere_by _ = Some nowhere

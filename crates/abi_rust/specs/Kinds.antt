@@ -18,8 +18,8 @@ use Rattle.rust_source.specs.declared.syntax.IntegerKind.TheVariants.{U32, Usize
 use Rattle.rust_source.specs.declared.syntax.Path.{Path, out-Path}
 use Rattle.rust_source.specs.declared.syntax.Segment.{Segment, out-Segment}
 use Rattle.rust_source.specs.declared.syntax.«Type».{«Type» as Written, Path as PathType}
-use Rattle.abi_rust.specs.declared.paths.Found.{Found}
-use Rattle.abi_rust.specs.declared.paths.Found.TheVariants.{Item as ItemFound, Primitive as PrimitiveFound}
+use Rattle.abi_rust.specs.declared.paths.Resolution.{Resolution}
+use Rattle.abi_rust.specs.declared.paths.Resolution.TheVariants.{Item as ItemFound, Primitive as PrimitiveFound}
 use Rattle.abi_rust.specs.declared.paths.Space.TheVariants.{Types, Values}
 use Rattle.abi_rust.specs.declared.scope.Scope.{Scope}
 use Rattle.abi_rust.specs.declared.ty.Kind.{Kind}
@@ -123,25 +123,25 @@ module _ (items : Items) (scope : Scope) where
   item_at n = slice_get items.items.items n
 
   -- what a type names that is a path
-  abbrev pub found_by : (inside : ℕ) → Written → Option Found
+  abbrev pub found_by : (inside : ℕ) → Written → Option Resolution
   found_by m (PathType p) = found items scope m p Types
   found_by m _ = None
 
   -- the type that an item is, by the alias that it may be
-  abbrev pub type_behind_alias : (go_on : Option Found → Option ℕ) → ℕ → (inside : ℕ) → ItemKind → Option ℕ
+  abbrev pub type_behind_alias : (go_on : Option Resolution → Option ℕ) → ℕ → (inside : ℕ) → ItemKind → Option ℕ
   type_behind_alias go_on n m (AliasItem t) = go_on (found_by m t)
   type_behind_alias go_on n m _ = Some n
 
-  abbrev pub type_of_item_by : (go_on : Option Found → Option ℕ) → ℕ → Option Item → Option ℕ
+  abbrev pub type_of_item_by : (go_on : Option Resolution → Option ℕ) → ℕ → Option Item → Option ℕ
   type_of_item_by go_on n None = None
   type_of_item_by go_on n (Some it) = type_behind_alias go_on n it.«module» it.kind
 
-  abbrev pub type_step : (go_on : Option Found → Option ℕ) → Option Found → Option ℕ
+  abbrev pub type_step : (go_on : Option Resolution → Option ℕ) → Option Resolution → Option ℕ
   type_step go_on (Some (ItemFound n)) = type_of_item_by go_on n (item_at n)
   type_step go_on _ = None
 
   -- the struct, enum or union that is found, by so many aliases at most
-  abbrev pub type_within : (most : ℕ) → Option Found → Option ℕ
+  abbrev pub type_within : (most : ℕ) → Option Resolution → Option ℕ
   type_within zero found = None
   type_within (suc most) found = type_step (type_within most) found
 
@@ -150,25 +150,25 @@ module _ (items : Items) (scope : Scope) where
   type_named m p count = type_within most_aliases (found_of items scope m p count Types)
 
   -- the type of constants that an item is, by the alias that it may be
-  abbrev pub kind_on : (go_on : Option Found → Option Kind) → (inside : ℕ) → ItemKind → Option Kind
+  abbrev pub kind_on : (go_on : Option Resolution → Option Kind) → (inside : ℕ) → ItemKind → Option Kind
   kind_on go_on m (AliasItem t) = go_on (found_by m t)
   kind_on go_on m _ = None
 
-  abbrev pub kind_by : (go_on : Option Found → Option Kind) → Option Item → Option Kind
+  abbrev pub kind_by : (go_on : Option Resolution → Option Kind) → Option Item → Option Kind
   kind_by go_on None = None
   kind_by go_on (Some it) = kind_on go_on it.«module» it.kind
 
-  abbrev pub kind_step : (go_on : Option Found → Option Kind) → Option Found → Option Kind
+  abbrev pub kind_step : (go_on : Option Resolution → Option Kind) → Option Resolution → Option Kind
   kind_step go_on (Some (PrimitiveFound p)) = kind_of_primitive p
   kind_step go_on (Some (ItemFound n)) = kind_by go_on (item_at n)
   kind_step go_on _ = None
 
   -- the type of constants that is found, by so many aliases at most
-  abbrev pub kind_within : (most : ℕ) → Option Found → Option Kind
+  abbrev pub kind_within : (most : ℕ) → Option Resolution → Option Kind
   kind_within zero found = None
   kind_within (suc most) found = kind_step (kind_within most) found
 
-  unfoldable pub kind_found : Option Found → Option Kind
+  unfoldable pub kind_found : Option Resolution → Option Kind
   kind_found found = kind_within most_aliases found
 
   abbrev pub parameters_of : Option Item → List Parameter
@@ -224,7 +224,7 @@ module _ (items : Items) (scope : Scope) where
       let count = length (out-Path p).segments.items - 1 in
       own_constant_by w.inside (owner_named w p count) (last_name p)
 
-  abbrev pub constant_found : Where → Path → Option Found → Option ℕ
+  abbrev pub constant_found : Where → Path → Option Resolution → Option ℕ
   constant_found w p (Some (ItemFound n)) = Some n
   constant_found w p _ = own_named w p
 

@@ -8,10 +8,10 @@ use Rattle.rust_source.specs.declared.place.TheConstants.Symbol.{CRATE, SELF, SU
 use Rattle.rust_source.specs.declared.syntax.Path.{Path, out-Path}
 use Rattle.rust_source.specs.declared.syntax.Segment.{out-Segment}
 use Rattle.abi_rust.specs.declared.paths.Lookup.{Lookup}
-use Rattle.abi_rust.specs.declared.paths.Found.{Found}
-use Rattle.abi_rust.specs.declared.paths.Found.TheVariants.{Ambiguous, Hidden, Module, Item as ItemFound, Primitive as PrimitiveFound, Unknown}
+use Rattle.abi_rust.specs.declared.paths.Resolution.{Resolution}
+use Rattle.abi_rust.specs.declared.paths.Resolution.TheVariants.{Ambiguous, Hidden, Module, Item as ItemFound, Primitive as PrimitiveFound, Unknown}
 use Rattle.abi_rust.specs.declared.paths.OwnName.{OwnName}
-use Rattle.abi_rust.specs.declared.paths.Seen.{Seen}
+use Rattle.abi_rust.specs.declared.paths.Candidate.{Candidate}
 use Rattle.abi_rust.specs.declared.paths.Space.{Space}
 use Rattle.abi_rust.specs.declared.paths.Space.TheVariants.{Types, Values}
 use Rattle.abi_rust.specs.declared.scope.Scope.{Scope}
@@ -27,12 +27,12 @@ unfoldable pub most_uses : ℕ
 most_uses = 32
 
 -- what a use brings in, of these names
-abbrev pub of_space : Space → UseTarget → Option Found
+abbrev pub of_space : Space → UseTarget → Option Resolution
 of_space Types brought = brought.types
 of_space Values brought = brought.values
 
 -- what the use of this number is known to bring in, of these names
-abbrev pub target_in : List UseTarget → (use_number : ℕ) → Space → Option Found
+abbrev pub target_in : List UseTarget → (use_number : ℕ) → Space → Option Resolution
 target_in known u space = option_and_then (of_space space) (slice_get known u)
 
 -- what each of these uses brings in, of which the first has this number
@@ -65,7 +65,7 @@ is_crate (Some name) = is_same_name name CRATE
 
 -- what `crate` names in a module: the root above it, where that is the root of its crate. The root of a file that is
 -- another module of its crate has another name, and what stands in other files isn't known
-abbrev pub crate_above : Items → (inside : ℕ) → Found
+abbrev pub crate_above : Items → (inside : ℕ) → Resolution
 crate_above items m = if is_crate (called items (root items m)) then Module (root items m) else Unknown
 
 -- which names are looked for at a name of a path behind which so many stand: modules before the last
@@ -113,7 +113,7 @@ abbrev pub ambiguous : Symbol → OwnName
 ambiguous name = record { found = Ambiguous name; visible_in = None }
 
 -- it is not known what it is
-abbrev pub is_unknown : Found → Bool
+abbrev pub is_unknown : Resolution → Bool
 is_unknown Unknown = true
 is_unknown _ = false
 
@@ -125,7 +125,7 @@ standing_or_import name (Some standing) None = Some standing
 standing_or_import name (Some standing) (Some import) = if is_unknown import.found then Some standing else Some (ambiguous name)
 
 -- the module that is found, and nothing where something else is
-abbrev pub module_found : Option Found → Option ℕ
+abbrev pub module_found : Option Resolution → Option ℕ
 module_found (Some (Module m)) = Some m
 module_found _ = None
 
@@ -135,7 +135,7 @@ other_space Types = Values
 other_space Values = Types
 
 -- something is found that may be used
-abbrev pub is_usable : Option Found → Bool
+abbrev pub is_usable : Option Resolution → Bool
 is_usable None = false
 is_usable (Some (Hidden name)) = false
 is_usable (Some found) = true
@@ -143,27 +143,27 @@ is_usable (Some found) = true
 -- what a use brings in, by what it leads to of these names, and of the others: an import brings in a name of whichever
 -- kind has an item, and where neither has one, what it brings in isn't known, and yet stands before the names of the
 -- prelude and of the language
-abbrev pub import_of : (found other : Option Found) → Option Found
+abbrev pub import_of : (found other : Option Resolution) → Option Resolution
 import_of found other = if is_usable found then found else (if is_usable other then None else option_or found (Some Unknown))
 
 -- the item that a use leads to, or else one that isn't known, unless it leads to one of the other names
-abbrev pub imported : (brought : (use_number : ℕ) → Space → Option Found) → (use_number : ℕ) → Space → Option Found
+abbrev pub imported : (brought : (use_number : ℕ) → Space → Option Resolution) → (use_number : ℕ) → Space → Option Resolution
 imported brought u space = import_of (brought u space) (brought u (other_space space))
 
 -- what a module has of its own, as another one sees it
-abbrev pub seen_own : Items → (from : ℕ) → OwnName → Seen
+abbrev pub seen_own : Items → (from : ℕ) → OwnName → Candidate
 seen_own items from own = record { found = own.found; is_visible = is_visible items own.visible_in from }
 
 -- what is found under a name, where it may be used
-abbrev pub shown : Symbol → Seen → Found
-shown name seen = if seen.is_visible then seen.found else Hidden name
+abbrev pub unless_hidden : Symbol → Candidate → Resolution
+unless_hidden name seen = if seen.is_visible then seen.found else Hidden name
 
 -- one of two, if they are the same
-abbrev pub if_same : Symbol → (are_same : Bool) → Found → Found
+abbrev pub if_same : Symbol → (are_same : Bool) → Resolution → Resolution
 if_same name are_same found = if are_same then found else Ambiguous name
 
 -- what has a name, if it is this and that: they have to be the same, unless one isn't known
-abbrev pub one_of : Symbol → (one other : Found) → Found
+abbrev pub one_of : Symbol → (one other : Resolution) → Resolution
 one_of name Unknown other = Unknown
 one_of name one Unknown = Unknown
 one_of name (Module a) (Module b) = if_same name (nat_eq a b) (Module a)
@@ -171,7 +171,7 @@ one_of name (ItemFound a) (ItemFound b) = if_same name (nat_eq a b) (ItemFound a
 one_of name one other = Ambiguous name
 
 -- what two ways of globs bring under a name
-abbrev pub agreed : Symbol → (one other : Option Seen) → Option Seen
+abbrev pub agreed : Symbol → (one other : Option Candidate) → Option Candidate
 agreed name None other = other
 agreed name (Some one) None = Some one
 agreed name (Some one) (Some other) =
@@ -184,12 +184,12 @@ names_in_path p = map (λ s. (out-Segment s).name) (out-Path p).segments.items
 -- a name that a glob may bring into a module, if one leads to nothing that is read: it stands before the names of the
 -- prelude and of the language. At the head of a use it is none of the standard library's own names, since it would be
 -- ambiguous there
-abbrev pub perhaps : Items → Scope → (inside : ℕ) → Lookup → Option Found
+abbrev pub perhaps : Items → Scope → (inside : ℕ) → Lookup → Option Resolution
 perhaps items scope m a =
     if leads_nowhere items scope m a.from && not (is_some a.skipped && is_std scope.words a.name) then Some Unknown else None
 
 module _ (items : Items) (scope : Scope) where
-  module _ (brought : (use_number : ℕ) → Space → Option Found) where
+  module _ (brought : (use_number : ℕ) → Space → Option Resolution) where
     -- what a use brings in, with where it may be used
     abbrev pub own_import : Lookup → (use_number : ℕ) → Option OwnName
     own_import a u = option_map (λ found. record { found = found; visible_in = visibility_of_use items u }) (imported brought u a.space)
@@ -201,68 +201,68 @@ module _ (items : Items) (scope : Scope) where
         if nat_eq u several then Some (ambiguous a.name) else (if is_skipped a.skipped u then None else own_import a u)
 
     -- what a name names in a module without its globs: what stands there, or else what a use brings in
-    unfoldable pub own : (inside : ℕ) → Lookup → Option OwnName
-    own m a = standing_or_import a.name (declared items scope m a.name a.space) (used_by a (use_in scope m a.name))
+    unfoldable pub own_name : (inside : ℕ) → Lookup → Option OwnName
+    own_name m a = standing_or_import a.name (declared items scope m a.name a.space) (used_by a (use_in scope m a.name))
 
     -- each module that a way's globs stand in sees what is visible in that module, and has no such name of its own, which
     -- would stand before
     abbrev pub is_open : List Way → Lookup → Way → (visible_in : Option ℕ) → Bool
     is_open ways a way visible_in =
-        all_along (λ w. is_visible items visible_in w.glob.inside && not (is_some (own w.glob.inside a))) ways (Some way)
+        all_along (λ w. is_visible items visible_in w.glob.inside && not (is_some (own_name w.glob.inside a))) ways (Some way)
 
     -- what the way brings that the module at its end has of its own: it may be used where each of its globs may
-    abbrev pub along_open : List Way → Lookup → Way → OwnName → Option Seen
+    abbrev pub along_open : List Way → Lookup → Way → OwnName → Option Candidate
     along_open ways a way end =
         if is_open ways a way end.visible_in
         then Some (record { found = end.found; is_visible = is_visible items end.visible_in a.from && is_way_visible items ways a.from way })
         else None
 
     -- what a way of globs brings under a name
-    abbrev pub along : List Way → Lookup → Way → Option Seen
-    along ways a way = option_and_then (along_open ways a way) (own way.glob.target a)
+    abbrev pub along : List Way → Lookup → Way → Option Candidate
+    along ways a way = option_and_then (along_open ways a way) (own_name way.glob.target a)
 
     -- what these of the ways bring under a name, beside what others did: all the same
-    abbrev pub among : List Way → Lookup → (before : Option Seen) → (these : List Way) → Option Seen
+    abbrev pub among : List Way → Lookup → (before : Option Candidate) → (these : List Way) → Option Candidate
     among ways a before [] = before
     among ways a before (way ∷ these) = among ways a (agreed a.name before (along ways a way)) these
 
     -- what a name names in a module: what it has of its own, or else what its globs bring in
-    unfoldable pub within : (inside : ℕ) → Lookup → Option Found
-    within m a =
-        option_map (shown a.name)
-        (option_or (option_map (seen_own items a.from) (own m a)) (among (reached_from scope m) a None (reached_from scope m)))
+    unfoldable pub resolution_in : (inside : ℕ) → Lookup → Option Resolution
+    resolution_in m a =
+        option_map (unless_hidden a.name)
+        (option_or (option_map (seen_own items a.from) (own_name m a)) (among (reached_from scope m) a None (reached_from scope m)))
 
     -- the same, where there is such a module
-    abbrev pub within_some : Option ℕ → Lookup → Option Found
-    within_some None a = None
-    within_some (Some m) a = within m a
+    abbrev pub resolution_in_some : Option ℕ → Lookup → Option Resolution
+    resolution_in_some None a = None
+    resolution_in_some (Some m) a = resolution_in m a
 
     -- what a name names in the module that asks, or what a glob may bring into it, or else what the prelude has
-    abbrev pub named_near : Lookup → Option Found
+    abbrev pub named_near : Lookup → Option Resolution
     named_near a =
-        option_or (within a.from a) (option_or (perhaps items scope a.from a) (within_some scope.prelude a))
+        option_or (resolution_in a.from a) (option_or (perhaps items scope a.from a) (resolution_in_some scope.prelude a))
 
     -- what a name names that no other stands before: in the module, or else in the prelude, or else everywhere
-    abbrev pub first_named : Lookup → (is_global : Bool) → Option Found
+    abbrev pub first_named : Lookup → (is_global : Bool) → Option Resolution
     first_named a is_global =
         option_or (if is_global then None else named_near a)
         (if is_std scope.words a.name then Some (Module scope.std_root) else option_map PrimitiveFound (primitive_named scope.words a.name))
 
     -- what the first name of a path names in the module that asks
-    unfoldable pub first : Lookup → (is_global : Bool) → Option Found
+    unfoldable pub first : Lookup → (is_global : Bool) → Option Resolution
     first a is_global =
         if is_same_name a.name CRATE then Some (crate_above items a.from)
         else (if is_same_name a.name SELF then Some (Module a.from)
         else (if is_same_name a.name SUPER then option_map Module (parent items a.from)
         else first_named a is_global))
 
-    abbrev pub behind_module : Lookup → (inside : ℕ) → Option Found
+    abbrev pub behind_module : Lookup → (inside : ℕ) → Option Resolution
     behind_module a m =
         if is_same_name a.name SUPER then option_map Module (parent items m)
         else (if is_same_name a.name SELF then Some (Module m)
-        else option_or (within m a) (perhaps items scope m a))
+        else option_or (resolution_in m a) (perhaps items scope m a))
 
-    abbrev pub behind_found : Lookup → Option Found → Option Found
+    abbrev pub behind_found : Lookup → Option Resolution → Option Resolution
     behind_found a (Some (Module m)) = behind_module a m
     behind_found a (Some Unknown) = Some Unknown
     behind_found a (Some (Hidden name)) = Some (Hidden name)
@@ -270,25 +270,25 @@ module _ (items : Items) (scope : Scope) where
     behind_found a _ = None
 
     -- what a name names behind others, which have to name a module; what isn't known has only what isn't
-    unfoldable pub named_behind : Option Found → Lookup → Option Found
+    unfoldable pub named_behind : Option Resolution → Lookup → Option Resolution
     named_behind before a = behind_found a before
 
     -- what names name behind others, so many of them
-    abbrev pub behind_all : (count : ℕ) → (from : ℕ) → Space → Option Found → List Symbol → Option Found
+    abbrev pub behind_all : (count : ℕ) → (from : ℕ) → Space → Option Resolution → List Symbol → Option Resolution
     behind_all zero m space before names = before
     behind_all (suc count) m space before [] = before
     behind_all (suc count) m space before (name ∷ names) =
         behind_all count m space (named_behind before (lookup_of m name (space_before count space) None)) names
 
     -- what the first names of a path name, so many of them
-    abbrev pub path_named : (count : ℕ) → (from : ℕ) → (is_global : Bool) → Space → (skipped : Option ℕ) → List Symbol → Option Found
+    abbrev pub path_named : (count : ℕ) → (from : ℕ) → (is_global : Bool) → Space → (skipped : Option ℕ) → List Symbol → Option Resolution
     path_named zero m is_global space skipped names = None
     path_named (suc count) m is_global space skipped [] = None
     path_named (suc count) m is_global space skipped (name ∷ names) =
         behind_all count m space (first (lookup_of m name (space_before count space) skipped) is_global) names
 
     -- what a use brings in, by those that its path goes through
-    unfoldable pub target_with : (use_number : ℕ) → Use → Space → Option Found
+    unfoldable pub target_with : (use_number : ℕ) → Use → Space → Option Resolution
     target_with u used space =
         path_named (length used.path.items) used.«module» used.is_global space (Some u) (map (λ n. n.name) used.path.items)
 
@@ -305,17 +305,17 @@ module _ (items : Items) (scope : Scope) where
   use_targets (suc most) = targets_on (use_target (use_targets most)) 0 items.uses.items
 
   -- the primitive type of a name that names a module too, which a type can't be
-  abbrev pub beside_module : (count : ℕ) → Space → List Symbol → Option Found → Option Found
+  abbrev pub beside_module : (count : ℕ) → Space → List Symbol → Option Resolution → Option Resolution
   beside_module (suc zero) Types (name ∷ names) (Some (Module m)) =
       option_or (option_map PrimitiveFound (primitive_named scope.words name)) (Some (Module m))
   beside_module count space names found = found
 
   -- what the first names of a path name in a module, so many of them
-  unfoldable pub found_of : (inside : ℕ) → Path → (count : ℕ) → Space → Option Found
+  unfoldable pub found_of : (inside : ℕ) → Path → (count : ℕ) → Space → Option Resolution
   found_of m p count space =
       beside_module count space (names_in_path p)
       (path_named (target_in scope.use_targets.items) count m (out-Path p).is_global space None (names_in_path p))
 
   -- what a path names in a module
-  abbrev pub found : (inside : ℕ) → Path → Space → Option Found
+  abbrev pub found : (inside : ℕ) → Path → Space → Option Resolution
   found m p space = found_of m p (length (out-Path p).segments.items) space

@@ -21,14 +21,15 @@ use Rattle.rust_source.specs.declared.syntax.«Type».{«Type» as Written, out-
 use Rattle.rust_source.specs.declared.syntax.Unevaluated.TheVariants.{Associated, Inferred}
 use Rattle.abi_rust.specs.declared.fault.FaultKind.{FaultKind}
 use Rattle.abi_rust.specs.declared.fault.FaultKind.TheVariants.{Ambiguous, Binding, NotAType, Overflow, Private, Unevaluated, UnknownOrigin, UnknownType, WrongArguments, WrongKindOfArgument, WrongType}
-use Rattle.abi_rust.specs.declared.paths.Found.{Found}
-use Rattle.abi_rust.specs.declared.paths.Found.TheVariants.{Ambiguous as AmbiguousFound, Hidden, Module, Item as ItemFound, Primitive as PrimitiveFound, Unknown}
+use Rattle.abi_rust.specs.declared.paths.Resolution.{Resolution}
+use Rattle.abi_rust.specs.declared.paths.Resolution.TheVariants.{Ambiguous as AmbiguousFound, Hidden, Module, Item as ItemFound, Primitive as PrimitiveFound, Unknown}
 use Rattle.abi_rust.specs.declared.paths.Space.TheVariants.{Types}
 use Rattle.abi_rust.specs.declared.ty.Kind.{Kind}
 use Rattle.abi_rust.specs.declared.ty.Kind.TheVariants.{Integer as KindInteger}
 use Rattle.abi_rust.specs.declared.ty.Primitive.{Primitive}
 use Rattle.abi_rust.specs.declared.ty.Primitive.TheVariants.{Str}
 use Rattle.abi_rust.specs.declared.budget.Context.{Context}
+use Rattle.abi_rust.specs.declared.budget.Instance.{Instance}
 use Rattle.abi_rust.specs.declared.words.Word.{Word}
 use Rattle.abi_rust.specs.declared.words.Word.TheVariants as word
 use Rattle.abi_rust.specs.Evaluating.{evaluator, path_value}
@@ -38,7 +39,7 @@ use Rattle.abi_rust.specs.Names.{found}
 use Rattle.abi_rust.specs.Operators.{is_same_kind}
 use Rattle.abi_rust.specs.Places.{last_name, place_of_expr, place_of_path}
 use Rattle.abi_rust.specs.Scope.{module_in, type_standing}
-use Rattle.abi_rust.specs.Types.{GenericArgRead, TyRead, Where, adt, array, dyn, function, givens, never, no_types, of_type, of_value, pointer, primitive, reference, slice, tuple, types}
+use Rattle.abi_rust.specs.Types.{GenericArgRead, TyRead, Where, adt, all_given, array, dyn, function, givens, never, no_types, of_type, of_value, pointer, primitive, reference, slice, tuple, types}
 use Rattle.abi_rust.specs.Values.{ValueRead, kind_read, number}
 use Rattle.abi_rust.specs.Words.{is_same_name, symbol_of}
 use Rattle.abi_rust.specs.WrittenNames.{first_name, is_type_inside, types_named, unknown_type}
@@ -66,6 +67,10 @@ is_wanted (Some kind) v = is_same_kind kind (kind_read v)
 abbrev pub inside_item : ℕ → Item → List GenericArgRead → Where
 inside_item n it given = record { inside = it.«module»; item = Some n; given = given }
 
+-- the same of an item with what its parameters are given
+abbrev pub inside_of : Instance → Where
+inside_of i = inside_item i.number i.item.now (all_given i.given.now)
+
 -- the name is `Self`
 abbrev pub is_self_name : Option Symbol → Bool
 is_self_name None = false
@@ -82,7 +87,7 @@ abbrev pub primitive_given : Segment → Primitive → Meaning TyRead
 primitive_given s p = if is_given s then fault_at (out-Segment s).at (WrongArguments (out-Segment s).name) else Ok (primitive p)
 
 -- what is found among types and modules is one of them for certain
-abbrev pub is_other : Option Found → Bool
+abbrev pub is_other : Option Resolution → Bool
 is_other (Some (Module m)) = true
 is_other (Some (ItemFound n)) = true
 is_other (Some (PrimitiveFound p)) = true
@@ -186,7 +191,7 @@ module _ (cx : Context) where
     tuple_from w made [] = Ok (tuple (types made))
     tuple_from w made (t ∷ ts) = then_meant (λ r. tuple_from w (made ++ r ∷ []) ts) (R.type_of w t)
 
-    abbrev pub type_named_by : Where → Path → Segment → Option Found → Meaning TyRead
+    abbrev pub type_named_by : Where → Path → Segment → Option Resolution → Meaning TyRead
     type_named_by w p s (Some (PrimitiveFound found)) = primitive_given s found
     type_named_by w p s (Some (ItemFound n)) = R.item_of w n s
     type_named_by w p s (Some (Module m)) = fault_at (place_of_path p) (NotAType (out-Segment s).name)

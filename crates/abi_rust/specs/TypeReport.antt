@@ -12,8 +12,8 @@ use Rattle.rust_source.specs.declared.place.Symbol.{Symbol}
 use Rattle.rust_source.specs.declared.syntax.«Type».{«Type» as Type_written}
 use Rattle.abi_rust.specs.declared.fault.FaultKind.TheVariants.{Unsized}
 use Rattle.abi_rust.specs.declared.report.Label.{Label}
-use Rattle.abi_rust.specs.declared.report.Shape.{Shape}
-use Rattle.abi_rust.specs.declared.report.Shape.TheVariants as shape
+use Rattle.abi_rust.specs.declared.report.ReportShape.{ReportShape}
+use Rattle.abi_rust.specs.declared.report.ReportShape.TheVariants as shape
 use Rattle.abi_rust.specs.declared.report.Subject.{Subject}
 use Rattle.abi_rust.specs.declared.report.Subject.TheVariants.{Item as ItemSubject, Written}
 use Rattle.abi_rust.specs.declared.report.TypeReport.{TypeReport}
@@ -57,7 +57,7 @@ abbrev pub variant_called : VariantLabels → Symbol × List Label
 variant_called v = (v.name, v.fields.items)
 
 -- the program's names of parts as the definitions see them
-abbrev pub shape_read : Shape → ShapeRead
+abbrev pub shape_read : ReportShape → ShapeRead
 shape_read shape.Plain = no_names
 shape_read (shape.Struct all) = struct_names all.items
 shape_read (shape.Union all) = union_names all.items

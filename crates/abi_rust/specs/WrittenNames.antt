@@ -20,8 +20,8 @@ use Rattle.rust_source.specs.declared.syntax.«Type».{«Type» as Written, out-
 use Rattle.abi_rust.specs.declared.budget.Context.{Context}
 use Rattle.abi_rust.specs.declared.fault.FaultKind.{FaultKind}
 use Rattle.abi_rust.specs.declared.fault.FaultKind.TheVariants.{Ambiguous, NotAType, Private, UnknownType}
-use Rattle.abi_rust.specs.declared.paths.Found.{Found}
-use Rattle.abi_rust.specs.declared.paths.Found.TheVariants.{Ambiguous as AmbiguousFound, Hidden, Module}
+use Rattle.abi_rust.specs.declared.paths.Resolution.{Resolution}
+use Rattle.abi_rust.specs.declared.paths.Resolution.TheVariants.{Ambiguous as AmbiguousFound, Hidden, Module}
 use Rattle.abi_rust.specs.declared.paths.Space.TheVariants.{Types, Values}
 use Rattle.abi_rust.specs.Kinds.{parameter_named, single_name}
 use Rattle.abi_rust.specs.Meaning.{Meaning, then_meant, fault_at, too_deep}
@@ -44,7 +44,7 @@ abbrev pub first_name : List Segment → Option Symbol
 first_name [] = None
 first_name (s ∷ ss) = Some (out-Segment s).name
 
-abbrev pub not_a_type : Symbol → Option Found → FaultKind
+abbrev pub not_a_type : Symbol → Option Resolution → FaultKind
 not_a_type name (Some found) = NotAType name
 not_a_type name None = UnknownType name
 
@@ -83,7 +83,7 @@ module _ (cx : Context) (w : Where) where
   module_named p (Some s) = fault_at (place_of_path p) (NotAType (out-Segment s).name)
 
   -- what a path's own names name is a type, or isn't known
-  abbrev pub named_by : (is_argument : Bool) → Path → Option Found → Checked
+  abbrev pub named_by : (is_argument : Bool) → Path → Option Resolution → Checked
   named_by is_argument p (Some (Module m)) = module_named p (last_name p)
   named_by is_argument p (Some (Hidden name)) = fault_at (place_of_path p) (Private name)
   named_by is_argument p (Some (AmbiguousFound name)) = fault_at (place_of_path p) (Ambiguous name)

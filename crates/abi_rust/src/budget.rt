@@ -3,14 +3,14 @@
 ghost use Rattle.std.specs.Prelude.{◌≡◌, ◌+◌, true, IfErr, IfOk, OnOk, Some, None, [], ◌∷◌, ◌++◌, map};
 ghost use Rattle.abi_rust.specs.Known.{is_for, is_same_item, known_at, stands_in};
 ghost use Rattle.abi_rust.specs.Meaning.{Means, is_beside};
-ghost use Rattle.abi_rust.specs.Resolving.{most_deep};
+ghost use Rattle.abi_rust.specs.Resolving.{inside_of, most_deep};
 ghost use Rattle.abi_rust.specs.Types.{all_given, given_of, ty_of, where_of};
 
 use crate::fault::{FaultKind, Stop};
 use crate::scope::Scope;
 use crate::ty::{GenericArg, Ty, same_givens};
 use abi_base::TargetDataLayout;
-use rust_source::{Items, Place, Type};
+use rust_source::{Item, Items, Place, Type};
 use std::alloc::Global;
 
 /// How deep types and constants may need one another: 200 types at least, each of which is looked at twice, as a type and as
@@ -33,7 +33,7 @@ pub(crate) struct Context<'a, 'k> {
     pub(crate) known: &'k [KnownSize<'a>],
 }
 
-/// Where a type or an expression stands.
+/// Where a type or an expression stands, and how deep it may need others.
 #[derive(Clone, Copy)]
 pub(crate) struct Env<'g> {
     /// The module.
@@ -42,6 +42,55 @@ pub(crate) struct Env<'g> {
     pub(crate) item: Option<u32>,
     /// What they are given.
     pub(crate) given: &'g [GenericArg],
+    /// How deep what stands here may need other types and constants.
+    pub(crate) depth_left: u32,
+}
+
+impl<'g> Env<'g> {
+    /// The same place, for what is needed there: one less deep. `TooDeep` where no depth is left.
+    pub(crate) fn deeper(self) -> Result<Env<'g>, Stop>
+        ensures place { IfOk result (λ env. where_of env ≡ where_of self.entry) }
+        ensures depth { IfOk result (λ env. env.depth_left + 1 ≡ self.entry.depth_left) }
+        ensures err { IfErr result
+            (λ e. (self.entry.depth_left ≡ 0) × (e ≡ Stop.Fault None FaultKind.TooDeep)) }
+    {
+        let depth_left = less(self.depth_left)?;
+        Ok(Env { depth_left, ..self })
+    }
+
+    /// The same place, with all depth left.
+    pub(crate) fn with_all_depth(self) -> Env<'g>
+        ensures place { where_of result ≡ where_of self.entry }
+        ensures depth { result.depth_left ≡ most_deep }
+    {
+        Env {
+            depth_left: most_deep(),
+            ..self
+        }
+    }
+}
+
+/// An item under what its parameters are given.
+#[derive(Clone, Copy)]
+pub(crate) struct Instance<'a, 'g> {
+    pub(crate) number: u32,
+    pub(crate) item: &'a Item,
+    pub(crate) given: &'g [GenericArg],
+}
+
+impl<'g> Instance<'_, 'g> {
+    /// Where its parts stand. All depth is left.
+    pub(crate) fn inside(self) -> Env<'g>
+        ensures place { where_of result ≡ inside_of self.entry }
+        ensures depth { result.depth_left ≡ most_deep }
+    {
+        Env {
+            module: self.item.module,
+            item: Some(self.number),
+            given: self.given,
+            depth_left: most_deep(),
+        }
+    }
 }
 
 /// A call that asks for the size or the alignment of a type: where it stands, and the type that it names there.

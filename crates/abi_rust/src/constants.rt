@@ -4,9 +4,9 @@ ghost use Rattle.std.specs.Prelude.{◌≡◌};
 ghost use Rattle.abi_rust.specs.Kinds.{constant_named, constant_place, if_visible, own_named, owner_named};
 ghost use Rattle.abi_rust.specs.Types.{where_of};
 
-use crate::budget::{Context, Env};
+use crate::budget::{Context, Env, most_deep};
 use crate::kind::{name_alone, parameter_named};
-use crate::paths::{Found, Space, find, type_named, visibility_of_item};
+use crate::paths::{Resolution, Space, find, type_named, visibility_of_item};
 use crate::visible::is_visible;
 use rust_source::{Item, Path, Symbol};
 
@@ -16,7 +16,7 @@ pub(crate) fn constant_named(cx: &Context<'_, '_>, env: Env<'_>, path: &Path) ->
     ensures { result ≡ constant_named cx.now.items.now cx.now.scope.now (where_of env.entry) path.now }
 {
     match find(cx.items, cx.scope, env.module, path, Space::Values) {
-        Some(Found::Item(number)) => Some(number),
+        Some(Resolution::Item(number)) => Some(number),
         _ => own_named(cx, env, path),
     }
 }
@@ -58,7 +58,8 @@ fn owner_named(cx: &Context<'_, '_>, env: Env<'_>, path: &Path, count: usize) ->
     type_named(cx.items, cx.scope, env.module, path, count)
 }
 
-/// Where the value of the constant of this number stands: in its module, and in the type whose own it is.
+/// Where the value of the constant of this number stands: in its module, and in the type whose own it is. All depth is
+/// left.
 pub(crate) fn inside_constant(cx: &Context<'_, '_>, number: u32, item: &Item) -> Env<'static>
     ensures { where_of result ≡ constant_place cx.now.scope.now number item.now }
 {
@@ -66,5 +67,6 @@ pub(crate) fn inside_constant(cx: &Context<'_, '_>, number: u32, item: &Item) ->
         module: item.module,
         item: cx.scope.owner(number),
         given: &[],
+        depth_left: most_deep(),
     }
 }

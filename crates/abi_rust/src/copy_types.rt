@@ -123,6 +123,7 @@ fn item_lacks<'a>(
         module: item.module,
         item: Some(number),
         given,
+        depth_left: most_deep(),
     };
     kind_lacks(cx, budget, inside, item, depth_left)
 }
@@ -217,7 +218,7 @@ fn written_lacks<'a>(
         (resolved cx.now (where_of inside.entry) ty.now)) }
     ensures err { IfErr result (λ e. is_beside e ≡ true) }
 {
-    match resolve(cx, budget, inside, ty, most_deep()) {
+    match resolve(cx, budget, inside.with_all_depth(), ty) {
         Ok(ty) => lacks_copy(cx, budget, &ty, depth_left),
         Err(stop) => {
             if stop.is_beside() {
@@ -313,7 +314,7 @@ fn check_union_field<'a>(
     ensures { Means (λ _. true) (then_meant (union_type_checked cx.now field.now)
         (resolved cx.now (where_of inside.entry) field.now.ty)) result }
 {
-    let ty = resolve(cx, budget, inside, &field.ty, most_deep())?;
+    let ty = resolve(cx, budget, inside.with_all_depth(), &field.ty)?;
     check_union_type(cx, budget, field, &ty)
 }
 

@@ -7,7 +7,7 @@ ghost use Rattle.abi_rust.specs.Meaning.{Means};
 
 use crate::budget::Context;
 use crate::fault::{FaultKind, Stop, stop_at};
-use crate::paths::{Found, Space, find_of, item_at};
+use crate::paths::{Resolution, find_prefix, item_at};
 use crate::ty::Kind;
 use rust_source::{Expr, IntegerKind, Item, ItemKind, Path, Place, Symbol, Variant};
 
@@ -22,8 +22,8 @@ pub(crate) fn variant_named<'a>(
 {
     let last = path.segments.last()?;
     let count = path.segments.len().saturating_sub(1);
-    match find_of(cx.items, cx.scope, module, path, count, Space::Types) {
-        Some(Found::Item(number)) => variant_of(cx, number, last.name),
+    match find_prefix(cx.items, cx.scope, module, path, count) {
+        Some(Resolution::Item(number)) => variant_of(cx, number, last.name),
         _ => None,
     }
 }

@@ -2,19 +2,19 @@
 
 ghost use Rattle.std.specs.Prelude.{◌≡◌, IfOk, Ok, Some, nat_eq, length};
 ghost use Rattle.std.specs.Option.{option_copied, option_map};
-ghost use Rattle.abi_rust.specs.Evaluating.{begun, binary_value, branch_value, cast_value, cast_variant, constant_on, constant_value, counted_on, discriminant, evaluator, operand_value, path_value, right_kind, second_value, typed, unary_value, value_by, value_given, value_with};
+ghost use Rattle.abi_rust.specs.Evaluating.{binary_value, branch_of, cast_value, cast_variant, constant_on, constant_value, counted_on, discriminant, discriminant_base, evaluator, operand_value, path_value, right_kind, second_value, typed, unary_value, value_by, value_given, value_with};
 ghost use Rattle.abi_rust.specs.Kinds.{constant_place};
 ghost use Rattle.abi_rust.specs.Meaning.{Means};
 ghost use Rattle.abi_rust.specs.Types.{where_of};
 ghost use Rattle.abi_rust.specs.Values.{IsOfKind, value_as_read};
 
-use crate::budget::{Budget, Context, Env, less};
+use crate::budget::{Budget, Context, Env};
 use crate::constants::{constant_named, inside_constant};
 use crate::discriminants::{check_cast, discriminant_kind, variant_named, written_before};
 use crate::fault::{FaultKind, Stop, stop_at};
 use crate::int::{Int, Width};
 use crate::kind::{
-    given_named, is_shift, kind_of, kind_written, operand_kind, outside, single_name,
+    BinaryExpr, given_named, is_shift, kind_of, kind_written, operand_kind, outside, single_name,
 };
 use crate::limits::limit;
 use crate::literals::{inner_kind, literal};
@@ -22,45 +22,42 @@ use crate::operators::{binary, cast, fitting, is_settled, same_kind, unary};
 use crate::paths::item_at;
 use crate::places::{at_place, place_of, place_of_path};
 use crate::sizes::call;
-use crate::ty::{GenericArg, Kind, Value};
-use rust_source::{Binary, Expr, Item, ItemKind, Path, Place, Type, Unary, Unevaluated};
+use crate::ty::{ConstValue, GenericArg, Kind};
+use rust_source::{Expr, Item, ItemKind, Path, Place, Type, Unary, Unevaluated};
+
+/// An operator before its operand.
+#[derive(Clone, Copy)]
+struct UnaryExpr<'a> {
+    operator: Unary,
+    operand: &'a Expr,
+}
+
+/// A cast: what is cast, to which type, and where.
+#[derive(Clone, Copy)]
+struct CastExpr<'a> {
+    operand: &'a Expr,
+    ty: &'a Type,
+    at: Place,
+}
 
 /// The value of an expression, of the type that is wanted where one is. `Stop::Size` where a type's size has to be
 /// known first.
 #[cycle(evaluating)]
-#[tactic(auto, using(crate::proofs::Rooms::value_less, crate::proofs::Rooms::value_none))]
+#[tactic(auto, unfolding(crate::specs::Evaluating::value_with), using(crate::proofs::Rooms::value_less, crate::proofs::Rooms::value_none))]
 pub(crate) fn evaluate<'a>(
     cx: &Context<'a, '_>,
     budget: &mut Budget<'a>,
     env: Env<'_>,
     expr: &'a Expr,
     wanted: Option<Kind>,
-    depth_left: u32,
-) -> Result<Value, Stop>
-    ensures kind { IfOk result (λ value. IsOfKind wanted value) }
-    ensures value { Means value_as_read (evaluator cx.now depth_left (where_of env.entry) expr.now wanted) result }
-{
-    budget.spend()?;
-    let depth_left = less(depth_left)?;
-    evaluate_typed(cx, budget, env, expr, wanted, depth_left)
-}
-
-/// The value of an expression, of the type that is wanted where one is.
-#[cycle(evaluating)]
-#[tactic(auto, unfolding(crate::specs::Evaluating::value_with))]
-fn evaluate_typed<'a>(
-    cx: &Context<'a, '_>,
-    budget: &mut Budget<'a>,
-    env: Env<'_>,
-    expr: &'a Expr,
-    wanted: Option<Kind>,
-    depth_left: u32,
-) -> Result<Value, Stop>
+) -> Result<ConstValue, Stop>
     ensures kind { IfOk result (λ value. IsOfKind wanted value) }
     ensures value { Means value_as_read
-        (value_with cx.now (evaluator cx.now depth_left) (where_of env.entry) expr.now wanted) result }
+        (evaluator cx.now env.entry.depth_left (where_of env.entry) expr.now wanted) result }
 {
-    let value = evaluate_any(cx, budget, env, expr, wanted, depth_left)?;
+    budget.spend()?;
+    let env = env.deeper()?;
+    let value = evaluate_any(cx, budget, env, expr, wanted)?;
     typed(value, wanted, place_of(expr))
 }
 
@@ -72,18 +69,17 @@ fn evaluate_any<'a>(
     env: Env<'_>,
     expr: &'a Expr,
     wanted: Option<Kind>,
-    depth_left: u32,
-) -> Result<Value, Stop>
+) -> Result<ConstValue, Stop>
     ensures { Means value_as_read
-        (value_by cx.now (evaluator cx.now depth_left) (where_of env.entry) wanted expr.now) result }
+        (value_by cx.now (evaluator cx.now env.entry.depth_left) (where_of env.entry) wanted expr.now) result }
 {
     match expr {
         Expr::Integer(number, suffix, at) => {
             literal(cx, Int::positive(*number), *suffix, wanted, *at)
         }
-        Expr::Char(code, _) => Ok(Value::Char(*code)),
-        Expr::Bool(truth, _) => Ok(Value::Bool(*truth)),
-        Expr::Path(path) => evaluate_path(cx, budget, env, path, depth_left),
+        Expr::Char(code, _) => Ok(ConstValue::Char(*code)),
+        Expr::Bool(truth, _) => Ok(ConstValue::Bool(*truth)),
+        Expr::Path(path) => evaluate_path(cx, budget, env, path),
         Expr::Call(path, arguments, at) => {
             if arguments.is_empty() {
                 call(cx, budget, env, path, *at)
@@ -92,43 +88,48 @@ fn evaluate_any<'a>(
             }
         }
         Expr::Unary(operator, operand, _) => {
-            evaluate_unary(cx, budget, env, *operator, operand, wanted, depth_left)
+            let expr = UnaryExpr {
+                operator: *operator,
+                operand,
+            };
+            evaluate_unary(cx, budget, env, expr, wanted)
         }
         Expr::Binary(operator, left, right, _) => {
-            evaluate_binary(cx, budget, env, *operator, left, right, wanted, depth_left)
+            let expr = BinaryExpr {
+                operator: *operator,
+                left,
+                right,
+            };
+            evaluate_binary(cx, budget, env, expr, wanted)
         }
-        Expr::Cast(operand, ty, at) => evaluate_cast(cx, budget, env, operand, ty, *at, depth_left),
-        Expr::If(condition, left, right, _) => {
-            let condition = evaluate(cx, budget, env, condition, Some(Kind::Bool), depth_left)?;
-            evaluate_branch(cx, budget, env, condition, left, right, wanted, depth_left)
+        Expr::Cast(operand, ty, at) => {
+            let expr = CastExpr {
+                operand,
+                ty,
+                at: *at,
+            };
+            evaluate_cast(cx, budget, env, expr)
+        }
+        Expr::If(condition, yes, no, _) => {
+            let condition = evaluate(cx, budget, env, condition, Some(Kind::Bool))?;
+            evaluate(cx, budget, env, branch_of(condition, yes, no), wanted)
         }
         Expr::Unevaluated(what, at) => Err(stop_at(*at, FaultKind::Unevaluated(*what))),
     }
 }
 
-/// The value of the branch that a condition chooses.
-#[cycle(evaluating)]
-fn evaluate_branch<'a>(
-    cx: &Context<'a, '_>,
-    budget: &mut Budget<'a>,
-    env: Env<'_>,
-    condition: Value,
-    left: &'a Expr,
-    right: &'a Expr,
-    wanted: Option<Kind>,
-    depth_left: u32,
-) -> Result<Value, Stop>
-    ensures { Means value_as_read
-        (branch_value cx.now (evaluator cx.now depth_left) (where_of env.entry) left.now right.now wanted (value_as_read condition)) result }
+/// The branch that a condition chooses.
+fn branch_of<'a>(condition: ConstValue, yes: &'a Expr, no: &'a Expr) -> &'a Expr
+    ensures { result.now ≡ branch_of (value_as_read condition) yes.now no.now }
 {
     match condition {
-        Value::Bool(true) => evaluate(cx, budget, env, left, wanted, depth_left),
-        _ => evaluate(cx, budget, env, right, wanted, depth_left),
+        ConstValue::Bool(true) => yes,
+        _ => no,
     }
 }
 
 /// The value, where it is of the type that is wanted.
-fn typed(value: Value, wanted: Option<Kind>, at: Place) -> Result<Value, Stop>
+fn typed(value: ConstValue, wanted: Option<Kind>, at: Place) -> Result<ConstValue, Stop>
     ensures same { IfOk result (λ given. given ≡ value) }
     ensures kind { IfOk result (λ given. IsOfKind wanted given) }
     ensures meant { Means value_as_read (typed at wanted (value_as_read value)) result }
@@ -151,21 +152,22 @@ fn evaluate_unary<'a>(
     cx: &Context<'a, '_>,
     budget: &mut Budget<'a>,
     env: Env<'_>,
-    operator: Unary,
-    operand: &'a Expr,
+    expr: UnaryExpr<'a>,
     wanted: Option<Kind>,
-    depth_left: u32,
-) -> Result<Value, Stop>
-    ensures { Means value_as_read
-        (unary_value cx.now (evaluator cx.now depth_left) (where_of env.entry) operator operand.now wanted) result }
+) -> Result<ConstValue, Stop>
+    ensures { Means value_as_read (unary_value cx.now (evaluator cx.now env.entry.depth_left) (where_of env.entry)
+        expr.entry.operator expr.entry.operand.now wanted) result }
 {
-    match (operator, operand) {
+    match (expr.operator, expr.operand) {
         (Unary::Minus, Expr::Integer(number, suffix, at)) => {
             literal(cx, Int::new(true, *number), *suffix, wanted, *at)
         }
         _ => {
-            let value = evaluate(cx, budget, env, operand, wanted, depth_left)?;
-            at_place(place_of(operand), unary(operator, value, cx.pointer_bits))
+            let value = evaluate(cx, budget, env, expr.operand, wanted)?;
+            at_place(
+                place_of(expr.operand),
+                unary(expr.operator, value, cx.pointer_bits),
+            )
         }
     }
 }
@@ -177,18 +179,15 @@ fn evaluate_binary<'a>(
     cx: &Context<'a, '_>,
     budget: &mut Budget<'a>,
     env: Env<'_>,
-    operator: Binary,
-    left: &'a Expr,
-    right: &'a Expr,
+    expr: BinaryExpr<'a>,
     wanted: Option<Kind>,
-    depth_left: u32,
-) -> Result<Value, Stop>
-    ensures { Means value_as_read
-        (binary_value cx.now (evaluator cx.now depth_left) (where_of env.entry) operator left.now right.now wanted) result }
+) -> Result<ConstValue, Stop>
+    ensures { Means value_as_read (binary_value cx.now (evaluator cx.now env.entry.depth_left) (where_of env.entry)
+        expr.entry.operator expr.entry.left.now expr.entry.right.now wanted) result }
 {
-    let kind = operand_kind(cx, env, operator, left, right, wanted);
-    let first = evaluate(cx, budget, env, left, kind, depth_left)?;
-    evaluate_second(cx, budget, env, operator, first, left, right, depth_left)
+    let kind = operand_kind(cx, env, expr, wanted);
+    let first = evaluate(cx, budget, env, expr.left, kind)?;
+    evaluate_second(cx, budget, env, expr, first)
 }
 
 /// The value of an operator between its operands, of which the first has this value.
@@ -197,23 +196,20 @@ fn evaluate_second<'a>(
     cx: &Context<'a, '_>,
     budget: &mut Budget<'a>,
     env: Env<'_>,
-    operator: Binary,
-    first: Value,
-    left: &'a Expr,
-    right: &'a Expr,
-    depth_left: u32,
-) -> Result<Value, Stop>
-    ensures { Means value_as_read
-        (second_value cx.now (evaluator cx.now depth_left) (where_of env.entry) operator left.now right.now (value_as_read first)) result }
+    expr: BinaryExpr<'a>,
+    first: ConstValue,
+) -> Result<ConstValue, Stop>
+    ensures { Means value_as_read (second_value cx.now (evaluator cx.now env.entry.depth_left) (where_of env.entry)
+        expr.entry.operator expr.entry.left.now expr.entry.right.now (value_as_read first)) result }
 {
-    if is_settled(operator, first) {
+    if is_settled(expr.operator, first) {
         return Ok(first);
     }
-    let kind = right_kind(cx, env, operator, first, right);
-    let second = evaluate(cx, budget, env, right, kind, depth_left)?;
+    let kind = right_kind(cx, env, expr, first);
+    let second = evaluate(cx, budget, env, expr.right, kind)?;
     at_place(
-        place_of(left),
-        binary(operator, first, second, cx.pointer_bits),
+        place_of(expr.left),
+        binary(expr.operator, first, second, cx.pointer_bits),
     )
 }
 
@@ -221,14 +217,14 @@ fn evaluate_second<'a>(
 fn right_kind(
     cx: &Context<'_, '_>,
     env: Env<'_>,
-    operator: Binary,
-    first: Value,
-    right: &Expr,
+    expr: BinaryExpr<'_>,
+    first: ConstValue,
 ) -> Option<Kind>
-    ensures { result ≡ right_kind cx.now (where_of env.entry) operator (value_as_read first) right.now }
+    ensures { result ≡ right_kind cx.now (where_of env.entry) expr.entry.operator (value_as_read first)
+        expr.entry.right.now }
 {
-    if is_shift(operator) {
-        kind_of(cx, env, right)
+    if is_shift(expr.operator) {
+        kind_of(cx, env, expr.right)
     } else {
         Some(first.kind())
     }
@@ -241,19 +237,16 @@ fn evaluate_cast<'a>(
     cx: &Context<'a, '_>,
     budget: &mut Budget<'a>,
     env: Env<'_>,
-    operand: &'a Expr,
-    ty: &Type,
-    at: Place,
-    depth_left: u32,
-) -> Result<Value, Stop>
-    ensures { Means value_as_read
-        (cast_value cx.now (evaluator cx.now depth_left) (where_of env.entry) operand.now ty.now at) result }
+    expr: CastExpr<'a>,
+) -> Result<ConstValue, Stop>
+    ensures { Means value_as_read (cast_value cx.now (evaluator cx.now env.entry.depth_left) (where_of env.entry)
+        expr.entry.operand.now expr.entry.ty.now expr.entry.at) result }
 {
-    let Some(kind) = kind_written(cx, env, ty) else {
-        return Err(stop_at(at, FaultKind::Unevaluated(Unevaluated::Expression)));
+    let Some(kind) = kind_written(cx, env, expr.ty) else {
+        return Err(stop_at(expr.at, FaultKind::Unevaluated(Unevaluated::Expression)));
     };
-    let value = evaluate_operand(cx, budget, env, operand, kind, depth_left)?;
-    at_place(at, cast(value, kind, cx.pointer_bits))
+    let value = evaluate_operand(cx, budget, env, expr.operand, kind)?;
+    at_place(expr.at, cast(value, kind, cx.pointer_bits))
 }
 
 /// The value that is cast: a variant's discriminant, or that of the operand.
@@ -264,15 +257,14 @@ fn evaluate_operand<'a>(
     env: Env<'_>,
     operand: &'a Expr,
     kind: Kind,
-    depth_left: u32,
-) -> Result<Value, Stop>
+) -> Result<ConstValue, Stop>
     ensures { Means value_as_read
-        (operand_value cx.now (evaluator cx.now depth_left) (where_of env.entry) operand.now kind
+        (operand_value cx.now (evaluator cx.now env.entry.depth_left) (where_of env.entry) operand.now kind
         (cast_variant cx.now env.entry.«module» operand.now)) result }
 {
     if let Some((item, index)) = cast_variant(cx, env.module, operand) {
         check_cast(item, index, kind, place_of(operand))?;
-        return discriminant(cx, budget, item, index, depth_left);
+        return discriminant(cx, budget, item, index, env.depth_left);
     }
     let known = kind_of(cx, env, operand);
     let wanted = if known.is_some() {
@@ -280,7 +272,7 @@ fn evaluate_operand<'a>(
     } else {
         inner_kind(operand, kind)
     };
-    evaluate(cx, budget, env, operand, wanted, depth_left)
+    evaluate(cx, budget, env, operand, wanted)
 }
 
 /// The enum and the number of the variant that an operand of a cast names.
@@ -302,47 +294,56 @@ fn discriminant<'a>(
     item: &'a Item,
     index: usize,
     depth_left: u32,
-) -> Result<Value, Stop>
+) -> Result<ConstValue, Stop>
     ensures { Means value_as_read (discriminant cx.now (evaluator cx.now depth_left) item.now index) result }
 {
     let ItemKind::Enum(all) = &item.kind else {
         return Err(stop_at(item.at, FaultKind::WrongType));
     };
     let (behind, written) = written_before(all.variants.as_slice(), index);
-    let start = begun(cx, budget, item, written, depth_left)?;
+    let start = discriminant_base(cx, budget, item, written, depth_left)?;
     counted(cx, item, behind, start)
 }
 
 /// A discriminant that is written, or the first.
 #[cycle(evaluating)]
-fn begun<'a>(
+fn discriminant_base<'a>(
     cx: &Context<'a, '_>,
     budget: &mut Budget<'a>,
     item: &'a Item,
     written: Option<&'a Expr>,
     depth_left: u32,
-) -> Result<Value, Stop>
+) -> Result<ConstValue, Stop>
     ensures { Means value_as_read
-        (begun cx.now (evaluator cx.now depth_left) item.now (option_copied written.entry)) result }
+        (discriminant_base cx.now (evaluator cx.now depth_left) item.now (option_copied written.entry)) result }
 {
     let kind = discriminant_kind(item);
     match written {
         Some(expr) => {
             let wanted = Some(Kind::Integer(kind));
-            evaluate(cx, budget, outside(item.module), expr, wanted, depth_left)
+            let env = Env {
+                depth_left,
+                ..outside(item.module)
+            };
+            evaluate(cx, budget, env, expr, wanted)
         }
-        None => Ok(Value::Integer(kind, Int::positive(0))),
+        None => Ok(ConstValue::Integer(kind, Int::positive(0))),
     }
 }
 
 /// The discriminant that stands so far behind one.
 #[tactic(auto, using(crate::proofs::Numbers::too_wide))]
-fn counted(cx: &Context<'_, '_>, item: &Item, behind: usize, start: Value) -> Result<Value, Stop>
+fn counted(
+    cx: &Context<'_, '_>,
+    item: &Item,
+    behind: usize,
+    start: ConstValue,
+) -> Result<ConstValue, Stop>
     ensures { Means value_as_read (counted_on cx.now item.now behind (value_as_read start)) result }
 {
     let kind = discriminant_kind(item);
     match start {
-        Value::Integer(_, int) => {
+        ConstValue::Integer(_, int) => {
             let width = Width::of(kind, cx.pointer_bits);
             let next = int.plus(Int::positive(behind as u128));
             at_place(item.at, fitting(kind, width, next))
@@ -352,7 +353,7 @@ fn counted(cx: &Context<'_, '_>, item: &Item, behind: usize, start: Value) -> Re
 }
 
 /// The value that the parameter of this name is given, if it is one.
-fn value_given(cx: &Context<'_, '_>, env: Env<'_>, path: &Path) -> Option<Value>
+fn value_given(cx: &Context<'_, '_>, env: Env<'_>, path: &Path) -> Option<ConstValue>
     ensures { option_map value_as_read result ≡ value_given cx.now (where_of env.entry) path.now }
 {
     match given_named(cx, env, single_name(path)?) {
@@ -369,16 +370,15 @@ pub(crate) fn evaluate_path<'a>(
     budget: &mut Budget<'a>,
     env: Env<'_>,
     path: &'a Path,
-    depth_left: u32,
-) -> Result<Value, Stop>
+) -> Result<ConstValue, Stop>
     ensures { Means value_as_read
-        (path_value cx.now (evaluator cx.now depth_left) (where_of env.entry) path.now) result }
+        (path_value cx.now (evaluator cx.now env.entry.depth_left) (where_of env.entry) path.now) result }
 {
     if let Some(value) = value_given(cx, env, path) {
         return Ok(value);
     }
     match constant_named(cx, env, path) {
-        Some(number) => constant(cx, budget, number, place_of_path(path), depth_left),
+        Some(number) => constant(cx, budget, number, place_of_path(path), env.depth_left),
         None => limit(cx, env, path),
     }
 }
@@ -392,7 +392,7 @@ fn constant<'a>(
     number: u32,
     at: Place,
     depth_left: u32,
-) -> Result<Value, Stop>
+) -> Result<ConstValue, Stop>
     ensures { Means value_as_read (constant_value cx.now (evaluator cx.now depth_left) number at) result }
 {
     let unevaluated = FaultKind::Unevaluated(Unevaluated::Expression);
@@ -402,10 +402,13 @@ fn constant<'a>(
     let ItemKind::Const(constant) = &item.kind else {
         return Err(stop_at(at, unevaluated));
     };
-    let inside = inside_constant(cx, number, item);
+    let inside = Env {
+        depth_left,
+        ..inside_constant(cx, number, item)
+    };
     let kind = kind_written(cx, inside, &constant.ty);
     match (kind, &constant.value) {
-        (Some(_), Some(value)) => evaluate(cx, budget, inside, value, kind, depth_left),
+        (Some(_), Some(value)) => evaluate(cx, budget, inside, value, kind),
         _ => Err(stop_at(at, unevaluated)),
     }
 }

@@ -24,7 +24,7 @@ impl Fault {
             QuotesName sources.now.names name (string_bytes out.old) (string_bytes out.new)) }
     {
         match said_of_name(self.kind) {
-            Some((text, name)) => write_named(alloc, out, sources, self.kind, text, name),
+            Some(said) => write_named(alloc, out, sources, self.kind, said),
             None => write_plain(out, self.kind),
         }
     }
@@ -55,18 +55,18 @@ fn said_of_name(kind: FaultKind) -> Option<(&'static str, Symbol)>
     }
 }
 
-/// Writes what is wrong about a name.
+/// Writes what is wrong about a name: what is said before it, and the name.
 fn write_named(
     alloc: Global,
     out: &mut String,
     sources: &Sources,
     kind: FaultKind,
-    text: &str,
-    name: Symbol,
+    said: (&str, Symbol),
 ) -> Result<(), AllocError>
     ensures { IfOk result (λ _.
-        QuotesName sources.now.names name (string_bytes out.old) (string_bytes out.new)) }
+        QuotesName sources.now.names said.entry.1 (string_bytes out.old) (string_bytes out.new)) }
 {
+    let (text, name) = said;
     quoted(out, text, sources, name)?;
     match kind {
         FaultKind::UnknownType(_) => suggest(alloc, out, sources, name, true),

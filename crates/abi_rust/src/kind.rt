@@ -5,17 +5,26 @@ ghost use Rattle.std.specs.Option.{option_and_then, option_copied, option_map};
 ghost use Rattle.rust_source.specs.declared.syntax.Path.{out-Path};
 ghost use Rattle.abi_rust.specs.Kinds.{constant_type, given_named, is_given, is_parameter_of, is_shift, is_test, kind_of_names, kind_found, kind_given, kind_of_expr, kind_of_primitive, kind_written, limit_type, name_alone, number_from, operand_kind, operands_kind, outside, parameter_named, parameter_type, parameters_of, path_kind, single_name};
 ghost use Rattle.abi_rust.specs.Places.{last_name};
+ghost use Rattle.abi_rust.specs.Resolving.{most_deep};
 ghost use Rattle.abi_rust.specs.Types.{given_of, where_of};
 
-use crate::budget::{Context, Env};
+use crate::budget::{Context, Env, most_deep};
 use crate::constants::{constant_named, inside_constant};
-use crate::paths::{Found, Space, find_of, found_by, item_at, most_aliases};
+use crate::paths::{Resolution, find_prefix, found_by, item_at, most_aliases};
 use crate::ty::{GenericArg, Kind, Primitive, Ty};
 use crate::words::Word;
 use rust_source::{
     Binary, Expr, IntegerKind, Item, ItemKind, Parameter, ParameterKind, Path, Segment, Symbol,
     Type,
 };
+
+/// An operator between its operands.
+#[derive(Clone, Copy)]
+pub(crate) struct BinaryExpr<'a> {
+    pub(crate) operator: Binary,
+    pub(crate) left: &'a Expr,
+    pub(crate) right: &'a Expr,
+}
 
 /// Whether something stands in angle brackets behind a name.
 pub(crate) fn is_given(segment: &Segment) -> bool
@@ -142,23 +151,20 @@ pub(crate) fn kind_at(cx: &Context<'_, '_>, env: Env<'_>, path: &Path, count: us
             return kind_given(cx, env, name);
         }
     }
-    kind_found(
-        cx,
-        find_of(cx.items, cx.scope, env.module, path, count, Space::Types),
-    )
+    kind_found(cx, find_prefix(cx.items, cx.scope, env.module, path, count))
 }
 
 /// The type of constants that a type is, by its aliases.
 #[tactic(auto, unfolding(crate::specs::Kinds::kind_found), using(crate::proofs::Rooms::kind_more, crate::proofs::Rooms::kind_done))]
-fn kind_found(cx: &Context<'_, '_>, found: Option<Found>) -> Option<Kind>
+fn kind_found(cx: &Context<'_, '_>, found: Option<Resolution>) -> Option<Kind>
     ensures { result ≡ kind_found cx.now.items.now cx.now.scope.now found }
 {
     let mut found = found;
     let turns = most_aliases();
     for turn in 0..turns {
         let number = match found {
-            Some(Found::Primitive(primitive)) => return kind_of_primitive(primitive),
-            Some(Found::Item(number)) => number,
+            Some(Resolution::Primitive(primitive)) => return kind_of_primitive(primitive),
+            Some(Resolution::Item(number)) => number,
             _ => return None,
         };
         let item = item_at(cx.items, number)?;
@@ -265,14 +271,16 @@ fn parameter_at(item: &Item, index: usize) -> Option<&Parameter>
     item.parameters.get(index)
 }
 
-/// A module outside of items.
+/// A module outside of items, with all depth left.
 pub(crate) fn outside(module: u32) -> Env<'static>
-    ensures { where_of result ≡ outside «module» }
+    ensures place { where_of result ≡ outside «module» }
+    ensures depth { result.depth_left ≡ most_deep }
 {
     Env {
         module,
         item: None,
         given: &[],
+        depth_left: most_deep(),
     }
 }
 
@@ -302,20 +310,18 @@ pub(crate) fn is_shift(operator: Binary) -> bool
 pub(crate) fn operand_kind(
     cx: &Context<'_, '_>,
     env: Env<'_>,
-    operator: Binary,
-    left: &Expr,
-    right: &Expr,
+    expr: BinaryExpr<'_>,
     wanted: Option<Kind>,
 ) -> Option<Kind>
-    ensures { result
-        ≡ operand_kind cx.now.items.now cx.now.scope.now (where_of env.entry) operator left.now right.now wanted }
+    ensures { result ≡ operand_kind cx.now.items.now cx.now.scope.now (where_of env.entry)
+        expr.entry.operator expr.entry.left.now expr.entry.right.now wanted }
 {
-    if !is_test(operator) && wanted.is_some() {
+    if !is_test(expr.operator) && wanted.is_some() {
         return wanted;
     }
-    let kind = kind_of(cx, env, left);
-    if kind.is_some() || is_shift(operator) {
+    let kind = kind_of(cx, env, expr.left);
+    if kind.is_some() || is_shift(expr.operator) {
         return kind;
     }
-    kind_of(cx, env, right)
+    kind_of(cx, env, expr.right)
 }

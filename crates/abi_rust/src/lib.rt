@@ -53,6 +53,6 @@ mod scalars;
 mod tree;
 
 pub use fault::{Fault, FaultKind, FaultPlace};
-pub use report::{Label, Shape, TypeReport, VariantLabels};
+pub use report::{Label, ReportShape, TypeReport, VariantLabels};
 pub use sources::Sources;
 pub use targets::{Target, data_layout_of, target_named};

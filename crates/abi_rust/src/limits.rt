@@ -13,14 +13,14 @@ use crate::budget::{Context, Env};
 use crate::fault::{FaultKind, Stop, stop_at};
 use crate::int::{Int, Width};
 use crate::kind::kind_at;
-use crate::paths::{Found, Space, find, find_of};
-use crate::ty::{Kind, Value};
+use crate::paths::{Resolution, Space, find, find_prefix};
+use crate::ty::{ConstValue, Kind};
 use crate::words::Word;
 use rust_source::{IntegerKind, Path, Symbol, Unevaluated};
 
 /// `T::MAX`, `T::MIN` or `T::BITS` of an integer type.
 #[tactic(auto, unfolding(crate::specs::Evaluating::limit))]
-pub(crate) fn limit(cx: &Context<'_, '_>, env: Env<'_>, path: &Path) -> Result<Value, Stop>
+pub(crate) fn limit(cx: &Context<'_, '_>, env: Env<'_>, path: &Path) -> Result<ConstValue, Stop>
     ensures { Means value_as_read (limit cx.now (where_of env.entry) path.now) result }
 {
     let count = path.segments.len().saturating_sub(1);
@@ -44,14 +44,14 @@ fn barred(cx: &Context<'_, '_>, module: u32, path: &Path) -> Option<FaultKind>
     ensures { result ≡ barred cx.now «module» path.now }
 {
     match find(cx.items, cx.scope, module, path, Space::Values) {
-        Some(Found::Hidden(name)) => Some(FaultKind::Private(name)),
-        Some(Found::Ambiguous(name)) => Some(FaultKind::Ambiguous(name)),
+        Some(Resolution::Hidden(name)) => Some(FaultKind::Private(name)),
+        Some(Resolution::Ambiguous(name)) => Some(FaultKind::Ambiguous(name)),
         _ => None,
     }
 }
 
 /// The limit of this name of a type, if it is an integer's.
-fn limit_of(cx: &Context<'_, '_>, kind: Option<Kind>, name: Symbol) -> Option<Value>
+fn limit_of(cx: &Context<'_, '_>, kind: Option<Kind>, name: Symbol) -> Option<ConstValue>
     ensures { option_map value_as_read result ≡ limit_of cx.now name kind }
 {
     match kind {
@@ -71,27 +71,27 @@ fn unknown_of(
 ) -> FaultKind
     ensures { result ≡ unknown_of cx.now «module» path.now count name }
 {
-    match find_of(cx.items, cx.scope, module, path, count, Space::Types) {
-        Some(Found::Module(_)) => FaultKind::UnknownConstant(name),
+    match find_prefix(cx.items, cx.scope, module, path, count) {
+        Some(Resolution::Module(_)) => FaultKind::UnknownConstant(name),
         _ => FaultKind::Unevaluated(Unevaluated::Associated),
     }
 }
 
 /// The limit of this name of an integer type.
-fn limit_named(cx: &Context<'_, '_>, kind: IntegerKind, name: Symbol) -> Option<Value>
+fn limit_named(cx: &Context<'_, '_>, kind: IntegerKind, name: Symbol) -> Option<ConstValue>
     ensures { option_map value_as_read result ≡ limit_named cx.now kind name }
 {
     let width = Width::of(kind, cx.pointer_bits);
     let words = cx.scope.words;
     if words.is(name, Word::Max) {
-        return Some(Value::Integer(kind, width.max()));
+        return Some(ConstValue::Integer(kind, width.max()));
     }
     if words.is(name, Word::Min) {
-        return Some(Value::Integer(kind, width.min()));
+        return Some(ConstValue::Integer(kind, width.min()));
     }
     if words.is(name, Word::Bits) {
         let bits = Int::positive(u128::from(width.bits));
-        return Some(Value::Integer(IntegerKind::U32, bits));
+        return Some(ConstValue::Integer(IntegerKind::U32, bits));
     }
     None
 }

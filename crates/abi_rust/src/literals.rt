@@ -11,7 +11,7 @@ use crate::fault::{FaultKind, Stop, stop_at};
 use crate::int::{Int, Width};
 use crate::operators::fitting;
 use crate::places::at_place;
-use crate::ty::{Kind, Value};
+use crate::ty::{ConstValue, Kind};
 use rust_source::{Expr, IntegerKind, Place};
 
 /// The type of a literal: of its suffix, the one that is wanted, or an `i32`.
@@ -35,7 +35,7 @@ pub(crate) fn literal(
     suffix: Option<IntegerKind>,
     wanted: Option<Kind>,
     at: Place,
-) -> Result<Value, Stop>
+) -> Result<ConstValue, Stop>
     ensures { Means value_as_read (literal cx.now.pointer_bits (number_of_int int) suffix wanted at) result }
 {
     let Some(kind) = literal_kind(suffix, wanted) else {

@@ -3,16 +3,20 @@
 ghost use Rattle.std.specs.Prelude.{◌≡◌, IfNone, IfOk, IfSome, Err, pos, unsigned_abs, ◌%◌};
 ghost use Rattle.std.specs.Option.{option_map};
 ghost use Rattle.abi_rust.specs.Int.{number_of_int};
-ghost use Rattle.abi_rust.specs.Operators.{as_code, binary_of, bits_of_value, cast_of, divided, fitted, is_settled, number_of_kind, number_of_truth, of_numbers, of_two, of_truths, order_of, same_integer, is_same_kind, seen, shifted_left, shifted_right, unary_of};
+ghost use Rattle.abi_rust.specs.Operators.{as_code, binary_of, bits_of_value, cast_of, divided, fitted, is_settled, number_of_kind, number_of_truth, of_numbers, of_truths, order_of, same_integer, is_same_kind, seen, shifted_left, shifted_right, unary_of};
 ghost use Rattle.abi_rust.specs.Values.{IsNumberOfKind, value_as_read};
 
 use crate::fault::FaultKind;
 use crate::int::{Int, Width};
-use crate::ty::{Kind, Value};
+use crate::ty::{ConstValue, Kind};
 use rust_source::{Binary, IntegerKind, Unary};
 
 /// A number, where it fits the type.
-pub(crate) fn fitting(kind: IntegerKind, width: Width, int: Option<Int>) -> Result<Value, FaultKind>
+pub(crate) fn fitting(
+    kind: IntegerKind,
+    width: Width,
+    int: Option<Int>,
+) -> Result<ConstValue, FaultKind>
     ensures number { IfOk result (λ value. IsNumberOfKind kind int value) }
     ensures fits { IfSome int (λ i. seen value_as_read result
         ≡ fitted kind width.is_signed width.bits (number_of_int i)) }
@@ -21,7 +25,7 @@ pub(crate) fn fitting(kind: IntegerKind, width: Width, int: Option<Int>) -> Resu
     match int {
         Some(int) => {
             if width.has(int) {
-                Ok(Value::Integer(kind, int))
+                Ok(ConstValue::Integer(kind, int))
             } else {
                 Err(FaultKind::Overflow(kind))
             }
@@ -31,16 +35,20 @@ pub(crate) fn fitting(kind: IntegerKind, width: Width, int: Option<Int>) -> Resu
 }
 
 /// What an operator before its operand makes of it.
-pub(crate) fn unary(operator: Unary, value: Value, pointer_bits: u32) -> Result<Value, FaultKind>
+pub(crate) fn unary(
+    operator: Unary,
+    value: ConstValue,
+    pointer_bits: u32,
+) -> Result<ConstValue, FaultKind>
     ensures { seen value_as_read result ≡ unary_of pointer_bits operator (value_as_read value) }
 {
     match (operator, value) {
-        (Unary::Not, Value::Bool(truth)) => Ok(Value::Bool(!truth)),
-        (Unary::Not, Value::Integer(kind, int)) => {
+        (Unary::Not, ConstValue::Bool(truth)) => Ok(ConstValue::Bool(!truth)),
+        (Unary::Not, ConstValue::Integer(kind, int)) => {
             let width = Width::of(kind, pointer_bits);
-            Ok(Value::Integer(kind, width.wrap(!int.bits())))
+            Ok(ConstValue::Integer(kind, width.wrap(!int.bits())))
         }
-        (Unary::Minus, Value::Integer(kind, int)) => {
+        (Unary::Minus, ConstValue::Integer(kind, int)) => {
             let width = Width::of(kind, pointer_bits);
             if !width.is_signed {
                 return Err(FaultKind::WrongType);
@@ -52,12 +60,12 @@ pub(crate) fn unary(operator: Unary, value: Value, pointer_bits: u32) -> Result<
 }
 
 /// Whether the first operand decides: `false && ..`, `true || ..`.
-pub(crate) fn is_settled(operator: Binary, first: Value) -> bool
+pub(crate) fn is_settled(operator: Binary, first: ConstValue) -> bool
     ensures { result ≡ is_settled operator (value_as_read first) }
 {
     match (operator, first) {
-        (Binary::And, Value::Bool(false)) => true,
-        (Binary::Or, Value::Bool(true)) => true,
+        (Binary::And, ConstValue::Bool(false)) => true,
+        (Binary::Or, ConstValue::Bool(true)) => true,
         _ => false,
     }
 }
@@ -65,34 +73,43 @@ pub(crate) fn is_settled(operator: Binary, first: Value) -> bool
 /// What an operator between two values makes of them.
 pub(crate) fn binary(
     operator: Binary,
-    left: Value,
-    right: Value,
+    left: ConstValue,
+    right: ConstValue,
     pointer_bits: u32,
-) -> Result<Value, FaultKind>
+) -> Result<ConstValue, FaultKind>
     ensures { seen value_as_read result ≡ binary_of pointer_bits operator (value_as_read left) (value_as_read right) }
 {
     match (left, right) {
-        (Value::Bool(a), Value::Bool(b)) => of_bools(operator, a, b),
-        (Value::Char(a), Value::Char(b)) => {
+        (ConstValue::Bool(a), ConstValue::Bool(b)) => of_bools(operator, a, b),
+        (ConstValue::Char(a), ConstValue::Char(b)) => {
             let (a, b) = (Int::positive(u128::from(a)), Int::positive(u128::from(b)));
             of_order(operator, a, b)
         }
-        (Value::Integer(kind, a), Value::Integer(other, b)) => {
+        (ConstValue::Integer(kind, a), ConstValue::Integer(other, b)) => {
             let width = Width::of(kind, pointer_bits);
-            of_two(operator, width, kind, other, a, b)
+            match operator {
+                Binary::Shl => shifted_left(kind, width, a, b),
+                Binary::Shr => shifted_right(kind, width, a, b),
+                _ => {
+                    if !same_integer(kind, other) {
+                        return Err(FaultKind::WrongType);
+                    }
+                    of_integers(operator, kind, width, a, b)
+                }
+            }
         }
         _ => Err(FaultKind::WrongType),
     }
 }
 
 /// What an operator makes of truths.
-fn of_bools(operator: Binary, a: bool, b: bool) -> Result<Value, FaultKind>
+fn of_bools(operator: Binary, a: bool, b: bool) -> Result<ConstValue, FaultKind>
     ensures { seen value_as_read result ≡ of_truths operator a b }
 {
     match operator {
-        Binary::And | Binary::BitAnd => Ok(Value::Bool(a && b)),
-        Binary::Or | Binary::BitOr => Ok(Value::Bool(a || b)),
-        Binary::BitXor => Ok(Value::Bool(if a { !b } else { b })),
+        Binary::And | Binary::BitAnd => Ok(ConstValue::Bool(a && b)),
+        Binary::Or | Binary::BitOr => Ok(ConstValue::Bool(a || b)),
+        Binary::BitXor => Ok(ConstValue::Bool(if a { !b } else { b })),
         _ => of_order(operator, of_truth(a), of_truth(b)),
     }
 }
@@ -105,22 +122,22 @@ fn of_truth(truth: bool) -> Int
 }
 
 /// What a comparison tells.
-fn of_order(operator: Binary, a: Int, b: Int) -> Result<Value, FaultKind>
+fn of_order(operator: Binary, a: Int, b: Int) -> Result<ConstValue, FaultKind>
     ensures { seen value_as_read result ≡ order_of operator (number_of_int a) (number_of_int b) }
 {
     match operator {
-        Binary::Equal => Ok(Value::Bool(!a.is_below(b) && !b.is_below(a))),
-        Binary::NotEqual => Ok(Value::Bool(a.is_below(b) || b.is_below(a))),
-        Binary::Less => Ok(Value::Bool(a.is_below(b))),
-        Binary::LessOrEqual => Ok(Value::Bool(!b.is_below(a))),
-        Binary::Greater => Ok(Value::Bool(b.is_below(a))),
-        Binary::GreaterOrEqual => Ok(Value::Bool(!a.is_below(b))),
+        Binary::Equal => Ok(ConstValue::Bool(!a.is_below(b) && !b.is_below(a))),
+        Binary::NotEqual => Ok(ConstValue::Bool(a.is_below(b) || b.is_below(a))),
+        Binary::Less => Ok(ConstValue::Bool(a.is_below(b))),
+        Binary::LessOrEqual => Ok(ConstValue::Bool(!b.is_below(a))),
+        Binary::Greater => Ok(ConstValue::Bool(b.is_below(a))),
+        Binary::GreaterOrEqual => Ok(ConstValue::Bool(!a.is_below(b))),
         _ => Err(FaultKind::WrongType),
     }
 }
 
 /// The number times two to the power, of which the lowest bits stay.
-fn shifted_left(kind: IntegerKind, width: Width, a: Int, b: Int) -> Result<Value, FaultKind>
+fn shifted_left(kind: IntegerKind, width: Width, a: Int, b: Int) -> Result<ConstValue, FaultKind>
     ensures { seen value_as_read result
         ≡ shifted_left kind width.is_signed width.bits (number_of_int a) (number_of_int b) }
 {
@@ -128,35 +145,11 @@ fn shifted_left(kind: IntegerKind, width: Width, a: Int, b: Int) -> Result<Value
 }
 
 /// The number over two to the power, cut downwards.
-fn shifted_right(kind: IntegerKind, width: Width, a: Int, b: Int) -> Result<Value, FaultKind>
+fn shifted_right(kind: IntegerKind, width: Width, a: Int, b: Int) -> Result<ConstValue, FaultKind>
     ensures { seen value_as_read result
         ≡ shifted_right kind width.is_signed width.bits (number_of_int a) (number_of_int b) }
 {
     fitting(kind, width, a.shifted_right(width, b))
-}
-
-/// What an operator makes of two numbers, of two types for a shift alone.
-fn of_two(
-    operator: Binary,
-    width: Width,
-    kind: IntegerKind,
-    other: IntegerKind,
-    a: Int,
-    b: Int,
-) -> Result<Value, FaultKind>
-    ensures { seen value_as_read result
-        ≡ of_two operator width.is_signed width.bits kind other (number_of_int a) (number_of_int b) }
-{
-    match operator {
-        Binary::Shl => shifted_left(kind, width, a, b),
-        Binary::Shr => shifted_right(kind, width, a, b),
-        _ => {
-            if !same_integer(kind, other) {
-                return Err(FaultKind::WrongType);
-            }
-            of_integers(operator, kind, width, a, b)
-        }
-    }
 }
 
 /// What an operator makes of two numbers of one type.
@@ -167,7 +160,7 @@ fn of_integers(
     width: Width,
     a: Int,
     b: Int,
-) -> Result<Value, FaultKind>
+) -> Result<ConstValue, FaultKind>
     ensures { seen value_as_read result
         ≡ of_numbers operator kind width.is_signed width.bits (number_of_int a) (number_of_int b) }
 {
@@ -177,15 +170,15 @@ fn of_integers(
         Binary::Mul => fitting(kind, width, a.times(b)),
         Binary::Div => divided(kind, width, a, b),
         Binary::Rem => remainder(kind, width, a, b),
-        Binary::BitAnd => Ok(Value::Integer(kind, width.wrap(a.bits() & b.bits()))),
-        Binary::BitOr => Ok(Value::Integer(kind, width.wrap(a.bits() | b.bits()))),
-        Binary::BitXor => Ok(Value::Integer(kind, width.wrap(a.bits() ^ b.bits()))),
+        Binary::BitAnd => Ok(ConstValue::Integer(kind, width.wrap(a.bits() & b.bits()))),
+        Binary::BitOr => Ok(ConstValue::Integer(kind, width.wrap(a.bits() | b.bits()))),
+        Binary::BitXor => Ok(ConstValue::Integer(kind, width.wrap(a.bits() ^ b.bits()))),
         _ => of_order(operator, a, b),
     }
 }
 
 /// The quotient, cut towards zero.
-fn divided(kind: IntegerKind, width: Width, a: Int, b: Int) -> Result<Value, FaultKind>
+fn divided(kind: IntegerKind, width: Width, a: Int, b: Int) -> Result<ConstValue, FaultKind>
     ensures { seen value_as_read result ≡ divided kind width.is_signed width.bits (number_of_int a) (number_of_int b) }
 {
     match a.over(b) {
@@ -195,7 +188,7 @@ fn divided(kind: IntegerKind, width: Width, a: Int, b: Int) -> Result<Value, Fau
 }
 
 /// What the quotient leaves. It overflows where the quotient does.
-fn remainder(kind: IntegerKind, width: Width, a: Int, b: Int) -> Result<Value, FaultKind>
+fn remainder(kind: IntegerKind, width: Width, a: Int, b: Int) -> Result<ConstValue, FaultKind>
     ensures { seen value_as_read result
         ≡ of_numbers Binary.Rem kind width.is_signed width.bits (number_of_int a) (number_of_int b) }
 {
@@ -214,39 +207,43 @@ fn low_byte(int: Int) -> u32
 }
 
 /// A value's bits.
-fn bits_of(value: Value) -> u128
+fn bits_of(value: ConstValue) -> u128
     ensures { result ≡ bits_of_value (value_as_read value) }
 {
     match value {
-        Value::Bool(truth) => of_truth(truth).bits(),
-        Value::Char(code) => u128::from(code),
-        Value::Integer(_, int) => int.bits(),
+        ConstValue::Bool(truth) => of_truth(truth).bits(),
+        ConstValue::Char(code) => u128::from(code),
+        ConstValue::Integer(_, int) => int.bits(),
     }
 }
 
 /// What a cast to a character makes of a value: of one, and of a byte.
-fn as_code(value: Value) -> Result<Value, FaultKind>
+fn as_code(value: ConstValue) -> Result<ConstValue, FaultKind>
     ensures { seen value_as_read result ≡ as_code (value_as_read value) }
 {
     match value {
-        Value::Char(code) => Ok(Value::Char(code)),
-        Value::Integer(IntegerKind::U8, int) => Ok(Value::Char(low_byte(int))),
+        ConstValue::Char(code) => Ok(ConstValue::Char(code)),
+        ConstValue::Integer(IntegerKind::U8, int) => Ok(ConstValue::Char(low_byte(int))),
         _ => Err(FaultKind::WrongType),
     }
 }
 
 /// What a cast makes of a value.
-pub(crate) fn cast(value: Value, kind: Kind, pointer_bits: u32) -> Result<Value, FaultKind>
+pub(crate) fn cast(
+    value: ConstValue,
+    kind: Kind,
+    pointer_bits: u32,
+) -> Result<ConstValue, FaultKind>
     ensures { seen value_as_read result ≡ cast_of pointer_bits kind (value_as_read value) }
 {
     match kind {
         Kind::Integer(wanted) => {
             let width = Width::of(wanted, pointer_bits);
-            Ok(Value::Integer(wanted, width.wrap(bits_of(value))))
+            Ok(ConstValue::Integer(wanted, width.wrap(bits_of(value))))
         }
         Kind::Char => as_code(value),
         Kind::Bool => match value {
-            Value::Bool(truth) => Ok(Value::Bool(truth)),
+            ConstValue::Bool(truth) => Ok(ConstValue::Bool(truth)),
             _ => Err(FaultKind::WrongType),
         },
     }

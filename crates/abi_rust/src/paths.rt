@@ -4,7 +4,7 @@ ghost use Rattle.std.specs.Prelude.{◌≡◌, None, slice_get};
 ghost use Rattle.std.specs.Option.{option_copied};
 ghost use Rattle.rust_source.specs.declared.syntax.Path.{out-Path};
 ghost use Rattle.abi_rust.specs.Kinds.{found_by, most_aliases, type_named};
-ghost use Rattle.abi_rust.specs.Names.{agreed, along, ambiguous, among, lookup_of, behind_module, beside_module, crate_above, declared, first, found, found_of, imported, is_open, is_usable, named_behind, names_in_path, one_of, other_space, own, own_item, own_module, path_named, perhaps, root, seen_own, shown, space_before, standing_or_import, target_in, target_with, used_by, visibility_of_item, visibility_of_module, visibility_of_use, within};
+ghost use Rattle.abi_rust.specs.Names.{agreed, along, ambiguous, among, lookup_of, behind_module, beside_module, crate_above, declared, first, found, found_of, imported, is_open, is_usable, named_behind, names_in_path, one_of, other_space, own_name, own_item, own_module, path_named, perhaps, root, seen_own, unless_hidden, space_before, standing_or_import, target_in, target_with, used_by, visibility_of_item, visibility_of_module, visibility_of_use, resolution_in};
 
 use crate::scope::Scope;
 use crate::standing::SEVERAL;
@@ -19,7 +19,7 @@ const MOST_ALIASES: u32 = 64;
 
 /// What a path names.
 #[derive(Clone, Copy)]
-pub(crate) enum Found {
+pub(crate) enum Resolution {
     Module(u32),
     Item(u32),
     Primitive(Primitive),
@@ -40,6 +40,14 @@ pub(crate) enum Space {
     Values,
 }
 
+/// What names are looked up in: items, the names of modules, and what each use is known to bring in.
+#[derive(Clone, Copy)]
+pub(crate) struct NameTables<'n> {
+    pub(crate) items: &'n Items,
+    pub(crate) scope: &'n Scope,
+    pub(crate) targets: &'n [UseTarget],
+}
+
 /// What is asked for.
 #[derive(Clone, Copy)]
 pub(crate) struct Lookup {
@@ -55,14 +63,14 @@ pub(crate) struct Lookup {
 /// none where it may be used everywhere.
 #[derive(Clone, Copy)]
 pub(crate) struct OwnName {
-    found: Found,
+    found: Resolution,
     visible_in: Option<u32>,
 }
 
 /// What a module has under a name, and whether it may be used in the module that asks.
 #[derive(Clone, Copy)]
-pub(crate) struct Seen {
-    found: Found,
+pub(crate) struct Candidate {
+    found: Resolution,
     is_visible: bool,
 }
 
@@ -84,76 +92,86 @@ pub(crate) fn root_of(items: &Items, module: u32) -> u32
 
 /// What `crate` names in a module: the root above it, where that is the root of its crate. In a file that is another
 /// module of its crate it isn't known.
-fn crate_above(items: &Items, module: u32) -> Found
+fn crate_above(items: &Items, module: u32) -> Resolution
     ensures { result ≡ crate_above items.now «module» }
 {
     let root = root_of(items, module);
     match items.modules.get(root as usize) {
         Some(found) => {
             if found.name == Symbol::CRATE {
-                Found::Module(root)
+                Resolution::Module(root)
             } else {
-                Found::Unknown
+                Resolution::Unknown
             }
         }
-        None => Found::Unknown,
+        None => Resolution::Unknown,
     }
 }
 
 /// What a path in a module names, if anything.
+#[tactic(auto, unfolding(crate::specs::Names::found_of))]
 pub(crate) fn find(
     items: &Items,
     scope: &Scope,
     module: u32,
     path: &Path,
     space: Space,
-) -> Option<Found>
+) -> Option<Resolution>
     ensures { result ≡ found items.now scope.now «module» path.now space }
 {
-    find_of(items, scope, module, path, path.segments.len(), space)
+    let tables = NameTables {
+        items,
+        scope,
+        targets: scope.use_targets.as_slice(),
+    };
+    let count = path.segments.len();
+    let found = names_named(tables, module, path, count, space);
+    beside_module(tables, path, count, space, found)
 }
 
-/// What the first names of a path name, so many of them, if anything.
+/// What the first names of a path name among types and modules, so many of them, if anything.
 #[tactic(auto, unfolding(crate::specs::Names::found_of))]
-pub(crate) fn find_of(
+pub(crate) fn find_prefix(
     items: &Items,
     scope: &Scope,
     module: u32,
     path: &Path,
     count: usize,
-    space: Space,
-) -> Option<Found>
-    ensures { result ≡ found_of items.now scope.now «module» path.now count space }
+) -> Option<Resolution>
+    ensures { result ≡ found_of items.now scope.now «module» path.now count Space.Types }
 {
-    let found = names_named(items, scope, module, path, count, space);
-    beside_module(items, scope, path, count, space, found)
+    let tables = NameTables {
+        items,
+        scope,
+        targets: scope.use_targets.as_slice(),
+    };
+    let found = names_named(tables, module, path, count, Space::Types);
+    beside_module(tables, path, count, Space::Types, found)
 }
 
 /// What the first names of a path name, so many of them, where a module may have the name of a primitive type.
 fn names_named(
-    items: &Items,
-    scope: &Scope,
+    tables: NameTables<'_>,
     module: u32,
     path: &Path,
     count: usize,
     space: Space,
-) -> Option<Found>
-    ensures { result ≡ path_named items.now scope.now (target_in scope.now.use_targets.items)
+) -> Option<Resolution>
+    ensures { result ≡ path_named tables.entry.items.now tables.entry.scope.now (target_in tables.entry.targets.now)
         count «module» (out-Path path.now).is_global space None (names_in_path path.now) }
 {
-    let targets = scope.use_targets.as_slice();
     let mut left = count.checked_sub(1)?;
     let (begin, rest) = path.segments.as_slice().split_first()?;
     let first_space = space_before(left, space);
     let begins = lookup_of(module, begin.name, first_space, None);
-    let mut found = first(items, scope, targets, begins, path.is_global);
+    let mut found = first(tables, begins, path.is_global);
     for segment in rest {
         let Some(fewer) = left.checked_sub(1) else {
             break;
         };
         left = fewer;
         let lookup = lookup_of(module, segment.name, space_before(left, space), None);
-        found = behind(items, scope, targets, found, lookup);
+        found = named_behind(tables, found, lookup);
     }
     found
 }
@@ -169,10 +187,10 @@ pub(crate) fn type_named(
 ) -> Option<u32>
     ensures { result ≡ type_named items.now scope.now «module» path.now count }
 {
-    let mut found = find_of(items, scope, module, path, count, Space::Types);
+    let mut found = find_prefix(items, scope, module, path, count);
     let turns = most_aliases();
     for turn in 0..turns {
-        let Some(Found::Item(number)) = found else {
+        let Some(Resolution::Item(number)) = found else {
             return None;
         };
         let item = item_at(items, number)?;
@@ -185,7 +203,7 @@ pub(crate) fn type_named(
 }
 
 /// What a type names that is a path, if anything.
-pub(crate) fn found_by(items: &Items, scope: &Scope, module: u32, ty: &Type) -> Option<Found>
+pub(crate) fn found_by(items: &Items, scope: &Scope, module: u32, ty: &Type) -> Option<Resolution>
     ensures { result ≡ found_by items.now scope.now «module» ty.now }
 {
     match ty {
@@ -204,20 +222,20 @@ pub(crate) fn most_aliases() -> u32
 
 /// What is found, but a primitive type in place of a module of its name, which a type can't be.
 fn beside_module(
-    items: &Items,
-    scope: &Scope,
+    tables: NameTables<'_>,
     path: &Path,
     count: usize,
     space: Space,
-    found: Option<Found>,
-) -> Option<Found>
-    ensures { result ≡ beside_module items.now scope.now count space (names_in_path path.now) found }
+    found: Option<Resolution>,
+) -> Option<Resolution>
+    ensures { result ≡ beside_module tables.entry.items.now tables.entry.scope.now count space
+        (names_in_path path.now) found }
 {
-    if let Some(Found::Module(_)) = found {
+    if let Some(Resolution::Module(_)) = found {
         if count == 1 && space == Space::Types {
             if let Some(segment) = path.segments.first() {
-                if let Some(primitive) = scope.words.primitive(segment.name) {
-                    return Some(Found::Primitive(primitive));
+                if let Some(primitive) = tables.scope.words.primitive(segment.name) {
+                    return Some(Resolution::Primitive(primitive));
                 }
             }
         }
@@ -242,28 +260,27 @@ pub(crate) fn item_at(items: &Items, number: u32) -> Option<&Item>
 /// What a use brings in, by what others do.
 #[tactic(auto, unfolding(crate::specs::Names::target_with))]
 pub(crate) fn target_of(
-    items: &Items,
-    scope: &Scope,
-    targets: &[UseTarget],
+    tables: NameTables<'_>,
     number: u32,
     used: &Use,
     space: Space,
-) -> Option<Found>
+) -> Option<Resolution>
     ensures { result
-        ≡ target_with items.now scope.now (target_in targets.now) number used.now space }
+        ≡ target_with tables.entry.items.now tables.entry.scope.now
+        (target_in tables.entry.targets.now) number used.now space }
 {
     let mut left = used.path.len().checked_sub(1)?;
     let (begin, rest) = used.path.as_slice().split_first()?;
     let first_space = space_before(left, space);
     let begins = lookup_of(used.module, begin.name, first_space, Some(number));
-    let mut found = first(items, scope, targets, begins, used.is_global);
+    let mut found = first(tables, begins, used.is_global);
     for name in rest {
         let Some(fewer) = left.checked_sub(1) else {
             break;
         };
         left = fewer;
         let lookup = lookup_of(used.module, name.name, space_before(left, space), None);
-        found = behind(items, scope, targets, found, lookup);
+        found = named_behind(tables, found, lookup);
     }
     found
 }
@@ -282,161 +299,140 @@ fn lookup_of(from: u32, name: Symbol, space: Space, skipped: Option<u32>) -> Loo
 
 /// What a path's first name names in the module that asks.
 #[tactic(auto, unfolding(crate::specs::Names::first))]
-fn first(
-    items: &Items,
-    scope: &Scope,
-    targets: &[UseTarget],
-    lookup: Lookup,
-    is_global: bool,
-) -> Option<Found>
-    ensures { result ≡ first items.now scope.now (target_in targets.now) lookup is_global }
+fn first(tables: NameTables<'_>, lookup: Lookup, is_global: bool) -> Option<Resolution>
+    ensures { result ≡ first tables.entry.items.now tables.entry.scope.now
+        (target_in tables.entry.targets.now) lookup is_global }
 {
     if lookup.name == Symbol::CRATE {
-        return Some(crate_above(items, lookup.from));
+        return Some(crate_above(tables.items, lookup.from));
     }
     if lookup.name == Symbol::SELF {
-        return Some(Found::Module(lookup.from));
+        return Some(Resolution::Module(lookup.from));
     }
     if lookup.name == Symbol::SUPER {
-        return Some(Found::Module(parent_of(items, lookup.from)?));
+        return Some(Resolution::Module(parent_of(tables.items, lookup.from)?));
     }
     if !is_global {
-        if let Some(found) = within(items, scope, targets, lookup.from, lookup) {
+        if let Some(found) = resolution_in(tables, lookup.from, lookup) {
             return Some(found);
         }
-        if let Some(found) = perhaps(items, scope, lookup.from, lookup) {
+        if let Some(found) = perhaps(tables.items, tables.scope, lookup.from, lookup) {
             return Some(found);
         }
-        if let Some(prelude) = scope.prelude() {
-            if let Some(found) = within(items, scope, targets, prelude, lookup) {
+        if let Some(prelude) = tables.scope.prelude() {
+            if let Some(found) = resolution_in(tables, prelude, lookup) {
                 return Some(found);
             }
         }
     }
-    if scope.words.is_std(lookup.name) {
-        return Some(Found::Module(scope.std_root));
+    if tables.scope.words.is_std(lookup.name) {
+        return Some(Resolution::Module(tables.scope.std_root));
     }
-    Some(Found::Primitive(scope.words.primitive(lookup.name)?))
+    Some(Resolution::Primitive(tables.scope.words.primitive(lookup.name)?))
 }
 
 /// What a name behind another names.
 #[tactic(auto, unfolding(crate::specs::Names::named_behind))]
-fn behind(
-    items: &Items,
-    scope: &Scope,
-    targets: &[UseTarget],
-    before: Option<Found>,
+fn named_behind(
+    tables: NameTables<'_>,
+    before: Option<Resolution>,
     lookup: Lookup,
-) -> Option<Found>
-    ensures { result ≡ named_behind items.now scope.now (target_in targets.now) before lookup }
+) -> Option<Resolution>
+    ensures { result ≡ named_behind tables.entry.items.now tables.entry.scope.now
+        (target_in tables.entry.targets.now) before lookup }
 {
     match before {
-        Some(Found::Module(module)) => behind_module(items, scope, targets, module, lookup),
-        Some(Found::Unknown) => before,
-        Some(Found::Hidden(_)) => before,
-        Some(Found::Ambiguous(_)) => before,
+        Some(Resolution::Module(module)) => behind_module(tables, module, lookup),
+        Some(Resolution::Unknown) => before,
+        Some(Resolution::Hidden(_)) => before,
+        Some(Resolution::Ambiguous(_)) => before,
         _ => None,
     }
 }
 
 /// What a name behind a module's names.
-fn behind_module(
-    items: &Items,
-    scope: &Scope,
-    targets: &[UseTarget],
-    module: u32,
-    lookup: Lookup,
-) -> Option<Found>
-    ensures { result ≡ behind_module items.now scope.now (target_in targets.now) lookup «module» }
+fn behind_module(tables: NameTables<'_>, module: u32, lookup: Lookup) -> Option<Resolution>
+    ensures { result ≡ behind_module tables.entry.items.now tables.entry.scope.now
+        (target_in tables.entry.targets.now) lookup «module» }
 {
     if lookup.name == Symbol::SUPER {
-        return Some(Found::Module(parent_of(items, module)?));
+        return Some(Resolution::Module(parent_of(tables.items, module)?));
     }
     if lookup.name == Symbol::SELF {
-        return Some(Found::Module(module));
+        return Some(Resolution::Module(module));
     }
-    match within(items, scope, targets, module, lookup) {
+    match resolution_in(tables, module, lookup) {
         Some(found) => Some(found),
-        None => perhaps(items, scope, module, lookup),
+        None => perhaps(tables.items, tables.scope, module, lookup),
     }
 }
 
 /// What a glob may bring into a module under a name that leads to nothing that is read.
-fn perhaps(items: &Items, scope: &Scope, module: u32, lookup: Lookup) -> Option<Found>
+fn perhaps(items: &Items, scope: &Scope, module: u32, lookup: Lookup) -> Option<Resolution>
     ensures { result ≡ perhaps items.now scope.now «module» lookup }
 {
     let is_at_head = lookup.skipped.is_some() && scope.words.is_std(lookup.name);
     if scope.leads_nowhere(items, module, lookup.from) && !is_at_head {
-        Some(Found::Unknown)
+        Some(Resolution::Unknown)
     } else {
         None
     }
 }
 
 /// What a name names in a module: what it has of its own, or else what its globs bring in.
-#[tactic(auto, unfolding(crate::specs::Names::within))]
-fn within(
-    items: &Items,
-    scope: &Scope,
-    targets: &[UseTarget],
-    module: u32,
-    lookup: Lookup,
-) -> Option<Found>
-    ensures { result ≡ within items.now scope.now (target_in targets.now) «module» lookup }
+#[tactic(auto, unfolding(crate::specs::Names::resolution_in))]
+fn resolution_in(tables: NameTables<'_>, module: u32, lookup: Lookup) -> Option<Resolution>
+    ensures { result ≡ resolution_in tables.entry.items.now tables.entry.scope.now
+        (target_in tables.entry.targets.now) «module» lookup }
 {
-    let seen = match own(items, scope, targets, module, lookup) {
-        Some(own) => seen_own(items, own, lookup.from),
-        None => among(items, scope, targets, scope.reached(module), lookup)?,
+    let seen = match own_name(tables, module, lookup) {
+        Some(own) => seen_own(tables.items, own, lookup.from),
+        None => among(tables, tables.scope.reached(module), lookup)?,
     };
-    Some(shown(lookup.name, seen))
+    Some(unless_hidden(lookup.name, seen))
 }
 
 /// What a module has of its own, as another one sees it.
-fn seen_own(items: &Items, own: OwnName, from: u32) -> Seen
+fn seen_own(items: &Items, own: OwnName, from: u32) -> Candidate
     ensures { result ≡ seen_own items.now from own }
 {
-    Seen {
+    Candidate {
         found: own.found,
         is_visible: is_visible(items, own.visible_in, from),
     }
 }
 
 /// What is found under a name, where it may be used.
-fn shown(name: Symbol, seen: Seen) -> Found
-    ensures { result ≡ shown name seen }
+fn unless_hidden(name: Symbol, seen: Candidate) -> Resolution
+    ensures { result ≡ unless_hidden name seen }
 {
     if seen.is_visible {
         seen.found
     } else {
-        Found::Hidden(name)
+        Resolution::Hidden(name)
     }
 }
 
 /// What a name names by the ways of a module's globs, together.
-fn among(
-    items: &Items,
-    scope: &Scope,
-    targets: &[UseTarget],
-    ways: &[Way],
-    lookup: Lookup,
-) -> Option<Seen>
+fn among(tables: NameTables<'_>, ways: &[Way], lookup: Lookup) -> Option<Candidate>
     ensures { result
-        ≡ among items.now scope.now (target_in targets.now) ways.now lookup None ways.now }
+        ≡ among tables.entry.items.now tables.entry.scope.now
+        (target_in tables.entry.targets.now) ways.now lookup None ways.now }
 {
     let mut all = None;
     for way in ways {
-        let seen = along(items, scope, targets, ways, *way, lookup);
+        let seen = along(tables, ways, *way, lookup);
         all = agreed(lookup.name, all, seen);
     }
     all
 }
 
 /// What two ways bring under a name.
-fn agreed(name: Symbol, one: Option<Seen>, other: Option<Seen>) -> Option<Seen>
+fn agreed(name: Symbol, one: Option<Candidate>, other: Option<Candidate>) -> Option<Candidate>
     ensures { result ≡ agreed name one other }
 {
     match (one, other) {
-        (Some(one), Some(other)) => Some(Seen {
+        (Some(one), Some(other)) => Some(Candidate {
             found: one_of(name, one.found, other.found),
             is_visible: one.is_visible || other.is_visible,
         }),
@@ -446,66 +442,69 @@ fn agreed(name: Symbol, one: Option<Seen>, other: Option<Seen>) -> Option<Seen>
 }
 
 /// What has a name, if it is this and that.
-fn one_of(name: Symbol, one: Found, other: Found) -> Found
+fn one_of(name: Symbol, one: Resolution, other: Resolution) -> Resolution
     ensures { result ≡ one_of name one other }
 {
     match (one, other) {
-        (Found::Unknown, _) => Found::Unknown,
-        (_, Found::Unknown) => Found::Unknown,
-        (Found::Module(a), Found::Module(b)) => {
-            if a == b { one } else { Found::Ambiguous(name) }
+        (Resolution::Unknown, _) => Resolution::Unknown,
+        (_, Resolution::Unknown) => Resolution::Unknown,
+        (Resolution::Module(a), Resolution::Module(b)) => {
+            if a == b {
+                one
+            } else {
+                Resolution::Ambiguous(name)
+            }
         }
-        (Found::Item(a), Found::Item(b)) => { if a == b { one } else { Found::Ambiguous(name) } }
-        _ => Found::Ambiguous(name),
+        (Resolution::Item(a), Resolution::Item(b)) => {
+            if a == b {
+                one
+            } else {
+                Resolution::Ambiguous(name)
+            }
+        }
+        _ => Resolution::Ambiguous(name),
     }
 }
 
 /// What a way of globs brings under a name: what the module at its end has of its own, unless a glob of the way doesn't
 /// see it, or a module before has the name of its own.
-fn along(
-    items: &Items,
-    scope: &Scope,
-    targets: &[UseTarget],
-    ways: &[Way],
-    way: Way,
-    lookup: Lookup,
-) -> Option<Seen>
-    ensures { result ≡ along items.now scope.now (target_in targets.now) ways.now lookup way }
+fn along(tables: NameTables<'_>, ways: &[Way], way: Way, lookup: Lookup) -> Option<Candidate>
+    ensures { result ≡ along tables.entry.items.now tables.entry.scope.now
+        (target_in tables.entry.targets.now) ways.now lookup way }
 {
-    let own = own(items, scope, targets, way.glob.target, lookup)?;
-    if !is_open(items, scope, targets, ways, way, own.visible_in, lookup) {
+    let own = own_name(tables, way.glob.target, lookup)?;
+    if !is_open(tables, ways, way, own.visible_in, lookup) {
         return None;
     }
-    Some(Seen {
+    Some(Candidate {
         found: own.found,
-        is_visible: is_visible(items, own.visible_in, lookup.from)
-            && is_way_visible(items, ways, way, lookup.from),
+        is_visible: is_visible(tables.items, own.visible_in, lookup.from)
+            && is_way_visible(tables.items, ways, way, lookup.from),
     })
 }
 
 /// Whether each module that a way's globs stand in sees what is visible in that module, and has no such name of its own.
 #[tactic(auto, using(crate::proofs::WayLemmas::on_next, crate::proofs::WayLemmas::on_not, crate::proofs::WayLemmas::on_end, crate::proofs::WayLemmas::on_done))]
 fn is_open(
-    items: &Items,
-    scope: &Scope,
-    targets: &[UseTarget],
+    tables: NameTables<'_>,
     ways: &[Way],
     way: Way,
     visible_in: Option<u32>,
     lookup: Lookup,
 ) -> bool
     ensures { result
-        ≡ is_open items.now scope.now (target_in targets.now) ways.now lookup way visible_in }
+        ≡ is_open tables.entry.items.now tables.entry.scope.now
+        (target_in tables.entry.targets.now) ways.now lookup way visible_in }
 {
     let mut last = Some(way);
     for turn in 0..ways.len() {
         let Some(way) = last else {
             break;
         };
-        if !is_visible(items, visible_in, way.glob.inside) {
+        if !is_visible(tables.items, visible_in, way.glob.inside) {
             return false;
         }
-        if own(items, scope, targets, way.glob.inside, lookup).is_some() {
+        if own_name(tables, way.glob.inside, lookup).is_some() {
             return false;
         }
         last = way_at(ways, way.before);
@@ -514,23 +513,20 @@ fn is_open(
 }
 
 /// What a name names in a module without its globs.
-#[tactic(auto, unfolding(crate::specs::Names::own))]
-fn own(
-    items: &Items,
-    scope: &Scope,
-    targets: &[UseTarget],
-    module: u32,
-    lookup: Lookup,
-) -> Option<OwnName>
-    ensures { result ≡ own items.now scope.now (target_in targets.now) «module» lookup }
+#[tactic(auto, unfolding(crate::specs::Names::own_name))]
+fn own_name(tables: NameTables<'_>, module: u32, lookup: Lookup) -> Option<OwnName>
+    ensures { result ≡ own_name tables.entry.items.now tables.entry.scope.now
+        (target_in tables.entry.targets.now) «module» lookup }
 {
-    let standing = declared(items, scope, module, lookup.name, lookup.space);
-    let number = scope.used(module, lookup.name);
-    standing_or_import(
+    let standing = declared(
+        tables.items,
+        tables.scope,
+        module,
         lookup.name,
-        standing,
-        brought_in(items, scope, targets, number, lookup),
-    )
+        lookup.space,
+    );
+    let number = tables.scope.use_of(module, lookup.name);
+    standing_or_import(lookup.name, standing, brought_in(tables, number, lookup))
 }
 
 /// What has a name that stands in a module, and is brought in there by a use.
@@ -543,7 +539,7 @@ fn standing_or_import(
 {
     match (standing, import) {
         (Some(standing), Some(import)) => match import.found {
-            Found::Unknown => Some(standing),
+            Resolution::Unknown => Some(standing),
             _ => Some(ambiguous(name)),
         },
         (Some(standing), None) => Some(standing),
@@ -556,20 +552,15 @@ fn ambiguous(name: Symbol) -> OwnName
     ensures { result ≡ ambiguous name }
 {
     OwnName {
-        found: Found::Ambiguous(name),
+        found: Resolution::Ambiguous(name),
         visible_in: None,
     }
 }
 
 /// What the use of this number brings in, but for the one that counts for nothing.
-fn brought_in(
-    items: &Items,
-    scope: &Scope,
-    targets: &[UseTarget],
-    number: Option<u32>,
-    lookup: Lookup,
-) -> Option<OwnName>
-    ensures { result ≡ used_by items.now scope.now (target_in targets.now) lookup number }
+fn brought_in(tables: NameTables<'_>, number: Option<u32>, lookup: Lookup) -> Option<OwnName>
+    ensures { result ≡ used_by tables.entry.items.now tables.entry.scope.now
+        (target_in tables.entry.targets.now) lookup number }
 {
     let number = number?;
     if number == SEVERAL {
@@ -578,16 +569,16 @@ fn brought_in(
     if lookup.skipped == Some(number) {
         return None;
     }
-    let found = imported(targets, number, lookup.space)?;
+    let found = imported(tables.targets, number, lookup.space)?;
     Some(OwnName {
         found,
-        visible_in: visibility_of_use(items, number),
+        visible_in: visibility_of_use(tables.items, number),
     })
 }
 
 /// What the use of this number brings in: the item that it leads to, or else one that isn't known, unless it leads to
 /// one of the other names.
-fn imported(targets: &[UseTarget], number: u32, space: Space) -> Option<Found>
+fn imported(targets: &[UseTarget], number: u32, space: Space) -> Option<Resolution>
     ensures { result ≡ imported (target_in targets.now) number space }
 {
     let found = target_in(targets, number, space);
@@ -599,17 +590,17 @@ fn imported(targets: &[UseTarget], number: u32, space: Space) -> Option<Found>
     }
     match found {
         Some(found) => Some(found),
-        None => Some(Found::Unknown),
+        None => Some(Resolution::Unknown),
     }
 }
 
 /// Whether something is found that may be used.
-fn is_usable(found: Option<Found>) -> bool
+fn is_usable(found: Option<Resolution>) -> bool
     ensures { result ≡ is_usable found }
 {
     match found {
         None => false,
-        Some(Found::Hidden(_)) => false,
+        Some(Resolution::Hidden(_)) => false,
         _ => true,
     }
 }
@@ -648,7 +639,7 @@ fn own_item(items: &Items, number: u32) -> OwnName
     ensures { result ≡ own_item items.now number }
 {
     OwnName {
-        found: Found::Item(number),
+        found: Resolution::Item(number),
         visible_in: visibility_of_item(items, number),
     }
 }
@@ -658,7 +649,7 @@ fn own_module(items: &Items, number: u32) -> OwnName
     ensures { result ≡ own_module items.now number }
 {
     OwnName {
-        found: Found::Module(number),
+        found: Resolution::Module(number),
         visible_in: visibility_of_module(items, number),
     }
 }

@@ -8,7 +8,7 @@ ghost use Rattle.abi_rust.specs.Values.{value_as_read};
 ghost use Rattle.abi_rust.specs.Places.{place_of_expr, place_of_path};
 
 use crate::fault::{FaultKind, Stop, stop_at};
-use crate::ty::Value;
+use crate::ty::ConstValue;
 use rust_source::{Expr, Path, Place};
 
 /// Where an expression stands.
@@ -41,7 +41,7 @@ pub(crate) fn place_of_path(path: &Path) -> Place
 }
 
 /// A fault at a place, where there is one.
-pub(crate) fn at_place(at: Place, found: Result<Value, FaultKind>) -> Result<Value, Stop>
+pub(crate) fn at_place(at: Place, found: Result<ConstValue, FaultKind>) -> Result<ConstValue, Stop>
     ensures { Means value_as_read (made_at at (seen value_as_read found)) result }
 {
     match found {

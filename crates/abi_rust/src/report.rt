@@ -10,7 +10,7 @@ ghost use Rattle.abi_rust.specs.TypeReport.{is_itself, item_shape, item_type, la
 ghost use Rattle.abi_rust.specs.Trees.{sized_tree};
 ghost use Rattle.abi_rust.specs.Types.{ty_of};
 
-use crate::above::Above;
+use crate::above::Nesting;
 use crate::budget::{Budget, Context, Env, KnownSize, Request, most_deep};
 use crate::fault::{FaultKind, Stop};
 use crate::formed::check_formed;
@@ -53,7 +53,7 @@ pub struct VariantLabels {
 
 /// The names of a type's parts.
 #[derive(Drop)]
-pub enum Shape {
+pub enum ReportShape {
     /// A type without names: of an alias, a primitive type, a pointer, an array or a tuple.
     Plain,
     /// A struct's fields.
@@ -70,7 +70,7 @@ pub struct TypeReport {
     /// The type.
     pub tree: TypeTree,
     /// The names of its parts.
-    pub shape: Shape,
+    pub shape: ReportShape,
 }
 
 /// What is reported on: an item without parameters, or a type that is written in a module.
@@ -89,7 +89,7 @@ fn type_of<'a>(
     ensures { Means ty_of (subject_type cx.now subject.entry) result }
 {
     match subject {
-        Subject::Written(module, ty) => resolve(cx, budget, outside(module), ty, most_deep()),
+        Subject::Written(module, ty) => resolve(cx, budget, outside(module), ty),
         Subject::Item(number) => type_of_item(cx, budget, number),
     }
 }
@@ -102,7 +102,7 @@ fn type_of_item<'a>(cx: &Context<'a, '_>, budget: &mut Budget<'a>, number: u32) 
         return Ok(Ty::Adt(number, Vec::new(cx.alloc)));
     };
     match &item.kind {
-        ItemKind::Alias(ty) => resolve(cx, budget, outside(item.module), ty, most_deep()),
+        ItemKind::Alias(ty) => resolve(cx, budget, outside(item.module), ty),
         _ => Ok(Ty::Adt(number, Vec::new(cx.alloc))),
     }
 }
@@ -121,7 +121,7 @@ fn sized_tree<'a>(
     if !pointee_tail(cx, budget, ty)?.is_sized() {
         return Ok(None);
     }
-    let whole = tree(cx, budget, &Above::Nothing, ty, most_deep())?;
+    let whole = tree(cx, budget, Nesting::alone(), ty)?;
     Ok(Some(whole))
 }
 
@@ -330,8 +330,9 @@ fn size_of<'a>(
         module: request.module,
         item: request.item,
         given: request.given.as_slice(),
+        depth_left: most_deep(),
     };
-    let ty = resolve(cx, budget, env, request.ty, most_deep())?;
+    let ty = resolve(cx, budget, env, request.ty)?;
     size_of_type(cx, budget, request.at, &ty)
 }
 
@@ -365,7 +366,12 @@ pub(crate) fn size_and_align(cx: &Context<'_, '_>, tree: &TypeTree) -> Result<(u
 }
 
 /// The names of a type's parts, where it is reported on by itself or is written.
-fn shape_of(cx: &Context<'_, '_>, subject: Subject<'_>, ty: &Ty, file: Place) -> Result<Shape, Stop>
+fn shape_of(
+    cx: &Context<'_, '_>,
+    subject: Subject<'_>,
+    ty: &Ty,
+    file: Place,
+) -> Result<ReportShape, Stop>
     ensures ok { IfOk result (λ shape. shape_read shape ≡ shape_of cx.now subject.entry file (ty_of ty.now)) }
     ensures err { IfErr result (λ e. is_beside e ≡ true) }
 {
@@ -374,10 +380,10 @@ fn shape_of(cx: &Context<'_, '_>, subject: Subject<'_>, ty: &Ty, file: Place) ->
             if is_itself(subject, *number) {
                 item_shape(cx, *number, file)
             } else {
-                Ok(Shape::Plain)
+                Ok(ReportShape::Plain)
             }
         }
-        _ => Ok(Shape::Plain),
+        _ => Ok(ReportShape::Plain),
     }
 }
 
@@ -392,23 +398,31 @@ fn is_itself(subject: Subject<'_>, number: u32) -> bool
 }
 
 /// The names of the parts of an item.
-fn item_shape(cx: &Context<'_, '_>, number: u32, file: Place) -> Result<Shape, Stop>
+fn item_shape(cx: &Context<'_, '_>, number: u32, file: Place) -> Result<ReportShape, Stop>
     ensures ok { IfOk result (λ shape. shape_read shape
         ≡ item_shape file (slice_get cx.now.items.now.items.items number)) }
     ensures err { IfErr result (λ e. is_beside e ≡ true) }
 {
     let Some(item) = item_at(cx.items, number) else {
-        return Ok(Shape::Plain);
+        return Ok(ReportShape::Plain);
     };
     match &item.kind {
-        ItemKind::Struct(fields) => Ok(Shape::Struct(labels_of(cx, fields.all.as_slice(), file)?)),
-        ItemKind::Union(fields) => Ok(Shape::Union(labels_of(cx, fields.all.as_slice(), file)?)),
-        ItemKind::Enum(all) => Ok(Shape::Enum(labels_of_variants(
+        ItemKind::Struct(fields) => Ok(ReportShape::Struct(labels_of(
+            cx,
+            fields.all.as_slice(),
+            file,
+        )?)),
+        ItemKind::Union(fields) => Ok(ReportShape::Union(labels_of(
+            cx,
+            fields.all.as_slice(),
+            file,
+        )?)),
+        ItemKind::Enum(all) => Ok(ReportShape::Enum(labels_of_variants(
             cx,
             all.variants.as_slice(),
             file,
         )?)),
-        _ => Ok(Shape::Plain),
+        _ => Ok(ReportShape::Plain),
     }
 }
 

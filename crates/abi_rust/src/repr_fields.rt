@@ -9,7 +9,7 @@ ghost use Rattle.abi_rust.specs.Measure.{IsMeasure, Measure, room_takers, takes_
 use crate::budget::{Budget, Context, less};
 use crate::fault::{FaultKind, Stop, stop_at};
 use crate::kind::is_parameter_of;
-use crate::paths::{Found, found_by, item_at, root_of};
+use crate::paths::{Resolution, found_by, item_at, root_of};
 use crate::report::size_and_align;
 use abi_tree::TypeTree;
 use rust_source::{Enum, Field, Fields, Item, ItemKind, Place, Type, Variant};
@@ -157,7 +157,7 @@ fn is_aligned_with<'a>(
     if is_parameter_of(inside, ty) {
         return Ok(false);
     }
-    let Some(Found::Item(number)) = found_by(cx.items, cx.scope, inside.module, ty) else {
+    let Some(Resolution::Item(number)) = found_by(cx.items, cx.scope, inside.module, ty) else {
         return Ok(false);
     };
     let Some(item) = item_at(cx.items, number) else {

@@ -8,27 +8,47 @@ ghost use Rattle.rust_source.specs.declared.syntax.Segment.{out-Segment};
 ghost use Rattle.rust_source.specs.declared.syntax.«Type».{out-Type};
 ghost use Rattle.abi_rust.specs.Meaning.{Means};
 ghost use Rattle.abi_rust.specs.Resolving.{argument_given, default_given, give, given_constant, given_early, given_type, given_wrongly, inner, is_behind_type, is_other, is_self, is_wanted, item_under, item_with, length_by, length_of, may_be_constant, type_named_by, named_type, one_given, path_type, primitive_given, resolver, self_by, tuple_from, type_as_constant, type_given, type_of_layer, type_with, unknown};
-ghost use Rattle.abi_rust.specs.Resolving.{most_deep};
 ghost use Rattle.abi_rust.specs.Types.{all_given, given_of, ty_of, where_of};
 ghost use Rattle.abi_rust.specs.Values.{value_as_read};
 ghost use Rattle.abi_rust.specs.WrittenNames.{first_name};
 
-use crate::budget::{
-    Budget, Context, Env, copies_of, copy_of, less, most_deep, push_given, push_ty,
-};
+use crate::budget::{Budget, Context, Env, copies_of, copy_of, push_given, push_ty};
 use crate::evaluate::{evaluate, evaluate_path};
 use crate::fault::{FaultKind, Stop, stop_at};
 use crate::kind::{given_named, is_given, kind_written, outside, single_name};
 use crate::operators::same_kind;
 use crate::owned::owned_of;
-use crate::paths::{Found, Space, find, item_at};
+use crate::paths::{Resolution, Space, find, item_at};
 use crate::places::{place_of, place_of_path};
-use crate::ty::{GenericArg, Kind, Primitive, Ty, Value};
+use crate::ty::{ConstValue, GenericArg, Kind, Primitive, Ty};
 use crate::written_names::{check_names, is_type_inside, unknown_type};
 use rust_source::{
-    Argument, Expr, IntegerKind, Item, ItemKind, Parameter, ParameterKind, Path, Place, Segment,
-    Symbol, Type, Unevaluated,
+    Argument, Expr, IntegerKind, Item, ItemKind, ParameterKind, Path, Place, Segment, Symbol, Type,
+    Unevaluated,
 };
+
+/// An item that a path names, and the path's last name, which has its arguments.
+#[derive(Clone, Copy)]
+struct NamedItem<'a> {
+    number: u32,
+    item: &'a Item,
+    last: &'a Segment,
+}
+
+/// A parameter of an item: what those before it are given, of which kind it is, and its argument.
+#[derive(Clone, Copy)]
+struct Slot<'a, 'g> {
+    before: &'g [GenericArg],
+    kind: &'a ParameterKind,
+    argument: Option<&'a Argument>,
+}
+
+/// Of which type a constant has to be, and where it is reported that an argument is none.
+#[derive(Clone, Copy)]
+struct WantedConst {
+    kind: Option<Kind>,
+    at: Place,
+}
 
 /// The type that is written in a setting. `Stop::Size` where a type's size has to be known first.
 #[cycle(resolving)]
@@ -38,26 +58,25 @@ pub(crate) fn resolve<'a>(
     budget: &mut Budget<'a>,
     env: Env<'_>,
     ty: &'a Type,
-    depth_left: u32,
 ) -> Result<Ty, Stop>
-    ensures { Means ty_of (resolver cx.now depth_left (where_of env.entry) ty.now) result }
+    ensures { Means ty_of (resolver cx.now env.entry.depth_left (where_of env.entry) ty.now) result }
 {
     budget.spend()?;
-    let depth_left = less(depth_left)?;
-    resolve_with(cx, budget, env, ty, depth_left)
+    let env = env.deeper()?;
+    resolve_kind(cx, budget, env, ty)
 }
 
-/// The type that is written in a setting, within less room.
+/// The type that is written in a setting, whatever kind of type it is.
 #[cycle(resolving)]
 #[tactic(auto, unfolding(crate::specs::Resolving::type_with))]
-fn resolve_with<'a>(
+fn resolve_kind<'a>(
     cx: &Context<'a, '_>,
     budget: &mut Budget<'a>,
     env: Env<'_>,
     ty: &'a Type,
-    depth_left: u32,
 ) -> Result<Ty, Stop>
-    ensures { Means ty_of (type_with cx.now (inner cx.now depth_left) (where_of env.entry) ty.now) result }
+    ensures { Means ty_of
+        (type_with cx.now (inner cx.now env.entry.depth_left) (where_of env.entry) ty.now) result }
 {
     match ty {
         Type::Never => Ok(Ty::Never),
@@ -66,25 +85,25 @@ fn resolve_with<'a>(
             Ok(Ty::Function)
         }
         Type::Dyn => Ok(Ty::Dyn),
-        Type::Tuple(parts) => resolve_tuple(cx, budget, env, parts, depth_left),
+        Type::Tuple(parts) => resolve_tuple(cx, budget, env, parts),
         Type::Array(element, count) => {
             let count = length(cx, budget, env, count)?;
-            let element = resolve(cx, budget, env, element, depth_left)?;
+            let element = resolve(cx, budget, env, element)?;
             Ok(Ty::Array(Box::new(cx.alloc, element)?, count))
         }
         Type::Slice(element) => {
-            let element = resolve(cx, budget, env, element, depth_left)?;
+            let element = resolve(cx, budget, env, element)?;
             Ok(Ty::Slice(Box::new(cx.alloc, element)?))
         }
         Type::Reference(is_mutable, pointee) => {
-            let pointee = resolve(cx, budget, env, pointee, depth_left)?;
+            let pointee = resolve(cx, budget, env, pointee)?;
             Ok(Ty::Reference(*is_mutable, Box::new(cx.alloc, pointee)?))
         }
         Type::Pointer(pointee) => {
-            let pointee = resolve(cx, budget, env, pointee, depth_left)?;
+            let pointee = resolve(cx, budget, env, pointee)?;
             Ok(Ty::Pointer(Box::new(cx.alloc, pointee)?))
         }
-        Type::Path(path) => resolve_path(cx, budget, env, path, depth_left),
+        Type::Path(path) => resolve_path(cx, budget, env, path),
         Type::Unevaluated(what, at) => Err(stop_at(*at, FaultKind::Unevaluated(*what))),
     }
 }
@@ -97,14 +116,13 @@ fn resolve_tuple<'a>(
     budget: &mut Budget<'a>,
     env: Env<'_>,
     parts: &'a [Type],
-    depth_left: u32,
 ) -> Result<Ty, Stop>
     ensures { Means ty_of
-        (tuple_from cx.now (inner cx.now depth_left) (where_of env.entry) [] parts.now) result }
+        (tuple_from cx.now (inner cx.now env.entry.depth_left) (where_of env.entry) [] parts.now) result }
 {
     let mut resolved = Vec::new(cx.alloc);
     for part in parts {
-        let one = resolve(cx, budget, env, part, depth_left)?;
+        let one = resolve(cx, budget, env, part)?;
         push_ty(&mut resolved, one)?;
     }
     Ok(Ty::Tuple(resolved))
@@ -121,16 +139,16 @@ fn length<'a>(
     ensures { Means (λ n. n) (length_of cx.now (where_of env.entry) count.now) result }
 {
     let wanted = Some(Kind::Integer(IntegerKind::Usize));
-    let value = evaluate(cx, budget, env, count, wanted, most_deep())?;
+    let value = evaluate(cx, budget, env.with_all_depth(), count, wanted)?;
     length_by(cx, value, count)
 }
 
 /// A value as an array's length.
-fn length_by(cx: &Context<'_, '_>, value: Value, count: &Expr) -> Result<u64, Stop>
+fn length_by(cx: &Context<'_, '_>, value: ConstValue, count: &Expr) -> Result<u64, Stop>
     ensures { Means (λ n. n) (length_by cx.now count.now (value_as_read value)) result }
 {
     match value {
-        Value::Integer(_, int) => match u64::try_from(int.magnitude) {
+        ConstValue::Integer(_, int) => match u64::try_from(int.magnitude) {
             Ok(length) => Ok(length),
             Err(_) => Err(stop_at(place_of(count), FaultKind::Overflow(IntegerKind::Usize))),
         },
@@ -166,9 +184,9 @@ fn resolve_path<'a>(
     budget: &mut Budget<'a>,
     env: Env<'_>,
     path: &'a Path,
-    depth_left: u32,
 ) -> Result<Ty, Stop>
-    ensures { Means ty_of (path_type cx.now (inner cx.now depth_left) (where_of env.entry) path.now) result }
+    ensures { Means ty_of
+        (path_type cx.now (inner cx.now env.entry.depth_left) (where_of env.entry) path.now) result }
 {
     if let Some(ty) = type_given(cx, env, path) {
         return copy_of(cx.alloc, budget, ty);
@@ -176,7 +194,7 @@ fn resolve_path<'a>(
     if is_self(path) {
         return self_type(cx, budget, env, path);
     }
-    resolve_named(cx, budget, env, path, depth_left)
+    resolve_named(cx, budget, env, path)
 }
 
 /// The type that names name.
@@ -187,9 +205,9 @@ fn resolve_named<'a>(
     budget: &mut Budget<'a>,
     env: Env<'_>,
     path: &'a Path,
-    depth_left: u32,
 ) -> Result<Ty, Stop>
-    ensures { Means ty_of (named_type cx.now (inner cx.now depth_left) (where_of env.entry) path.now) result }
+    ensures { Means ty_of
+        (named_type cx.now (inner cx.now env.entry.depth_left) (where_of env.entry) path.now) result }
 {
     let at = place_of_path(path);
     let Some(last) = path.segments.last() else {
@@ -199,12 +217,12 @@ fn resolve_named<'a>(
         return Err(stop_at(wrong.at, FaultKind::WrongArguments(wrong.name)));
     }
     match find(cx.items, cx.scope, env.module, path, Space::Types) {
-        Some(Found::Primitive(primitive)) => primitive_given(primitive, last),
-        Some(Found::Item(number)) => resolve_item(cx, budget, env, number, last, depth_left),
-        Some(Found::Module(_)) => Err(stop_at(at, FaultKind::NotAType(last.name))),
-        Some(Found::Unknown) => Err(stop_at(at, FaultKind::UnknownOrigin(last.name))),
-        Some(Found::Hidden(name)) => Err(stop_at(at, FaultKind::Private(name))),
-        Some(Found::Ambiguous(name)) => Err(stop_at(at, FaultKind::Ambiguous(name))),
+        Some(Resolution::Primitive(primitive)) => primitive_given(primitive, last),
+        Some(Resolution::Item(number)) => resolve_item(cx, budget, env, number, last),
+        Some(Resolution::Module(_)) => Err(stop_at(at, FaultKind::NotAType(last.name))),
+        Some(Resolution::Unknown) => Err(stop_at(at, FaultKind::UnknownOrigin(last.name))),
+        Some(Resolution::Hidden(name)) => Err(stop_at(at, FaultKind::Private(name))),
+        Some(Resolution::Ambiguous(name)) => Err(stop_at(at, FaultKind::Ambiguous(name))),
         None => Err(stop_at(at, unknown(cx, env, path, last.name))),
     }
 }
@@ -296,33 +314,33 @@ fn resolve_item<'a>(
     env: Env<'_>,
     number: u32,
     last: &'a Segment,
-    depth_left: u32,
 ) -> Result<Ty, Stop>
-    ensures { Means ty_of ((inner cx.now depth_left).item_of (where_of env.entry) number last.now) result }
+    ensures { Means ty_of
+        ((inner cx.now env.entry.depth_left).item_of (where_of env.entry) number last.now) result }
 {
-    let depth_left = less(depth_left)?;
-    resolve_item_with(cx, budget, env, number, last, depth_left)
+    let env = env.deeper()?;
+    instantiate(cx, budget, env, number, last)
 }
 
-/// The type that an item is under what the last name of a path gives it, within less room.
+/// The type that an item is once its parameters are given what the last name of a path gives them.
 #[cycle(resolving)]
 #[tactic(auto, unfolding(crate::specs::Resolving::item_with))]
-fn resolve_item_with<'a>(
+fn instantiate<'a>(
     cx: &Context<'a, '_>,
     budget: &mut Budget<'a>,
     env: Env<'_>,
     number: u32,
     last: &'a Segment,
-    depth_left: u32,
 ) -> Result<Ty, Stop>
     ensures { Means ty_of
-        (item_with cx.now (inner cx.now depth_left) (where_of env.entry) number last.now) result }
+        (item_with cx.now (inner cx.now env.entry.depth_left) (where_of env.entry) number last.now) result }
 {
     let Some(item) = item_at(cx.items, number) else {
         return Err(stop_at(last.at, FaultKind::UnknownType(last.name)));
     };
-    let given = give(cx, budget, env, number, item, last, depth_left)?;
-    item_under(cx, budget, number, item, given, depth_left)
+    let named = NamedItem { number, item, last };
+    let given = give(cx, budget, env, named)?;
+    item_under(cx, budget, named, given, env.depth_left)
 }
 
 /// The type that an item is under what its parameters are given.
@@ -330,26 +348,26 @@ fn resolve_item_with<'a>(
 fn item_under<'a>(
     cx: &Context<'a, '_>,
     budget: &mut Budget<'a>,
-    number: u32,
-    item: &'a Item,
+    named: NamedItem<'a>,
     given: Vec<GenericArg>,
     depth_left: u32,
 ) -> Result<Ty, Stop>
-    ensures { Means ty_of
-        (item_under cx.now (inner cx.now depth_left) number item.now item.now.kind (all_given given.items)) result }
+    ensures { Means ty_of (item_under cx.now (inner cx.now depth_left) named.entry.number named.entry.item.now
+        named.entry.item.now.kind (all_given given.items)) result }
 {
-    match &item.kind {
+    match &named.item.kind {
         ItemKind::Alias(ty) => {
             let inside = Env {
-                module: item.module,
-                item: Some(number),
+                module: named.item.module,
+                item: Some(named.number),
                 given: given.as_slice(),
+                depth_left,
             };
-            resolve(cx, budget, inside, ty, depth_left)
+            resolve(cx, budget, inside, ty)
         }
-        _ => match owned_of(cx, budget, number, given.as_slice())? {
+        _ => match owned_of(cx, budget, named.number, given.as_slice())? {
             Some(owned) => Ok(owned),
-            None => Ok(Ty::Adt(number, given)),
+            None => Ok(Ty::Adt(named.number, given)),
         },
     }
 }
@@ -361,23 +379,24 @@ fn give<'a>(
     cx: &Context<'a, '_>,
     budget: &mut Budget<'a>,
     env: Env<'_>,
-    number: u32,
-    item: &'a Item,
-    last: &'a Segment,
-    depth_left: u32,
+    named: NamedItem<'a>,
 ) -> Result<Vec<GenericArg>, Stop>
-    ensures { Means (λ given. all_given given.items)
-        (give cx.now (inner cx.now depth_left) (where_of env.entry) number item.now last.now) result }
+    ensures { Means (λ given. all_given given.items) (give cx.now (inner cx.now env.entry.depth_left)
+        (where_of env.entry)
+        named.entry.number named.entry.item.now named.entry.last.now) result }
 {
+    let (item, last) = (named.item, named.last);
     if last.lifetimes > item.lifetimes || last.arguments.len() > item.parameters.len() {
         return Err(stop_at(last.at, FaultKind::WrongArguments(last.name)));
     }
     let mut given = Vec::new(cx.alloc);
     for (index, parameter) in item.parameters.iter().enumerate() {
-        let argument = last.arguments.get(index);
-        let one = give_one(
-            cx, budget, env, number, item, last, &given, parameter, argument, depth_left,
-        )?;
+        let slot = Slot {
+            before: given.as_slice(),
+            kind: &parameter.kind,
+            argument: last.arguments.get(index),
+        };
+        let one = give_one(cx, budget, env, named, slot)?;
         push_given(&mut given, one)?;
     }
     Ok(given)
@@ -389,62 +408,32 @@ fn give_one<'a>(
     cx: &Context<'a, '_>,
     budget: &mut Budget<'a>,
     env: Env<'_>,
-    number: u32,
-    item: &'a Item,
-    last: &'a Segment,
-    given: &Vec<GenericArg>,
-    parameter: &'a Parameter,
-    argument: Option<&'a Argument>,
-    depth_left: u32,
+    named: NamedItem<'a>,
+    slot: Slot<'a, '_>,
 ) -> Result<GenericArg, Stop>
-    ensures { Means given_of
-        (one_given cx.now (inner cx.now depth_left) (where_of env.entry) number item.now last.now
-        (all_given given.now.items) parameter.now.kind (option_copied argument.entry)) result }
+    ensures { Means given_of (one_given cx.now (inner cx.now env.entry.depth_left) (where_of env.entry)
+        named.entry.number named.entry.item.now named.entry.last.now (all_given slot.entry.before.now)
+        slot.entry.kind.now (option_copied slot.entry.argument)) result }
 {
-    match argument {
-        Some(argument) => {
-            given_by(
-                cx,
-                budget,
-                env,
-                item.module,
-                &parameter.kind,
-                argument,
-                last.at,
-                depth_left,
-            )
-        }
+    match slot.argument {
+        Some(argument) => match slot.kind {
+            ParameterKind::Type(_) => type_given_by(cx, budget, env, argument, named.last.at),
+            ParameterKind::Const(ty, _) => {
+                let wanted = WantedConst {
+                    kind: kind_written(cx, outside(named.item.module), ty),
+                    at: named.last.at,
+                };
+                constant_given_by(cx, budget, env, argument, wanted)
+            }
+        },
         None => {
             let inside = Env {
-                module: item.module,
-                item: Some(number),
-                given: given.as_slice(),
+                module: named.item.module,
+                item: Some(named.number),
+                given: slot.before,
+                depth_left: env.depth_left,
             };
-            given_by_default(cx, budget, inside, &parameter.kind, last, depth_left)
-        }
-    }
-}
-
-/// What an argument gives a parameter of an item of this module.
-#[cycle(resolving)]
-fn given_by<'a>(
-    cx: &Context<'a, '_>,
-    budget: &mut Budget<'a>,
-    env: Env<'_>,
-    module: u32,
-    kind: &'a ParameterKind,
-    argument: &'a Argument,
-    at: Place,
-    depth_left: u32,
-) -> Result<GenericArg, Stop>
-    ensures { Means given_of
-        (argument_given cx.now (inner cx.now depth_left) (where_of env.entry) «module» at argument.now kind.now) result }
-{
-    match kind {
-        ParameterKind::Type(_) => type_given_by(cx, budget, env, argument, at, depth_left),
-        ParameterKind::Const(ty, _) => {
-            let wanted = kind_written(cx, outside(module), ty);
-            constant_given_by(cx, budget, env, argument, wanted, at, depth_left)
+            given_by_default(cx, budget, inside, slot.kind, named.last)
         }
     }
 }
@@ -457,13 +446,12 @@ fn type_given_by<'a>(
     env: Env<'_>,
     argument: &'a Argument,
     at: Place,
-    depth_left: u32,
 ) -> Result<GenericArg, Stop>
-    ensures { Means given_of
-        (given_type cx.now (inner cx.now depth_left) (where_of env.entry) at (out-Argument argument.now)) result }
+    ensures { Means given_of (given_type cx.now (inner cx.now env.entry.depth_left) (where_of env.entry) at
+        (out-Argument argument.now)) result }
 {
     match argument {
-        Argument::Type(ty) => Ok(GenericArg::Type(resolve(cx, budget, env, ty, depth_left)?)),
+        Argument::Type(ty) => Ok(GenericArg::Type(resolve(cx, budget, env, ty)?)),
         Argument::Const(_) => Err(stop_at(at, FaultKind::WrongKindOfArgument)),
         Argument::Binding(at) => Err(stop_at(*at, FaultKind::Binding)),
     }
@@ -475,17 +463,15 @@ fn constant_given_by<'a>(
     budget: &mut Budget<'a>,
     env: Env<'_>,
     argument: &'a Argument,
-    wanted: Option<Kind>,
-    at: Place,
-    depth_left: u32,
+    wanted: WantedConst,
 ) -> Result<GenericArg, Stop>
-    ensures { Means given_of
-        (given_constant cx.now (inner cx.now depth_left) (where_of env.entry) at wanted (out-Argument argument.now)) result }
+    ensures { Means given_of (given_constant cx.now (inner cx.now env.entry.depth_left) (where_of env.entry) wanted.at
+        wanted.kind (out-Argument argument.now)) result }
 {
     match argument {
-        Argument::Type(ty) => type_as_constant(cx, budget, env, ty, wanted, at, depth_left),
+        Argument::Type(ty) => type_as_constant(cx, budget, env, ty, wanted),
         Argument::Const(expr) => {
-            let value = evaluate(cx, budget, env, expr, wanted, most_deep())?;
+            let value = evaluate(cx, budget, env.with_all_depth(), expr, wanted.kind)?;
             Ok(GenericArg::Value(value))
         }
         Argument::Binding(at) => Err(stop_at(*at, FaultKind::Binding)),
@@ -502,13 +488,13 @@ fn may_be_constant(cx: &Context<'_, '_>, env: Env<'_>, path: &Path) -> bool
 }
 
 /// Whether what is found among types and modules is one of them for certain.
-fn is_other(found: Option<Found>) -> bool
+fn is_other(found: Option<Resolution>) -> bool
     ensures { result ≡ is_other found }
 {
     match found {
-        Some(Found::Module(_)) => true,
-        Some(Found::Item(_)) => true,
-        Some(Found::Primitive(_)) => true,
+        Some(Resolution::Module(_)) => true,
+        Some(Resolution::Item(_)) => true,
+        Some(Resolution::Primitive(_)) => true,
         _ => false,
     }
 }
@@ -519,30 +505,29 @@ fn type_as_constant<'a>(
     budget: &mut Budget<'a>,
     env: Env<'_>,
     ty: &'a Type,
-    wanted: Option<Kind>,
-    at: Place,
-    depth_left: u32,
+    wanted: WantedConst,
 ) -> Result<GenericArg, Stop>
-    ensures { Means given_of
-        (type_as_constant cx.now (inner cx.now depth_left) (where_of env.entry) at wanted ty.now) result }
+    ensures { Means given_of (type_as_constant cx.now (inner cx.now env.entry.depth_left)
+        (where_of env.entry) wanted.at
+        wanted.kind ty.now) result }
 {
     match ty {
         Type::Path(path) => {
             if !may_be_constant(cx, env, path) {
-                return Err(stop_at(at, FaultKind::WrongKindOfArgument));
+                return Err(stop_at(wanted.at, FaultKind::WrongKindOfArgument));
             }
-            let value = evaluate_path(cx, budget, env, path, most_deep())?;
-            if !is_wanted(wanted, value) {
-                return Err(stop_at(at, FaultKind::WrongType));
+            let value = evaluate_path(cx, budget, env.with_all_depth(), path)?;
+            if !is_wanted(wanted.kind, value) {
+                return Err(stop_at(wanted.at, FaultKind::WrongType));
             }
             Ok(GenericArg::Value(value))
         }
-        _ => Err(stop_at(at, FaultKind::WrongKindOfArgument)),
+        _ => Err(stop_at(wanted.at, FaultKind::WrongKindOfArgument)),
     }
 }
 
 /// Whether a value is of the type that is wanted.
-fn is_wanted(wanted: Option<Kind>, value: Value) -> bool
+fn is_wanted(wanted: Option<Kind>, value: ConstValue) -> bool
     ensures { result ≡ is_wanted wanted (value_as_read value) }
 {
     match wanted {
@@ -559,18 +544,15 @@ fn given_by_default<'a>(
     inside: Env<'_>,
     kind: &'a ParameterKind,
     last: &Segment,
-    depth_left: u32,
 ) -> Result<GenericArg, Stop>
     ensures { Means given_of
-        (default_given cx.now (inner cx.now depth_left) (where_of inside.entry) last.now kind.now) result }
+        (default_given cx.now (inner cx.now inside.entry.depth_left) (where_of inside.entry) last.now kind.now) result }
 {
     match kind {
-        ParameterKind::Type(Some(ty)) => Ok(GenericArg::Type(resolve(
-            cx, budget, inside, ty, depth_left,
-        )?)),
+        ParameterKind::Type(Some(ty)) => Ok(GenericArg::Type(resolve(cx, budget, inside, ty)?)),
         ParameterKind::Const(ty, Some(expr)) => {
             let wanted = kind_written(cx, outside(inside.module), ty);
-            let value = evaluate(cx, budget, inside, expr, wanted, most_deep())?;
+            let value = evaluate(cx, budget, inside.with_all_depth(), expr, wanted)?;
             Ok(GenericArg::Value(value))
         }
         _ => Err(stop_at(last.at, FaultKind::WrongArguments(last.name))),

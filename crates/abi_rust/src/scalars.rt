@@ -101,7 +101,7 @@ fn index_integer(dl: &TargetDataLayout) -> Integer
 }
 
 /// The tree of a primitive type with a name. None for `str`, which has no size.
-pub(crate) fn named(dl: &TargetDataLayout, primitive: Named) -> Option<TypeTree>
+pub(crate) fn named_tree(dl: &TargetDataLayout, primitive: Named) -> Option<TypeTree>
     ensures { result ≡ named_tree dl.now primitive }
 {
     match primitive {
@@ -163,7 +163,7 @@ pub(crate) fn function(dl: &TargetDataLayout) -> TypeTree
 }
 
 /// The scalar with the numbers of a range alone, as far as it has them.
-fn cut(dl: &TargetDataLayout, scalar: Scalar, start: u128, end: u128) -> Scalar
+fn cut_scalar(dl: &TargetDataLayout, scalar: Scalar, start: u128, end: u128) -> Scalar
     ensures { result ≡ cut_scalar dl.now start end scalar }
 {
     match scalar {
@@ -179,8 +179,8 @@ pub(crate) fn limited(dl: &TargetDataLayout, tree: TypeTree, start: u128, end: u
     ensures { tree_of result ≡ limited_tree dl.now start end (tree_of tree) }
 {
     match tree {
-        TypeTree::Scalar(scalar) => TypeTree::Scalar(cut(dl, scalar, start, end)),
-        TypeTree::Pair(first, second) => TypeTree::Pair(cut(dl, first, start, end), second),
+        TypeTree::Scalar(scalar) => TypeTree::Scalar(cut_scalar(dl, scalar, start, end)),
+        TypeTree::Pair(first, second) => TypeTree::Pair(cut_scalar(dl, first, start, end), second),
         other => other,
     }
 }

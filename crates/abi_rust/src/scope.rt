@@ -8,7 +8,7 @@ ghost use Rattle.abi_rust.specs.Standing.{IsMemory};
 
 use crate::fault::{FaultKind, Stop, stop_at};
 use crate::own_constants::add_own_constants;
-use crate::paths::{Found, Space};
+use crate::paths::{Resolution, Space};
 use crate::standing::{Key, add_items, add_modules, add_uses, key, numbered};
 use crate::use_targets::{UseTarget, target_in, use_targets};
 use crate::ways::{Glob, Way, is_way_visible, leads_on};
@@ -192,8 +192,8 @@ impl Scope {
             return None;
         }
         match target_in(self.use_targets.as_slice(), number, Space::Types) {
-            Some(Found::Module(_)) => None,
-            Some(Found::Item(_)) => None,
+            Some(Resolution::Module(_)) => None,
+            Some(Resolution::Item(_)) => None,
             _ => Some(glob_to(used, NOWHERE)),
         }
     }
@@ -224,7 +224,7 @@ impl Scope {
             return None;
         }
         let found = target_in(self.use_targets.as_slice(), number, Space::Types);
-        let Some(Found::Module(target)) = found else {
+        let Some(Resolution::Module(target)) = found else {
             return None;
         };
         if target == used.module {
@@ -276,7 +276,7 @@ impl Scope {
 
     /// The use that brings a name into a module.
     #[tactic(auto, unfolding(crate::specs::Scope::use_in))]
-    pub(crate) fn used(&self, module: u32, name: Symbol) -> Option<u32>
+    pub(crate) fn use_of(&self, module: u32, name: Symbol) -> Option<u32>
         ensures { result ≡ use_in self.now «module» name }
     {
         self.uses.get(&key(module, name)).copied()

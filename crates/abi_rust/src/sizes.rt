@@ -13,8 +13,8 @@ ghost use Rattle.abi_rust.specs.Words.{symbol_of};
 use crate::budget::{Budget, Context, Env, Request, copies_of, size_at};
 use crate::fault::{FaultKind, Stop, stop_at};
 use crate::int::Int;
-use crate::paths::{Found, Space, find, item_at};
-use crate::ty::Value;
+use crate::paths::{Resolution, Space, find, item_at};
+use crate::ty::ConstValue;
 use crate::words::Word;
 use rust_source::{Argument, IntegerKind, Item, Path, Place, Type, Unevaluated};
 
@@ -26,7 +26,7 @@ pub(crate) fn call<'a>(
     env: Env<'_>,
     path: &'a Path,
     at: Place,
-) -> Result<Value, Stop>
+) -> Result<ConstValue, Stop>
     ensures { Means value_as_read (call cx.now (where_of env.entry) path.now at) result }
 {
     let unevaluated = FaultKind::Unevaluated(Unevaluated::Expression);
@@ -39,7 +39,7 @@ pub(crate) fn call<'a>(
     match size_at(cx.known, at, env, ty) {
         Some(Ok((size, align))) => {
             let number = if asks_size { size } else { align };
-            Ok(Value::Integer(IntegerKind::Usize, Int::positive(u128::from(number))))
+            Ok(ConstValue::Integer(IntegerKind::Usize, Int::positive(u128::from(number))))
         }
         Some(Err(stop)) => Err(stop),
         None => await_size(cx, budget, env, ty, at),
@@ -53,7 +53,7 @@ fn await_size<'a>(
     env: Env<'_>,
     ty: &'a Type,
     at: Place,
-) -> Result<Value, Stop>
+) -> Result<ConstValue, Stop>
     ensures { Means value_as_read (Err Stop.Size) result }
 {
     let given = copies_of(cx.alloc, budget, env.given)?;
@@ -73,7 +73,7 @@ fn size_call(cx: &Context<'_, '_>, module: u32, path: &Path) -> Option<bool>
     ensures { result ≡ asks_size cx.now «module» path.now }
 {
     match find(cx.items, cx.scope, module, path, Space::Values) {
-        Some(Found::Item(number)) => asks(cx, item_at(cx.items, number)?),
+        Some(Resolution::Item(number)) => asks(cx, item_at(cx.items, number)?),
         _ => None,
     }
 }

@@ -6,13 +6,13 @@ ghost use Rattle.abi_rust.specs.Meaning.{Means, is_beside};
 ghost use Rattle.abi_rust.specs.Tails.{always_sized, assumed, field_tail, has_known_size, tail_field, last_of, last_type, may_any, outer_of, pointee_tail, tail_inner, tail_of_item_with, tail_of_last, tail_with};
 ghost use Rattle.abi_rust.specs.Types.{all_given, given_of, givens, ty_of, types};
 
-use crate::above::{Above, stands_in, within};
-use crate::budget::{Budget, Context, Env, less, most_deep, push_given};
+use crate::above::{Nesting, stands_in};
+use crate::budget::{Budget, Context, Instance, push_given};
 use crate::fault::{FaultKind, Stop, stop_at};
 use crate::int::Int;
 use crate::paths::item_at;
 use crate::resolve::resolve;
-use crate::ty::{GenericArg, Primitive, Ty, Value};
+use crate::ty::{ConstValue, GenericArg, Primitive, Ty};
 use rust_source::{Field, IntegerKind, Item, ItemKind, Parameter, ParameterKind};
 use std::alloc::Global;
 
@@ -48,7 +48,7 @@ pub(crate) fn pointee_tail<'a>(
 ) -> Result<Tail, Stop>
     ensures { Means (λ tail. tail) (pointee_tail cx.now (ty_of ty.now)) result }
 {
-    tail_of(cx, budget, &Above::Nothing, ty, most_deep())
+    tail_of(cx, budget, Nesting::alone(), ty)
 }
 
 /// What a pointer to the type tells, by the type's last field. `Recursive` where that stands in itself.
@@ -57,47 +57,39 @@ pub(crate) fn pointee_tail<'a>(
 fn tail_of<'a>(
     cx: &Context<'a, '_>,
     budget: &mut Budget<'a>,
-    above: &Above<'_>,
+    nesting: Nesting<'_>,
     ty: &Ty,
-    depth_left: u32,
 ) -> Result<Tail, Stop>
     ensures { Means (λ tail. tail)
-        ((tail_inner cx.now depth_left).tail_of (outer_of above.now) (ty_of ty.now)) result }
+        ((tail_inner cx.now nesting.entry.depth_left).tail_of (outer_of nesting.entry.above) (ty_of ty.now)) result }
 {
     budget.spend()?;
-    let depth_left = less(depth_left)?;
-    tail_with(cx, budget, above, ty, depth_left)
+    let nesting = nesting.deeper()?;
+    tail_of_kind(cx, budget, nesting, ty)
 }
 
-/// What a pointer to the type tells, within less room.
+/// What a pointer to the type tells, whatever kind of type it is.
 #[cycle(tails)]
 #[tactic(auto, unfolding(crate::specs::Tails::tail_with))]
-fn tail_with<'a>(
+fn tail_of_kind<'a>(
     cx: &Context<'a, '_>,
     budget: &mut Budget<'a>,
-    above: &Above<'_>,
+    nesting: Nesting<'_>,
     ty: &Ty,
-    depth_left: u32,
 ) -> Result<Tail, Stop>
     ensures { Means (λ tail. tail)
-        (tail_with cx.now (tail_inner cx.now depth_left) (outer_of above.now) (ty_of ty.now)) result }
+        (tail_with cx.now (tail_inner cx.now nesting.entry.depth_left)
+        (outer_of nesting.entry.above) (ty_of ty.now)) result }
 {
     match ty {
         Ty::Slice(_) => Ok(Tail::Length),
         Ty::Primitive(Primitive::Str) => Ok(Tail::Length),
         Ty::Dyn => Ok(Tail::Table),
         Ty::Tuple(parts) => match last_part(parts) {
-            Some(last) => tail_of(cx, budget, above, last, depth_left),
+            Some(last) => tail_of(cx, budget, nesting, last),
             None => Ok(Tail::Sized),
         },
-        Ty::Adt(number, given) => tail_of_item(
-            cx,
-            budget,
-            above,
-            *number,
-            given.as_slice(),
-            depth_left,
-        ),
+        Ty::Adt(number, given) => tail_of_item(cx, budget, nesting, *number, given.as_slice()),
         _ => Ok(Tail::Sized),
     }
 }
@@ -116,38 +108,44 @@ fn last_part(parts: &[Ty]) -> Option<&Ty>
 fn tail_of_item<'a>(
     cx: &Context<'a, '_>,
     budget: &mut Budget<'a>,
-    above: &Above<'_>,
+    nesting: Nesting<'_>,
     number: u32,
     given: &[GenericArg],
-    depth_left: u32,
 ) -> Result<Tail, Stop>
     ensures { Means (λ tail. tail)
-        ((tail_inner cx.now depth_left).tail_of_item (outer_of above.now) number (givens (all_given given.now))) result }
+        ((tail_inner cx.now nesting.entry.depth_left).tail_of_item
+        (outer_of nesting.entry.above) number (givens (all_given given.now))) result }
 {
-    let depth_left = less(depth_left)?;
-    tail_of_item_with(cx, budget, above, number, given, depth_left)
+    let nesting = nesting.deeper()?;
+    tail_of_found(cx, budget, nesting, number, given)
 }
 
-/// What a pointer to the type tells that an item is, within less room.
+/// What a pointer to the type tells that an item is, if there is one of this number.
 #[cycle(tails)]
 #[tactic(auto, unfolding(crate::specs::Tails::tail_of_item_with))]
-fn tail_of_item_with<'a>(
+fn tail_of_found<'a>(
     cx: &Context<'a, '_>,
     budget: &mut Budget<'a>,
-    above: &Above<'_>,
+    nesting: Nesting<'_>,
     number: u32,
     given: &[GenericArg],
-    depth_left: u32,
 ) -> Result<Tail, Stop>
     ensures { Means (λ tail. tail)
-        (tail_of_item_with cx.now (tail_inner cx.now depth_left) (outer_of above.now) number
+        (tail_of_item_with cx.now (tail_inner cx.now nesting.entry.depth_left) (outer_of nesting.entry.above) number
         (givens (all_given given.now))) result }
 {
     let Some(item) = item_at(cx.items, number) else {
         return Ok(Tail::Sized);
     };
     match last_field(item) {
-        Some(last) => tail_of_field(cx, budget, above, number, given, item, last, depth_left),
+        Some(last) => {
+            let instance = Instance {
+                number,
+                item,
+                given,
+            };
+            tail_of_field(cx, budget, nesting, instance, last)
+        }
         None => Ok(Tail::Sized),
     }
 }
@@ -158,27 +156,21 @@ fn tail_of_item_with<'a>(
 fn tail_of_field<'a>(
     cx: &Context<'a, '_>,
     budget: &mut Budget<'a>,
-    above: &Above<'_>,
-    number: u32,
-    given: &[GenericArg],
-    item: &Item,
+    nesting: Nesting<'_>,
+    instance: Instance<'_, '_>,
     last: &'a Field,
-    depth_left: u32,
 ) -> Result<Tail, Stop>
-    ensures { Means (λ tail. tail) (field_tail cx.now (tail_inner cx.now depth_left) (outer_of above.now) number
-        (givens (all_given given.now)) item.now (Some last.now)) result }
+    ensures { Means (λ tail. tail) (field_tail cx.now (tail_inner cx.now nesting.entry.depth_left)
+        (outer_of nesting.entry.above) instance.entry.number (givens (all_given instance.entry.given.now))
+        instance.entry.item.now (Some last.now)) result }
 {
-    if stands_in(above, number, given) {
+    let item = instance.item;
+    if stands_in(&nesting.above, instance.number, instance.given) {
         return Err(stop_at(item.at, FaultKind::Recursive(item.name)));
     }
-    let own = within(number, &*given, &*above);
-    let inside = Env {
-        module: item.module,
-        item: Some(number),
-        given,
-    };
-    let ty = resolve(cx, budget, inside, &last.ty, most_deep())?;
-    tail_of(cx, budget, &own, &ty, depth_left)
+    let ty = resolve(cx, budget, instance.inside(), &last.ty)?;
+    let inner = nesting.inside(instance.number, instance.given);
+    tail_of(cx, budget, inner, &ty)
 }
 
 /// The last field of a struct or a union.
@@ -224,7 +216,7 @@ fn assumed(parameter: &Parameter) -> GenericArg
                 GenericArg::Type(Ty::Never)
             }
         }
-        ParameterKind::Const(_, _) => GenericArg::Value(Value::Integer(
+        ParameterKind::Const(_, _) => GenericArg::Value(ConstValue::Integer(
             IntegerKind::Usize,
             Int::positive(0),
         )),
@@ -258,7 +250,6 @@ pub(crate) fn is_always_sized<'a>(
         return Ok(true);
     }
     let given = all_assumed(cx.alloc, item.parameters.as_slice())?;
-    let above = Above::Nothing;
-    let tail = tail_of_item(cx, budget, &above, number, given.as_slice(), most_deep())?;
+    let tail = tail_of_item(cx, budget, Nesting::alone(), number, given.as_slice())?;
     Ok(tail.is_sized())
 }

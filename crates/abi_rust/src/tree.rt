@@ -7,13 +7,14 @@ ghost use Rattle.abi_tree.specs.Tree.{tree_of};
 ghost use Rattle.abi_rust.specs.Int.{number_of_int};
 ghost use Rattle.abi_rust.specs.Meaning.{Means, is_beside};
 ghost use Rattle.abi_rust.specs.Measure.{IsMeasure, Measure, each_meant};
+ghost use Rattle.abi_rust.specs.Resolving.{inside_of};
 ghost use Rattle.abi_rust.specs.Tails.{outer_of};
 ghost use Rattle.abi_rust.specs.Trees.{checked_trees, discriminant_value, enum_tree, field_tree, formed_tree, field_trees, first_limited, tree_by_item, item_tree, kind_tree, number_meant, stop_in, struct_fields, struct_tree, tree_inner, tuple_of, tuple_tree, type_tree, union_tree, variant_number, variant_as_tree, variant_tree, variant_trees};
 ghost use Rattle.abi_rust.specs.Types.{all_given, givens, list_of_types, ty_of, types, where_of};
 ghost use Rattle.abi_rust.specs.Values.{value_as_read};
 
-use crate::above::{Above, stands_in, within};
-use crate::budget::{Budget, Context, Env, less, most_deep};
+use crate::above::{Nesting, stands_in};
+use crate::budget::{Budget, Context, Instance, most_deep};
 use crate::copy_types::check_union_fields;
 use crate::discriminants::discriminant_kind;
 use crate::evaluate::evaluate;
@@ -27,11 +28,18 @@ use crate::places::at_place;
 use crate::repr::{plain, repr_of};
 use crate::repr_fields::{check_discriminants, check_packed, check_transparent};
 use crate::resolve::resolve;
-use crate::scalars::{function, limited, named, pointer};
+use crate::scalars::{function, limited, named_tree, pointer};
 use crate::tail::{is_always_sized, pointee_tail};
-use crate::ty::{GenericArg, Kind, Ty, Value};
+use crate::ty::{ConstValue, GenericArg, Kind, Ty};
 use abi_tree::TypeTree;
-use rust_source::{Enum, Expr, Field, Fields, Item, ItemKind, Place, Variant};
+use rust_source::{Enum, Field, Fields, Item, ItemKind, Place, Variant};
+
+/// A variant, and the discriminant of the one before it, if there is one.
+#[derive(Clone, Copy)]
+struct NextVariant<'a> {
+    variant: &'a Variant,
+    last: Option<Int>,
+}
 
 /// The tree of a type. `Stop::Size` where a type's size has to be known first.
 #[cycle(trees)]
@@ -39,35 +47,35 @@ use rust_source::{Enum, Expr, Field, Fields, Item, ItemKind, Place, Variant};
 pub(crate) fn tree<'a>(
     cx: &Context<'a, '_>,
     budget: &mut Budget<'a>,
-    above: &Above<'_>,
+    nesting: Nesting<'_>,
     ty: &Ty,
-    depth_left: u32,
 ) -> Result<TypeTree, Stop>
     ensures { (m : Measure) → IsMeasure cx.now.dl.now m → Means tree_of
-        ((tree_inner cx.now m depth_left).of_type (outer_of above.now) (ty_of ty.now)) result }
+        ((tree_inner cx.now m nesting.entry.depth_left).of_type
+        (outer_of nesting.entry.above) (ty_of ty.now)) result }
 {
     budget.spend()?;
-    let depth_left = less(depth_left)?;
-    tree_with(cx, budget, above, ty, depth_left)
+    let nesting = nesting.deeper()?;
+    tree_of_type(cx, budget, nesting, ty)
 }
 
-/// The tree of a type, within less room.
+/// The tree of a type, whatever kind of type it is.
 #[cycle(trees)]
 #[tactic(auto, unfolding(crate::specs::Trees::type_tree))]
-fn tree_with<'a>(
+fn tree_of_type<'a>(
     cx: &Context<'a, '_>,
     budget: &mut Budget<'a>,
-    above: &Above<'_>,
+    nesting: Nesting<'_>,
     ty: &Ty,
-    depth_left: u32,
 ) -> Result<TypeTree, Stop>
     ensures { (m : Measure) → IsMeasure cx.now.dl.now m → Means tree_of
-        (type_tree cx.now m (tree_inner cx.now m depth_left) (outer_of above.now) (ty_of ty.now)) result }
+        (type_tree cx.now m (tree_inner cx.now m nesting.entry.depth_left)
+        (outer_of nesting.entry.above) (ty_of ty.now)) result }
 {
     match ty {
         Ty::Never => Ok(TypeTree::Never),
         Ty::Function => Ok(function(cx.dl)),
-        Ty::Primitive(primitive) => match named(cx.dl, *primitive) {
+        Ty::Primitive(primitive) => match named_tree(cx.dl, *primitive) {
             Some(tree) => Ok(tree),
             None => Err(Stop::Fault(None, FaultKind::Unsized)),
         },
@@ -76,18 +84,11 @@ fn tree_with<'a>(
         Ty::Reference(_, pointee) => Ok(pointer(cx.dl, pointee_tail(cx, budget, pointee)?, false)),
         Ty::Pointer(pointee) => Ok(pointer(cx.dl, pointee_tail(cx, budget, pointee)?, true)),
         Ty::Array(element, count) => {
-            let element = tree(cx, budget, above, element, depth_left)?;
+            let element = tree(cx, budget, nesting, element)?;
             Ok(TypeTree::Array(*count, Box::new(cx.alloc, element)?))
         }
-        Ty::Tuple(parts) => tree_of_tuple(cx, budget, above, parts, depth_left),
-        Ty::Adt(number, given) => tree_of_item(
-            cx,
-            budget,
-            above,
-            *number,
-            given.as_slice(),
-            depth_left,
-        ),
+        Ty::Tuple(parts) => tree_of_tuple(cx, budget, nesting, parts),
+        Ty::Adt(number, given) => tree_of_item(cx, budget, nesting, *number, given.as_slice()),
     }
 }
 
@@ -96,14 +97,14 @@ fn tree_with<'a>(
 fn tree_of_tuple<'a>(
     cx: &Context<'a, '_>,
     budget: &mut Budget<'a>,
-    above: &Above<'_>,
+    nesting: Nesting<'_>,
     parts: &[Ty],
-    depth_left: u32,
 ) -> Result<TypeTree, Stop>
     ensures { (m : Measure) → IsMeasure cx.now.dl.now m → Means tree_of (tuple_tree cx.now m
-        (tree_inner cx.now m depth_left) (outer_of above.now) (list_of_types (types (map ty_of parts.now)))) result }
+        (tree_inner cx.now m nesting.entry.depth_left)
+        (outer_of nesting.entry.above) (list_of_types (types (map ty_of parts.now)))) result }
 {
-    let fields = trees_of_types(cx, budget, above, parts, depth_left)?;
+    let fields = trees_of_types(cx, budget, nesting, parts)?;
     Ok(tuple_of(fields))
 }
 
@@ -136,17 +137,16 @@ fn push_tree(all: &mut Vec<TypeTree>, one: TypeTree) -> Result<(), Stop>
 fn trees_of_types<'a>(
     cx: &Context<'a, '_>,
     budget: &mut Budget<'a>,
-    above: &Above<'_>,
+    nesting: Nesting<'_>,
     parts: &[Ty],
-    depth_left: u32,
 ) -> Result<Vec<TypeTree>, Stop>
     ensures { (m : Measure) → IsMeasure cx.now.dl.now m → Means (λ all. map tree_of all.items)
-        (each_meant ((tree_inner cx.now m depth_left).of_type (outer_of above.now))
+        (each_meant ((tree_inner cx.now m nesting.entry.depth_left).of_type (outer_of nesting.entry.above))
         (list_of_types (types (map ty_of parts.now)))) result }
 {
     let mut trees = Vec::new(cx.alloc);
     for part in parts {
-        let one = tree(cx, budget, above, part, depth_left)?;
+        let one = tree(cx, budget, nesting, part)?;
         push_tree(&mut trees, one)?;
     }
     Ok(trees)
@@ -158,62 +158,61 @@ fn trees_of_types<'a>(
 fn tree_of_item<'a>(
     cx: &Context<'a, '_>,
     budget: &mut Budget<'a>,
-    above: &Above<'_>,
+    nesting: Nesting<'_>,
     number: u32,
     given: &[GenericArg],
-    depth_left: u32,
 ) -> Result<TypeTree, Stop>
     ensures { (m : Measure) → IsMeasure cx.now.dl.now m → Means tree_of
-        ((tree_inner cx.now m depth_left).of_item (outer_of above.now) number (givens (all_given given.now))) result }
+        ((tree_inner cx.now m nesting.entry.depth_left).of_item (outer_of nesting.entry.above) number
+        (givens (all_given given.now))) result }
 {
-    let depth_left = less(depth_left)?;
-    tree_of_item_with(cx, budget, above, number, given, depth_left)
+    let nesting = nesting.deeper()?;
+    tree_of_found(cx, budget, nesting, number, given)
 }
 
-/// The tree of an item under what its parameters are given, within less room.
+/// The tree of an item under what its parameters are given, if there is one of this number.
 #[cycle(trees)]
 #[tactic(auto, unfolding(crate::specs::Trees::item_tree))]
-fn tree_of_item_with<'a>(
+fn tree_of_found<'a>(
     cx: &Context<'a, '_>,
     budget: &mut Budget<'a>,
-    above: &Above<'_>,
+    nesting: Nesting<'_>,
     number: u32,
     given: &[GenericArg],
-    depth_left: u32,
 ) -> Result<TypeTree, Stop>
     ensures { (m : Measure) → IsMeasure cx.now.dl.now m → Means tree_of (item_tree cx.now m
-        (tree_inner cx.now m depth_left) (outer_of above.now) number (givens (all_given given.now))) result }
+        (tree_inner cx.now m nesting.entry.depth_left)
+        (outer_of nesting.entry.above) number (givens (all_given given.now))) result }
 {
     let Some(item) = item_at(cx.items, number) else {
         return Err(Stop::Fault(None, FaultKind::Unsized));
     };
-    tree_of_found(cx, budget, above, number, given, item, depth_left)
+    let instance = Instance {
+        number,
+        item,
+        given,
+    };
+    tree_of_instance(cx, budget, nesting, instance)
 }
 
 /// The tree of an item that is found. `Recursive` where it stands in itself.
 #[cycle(trees)]
-fn tree_of_found<'a>(
+fn tree_of_instance<'a>(
     cx: &Context<'a, '_>,
     budget: &mut Budget<'a>,
-    above: &Above<'_>,
-    number: u32,
-    given: &[GenericArg],
-    item: &'a Item,
-    depth_left: u32,
+    nesting: Nesting<'_>,
+    instance: Instance<'a, '_>,
 ) -> Result<TypeTree, Stop>
     ensures { (m : Measure) → IsMeasure cx.now.dl.now m → Means tree_of (tree_by_item cx.now m
-        (tree_inner cx.now m depth_left) (outer_of above.now) number (givens (all_given given.now)) (Some item.now)) result }
+        (tree_inner cx.now m nesting.entry.depth_left) (outer_of nesting.entry.above) instance.entry.number
+        (givens (all_given instance.entry.given.now)) (Some instance.entry.item.now)) result }
 {
-    if stands_in(above, number, given) {
+    let item = instance.item;
+    if stands_in(&nesting.above, instance.number, instance.given) {
         return Err(stop_at(item.at, FaultKind::Recursive(item.name)));
     }
-    let own = within(number, &*given, &*above);
-    let inside = Env {
-        module: item.module,
-        item: Some(number),
-        given,
-    };
-    tree_of_kind(cx, budget, &own, inside, number, item, depth_left)
+    let inner = nesting.inside(instance.number, instance.given);
+    tree_of_kind(cx, budget, inner, instance)
 }
 
 /// The tree of an item whose parts stand in this.
@@ -221,23 +220,18 @@ fn tree_of_found<'a>(
 fn tree_of_kind<'a>(
     cx: &Context<'a, '_>,
     budget: &mut Budget<'a>,
-    above: &Above<'_>,
-    inside: Env<'_>,
-    number: u32,
-    item: &'a Item,
-    depth_left: u32,
+    nesting: Nesting<'_>,
+    instance: Instance<'a, '_>,
 ) -> Result<TypeTree, Stop>
     ensures { (m : Measure) → IsMeasure cx.now.dl.now m → Means tree_of (kind_tree cx.now m
-        (tree_inner cx.now m depth_left) (outer_of above.now) (where_of inside.entry) number item.now item.now.kind) result }
+        (tree_inner cx.now m nesting.entry.depth_left) (outer_of nesting.entry.above) (inside_of instance.entry)
+        instance.entry.number instance.entry.item.now instance.entry.item.now.kind) result }
 {
+    let item = instance.item;
     match &item.kind {
-        ItemKind::Struct(fields) => {
-            tree_of_struct(cx, budget, above, inside, number, item, fields, depth_left)
-        }
-        ItemKind::Union(fields) => tree_of_union(
-            cx, budget, above, inside, item, fields, depth_left,
-        ),
-        ItemKind::Enum(all) => { tree_of_enum(cx, budget, above, inside, item, all, depth_left) }
+        ItemKind::Struct(fields) => tree_of_struct(cx, budget, nesting, instance, fields),
+        ItemKind::Union(fields) => tree_of_union(cx, budget, nesting, instance, fields),
+        ItemKind::Enum(all) => tree_of_enum(cx, budget, nesting, instance, all),
         _ => Err(stop_at(item.at, FaultKind::NotAType(item.name))),
     }
 }
@@ -248,20 +242,17 @@ fn tree_of_kind<'a>(
 fn tree_of_struct<'a>(
     cx: &Context<'a, '_>,
     budget: &mut Budget<'a>,
-    above: &Above<'_>,
-    inside: Env<'_>,
-    number: u32,
-    item: &'a Item,
+    nesting: Nesting<'_>,
+    instance: Instance<'a, '_>,
     fields: &'a Fields,
-    depth_left: u32,
 ) -> Result<TypeTree, Stop>
     ensures { (m : Measure) → IsMeasure cx.now.dl.now m → Means tree_of (struct_tree cx.now m
-        (tree_inner cx.now m depth_left) (outer_of above.now) (where_of inside.entry) number item.now
-        fields.now.all.items) result }
+        (tree_inner cx.now m nesting.entry.depth_left) (outer_of nesting.entry.above) (inside_of instance.entry)
+        instance.entry.number instance.entry.item.now fields.now.all.items) result }
 {
-    let repr = repr_of(item)?;
-    let always_sized = is_always_sized(cx, budget, number, item)?;
-    let fields = fields_of_struct(cx, budget, above, inside, item, fields, depth_left)?;
+    let repr = repr_of(instance.item)?;
+    let always_sized = is_always_sized(cx, budget, instance.number, instance.item)?;
+    let fields = fields_of_struct(cx, budget, nesting, instance, fields)?;
     Ok(TypeTree::Struct {
         repr,
         always_sized,
@@ -275,26 +266,18 @@ fn tree_of_struct<'a>(
 fn fields_of_struct<'a>(
     cx: &Context<'a, '_>,
     budget: &mut Budget<'a>,
-    above: &Above<'_>,
-    inside: Env<'_>,
-    item: &'a Item,
+    nesting: Nesting<'_>,
+    instance: Instance<'a, '_>,
     fields: &'a Fields,
-    depth_left: u32,
 ) -> Result<Vec<TypeTree>, Stop>
-    ensures { (m : Measure) → IsMeasure cx.now.dl.now m → Means (λ all. map tree_of all.items)
-        (struct_fields cx.now m (tree_inner cx.now m depth_left) (outer_of above.now) (where_of inside.entry) item.now
-        fields.now.all.items) result }
+    ensures { (m : Measure) → IsMeasure cx.now.dl.now m → Means (λ all. map tree_of all.items) (struct_fields cx.now m
+        (tree_inner cx.now m nesting.entry.depth_left) (outer_of nesting.entry.above) (inside_of instance.entry)
+        instance.entry.item.now fields.now.all.items) result }
 {
+    let item = instance.item;
     check_packed(cx, budget, item, fields, most_deep())?;
-    let mut trees = checked_trees(
-        cx,
-        budget,
-        above,
-        inside,
-        item,
-        fields.all.as_slice(),
-        depth_left,
-    )?;
+    let fields = fields.all.as_slice();
+    let mut trees = checked_trees(cx, budget, nesting, instance, fields)?;
     limit_first(cx, &mut trees, item.valid_range);
     Ok(trees)
 }
@@ -318,18 +301,16 @@ fn limit_first(cx: &Context<'_, '_>, trees: &mut Vec<TypeTree>, range: Option<(u
 fn checked_trees<'a>(
     cx: &Context<'a, '_>,
     budget: &mut Budget<'a>,
-    above: &Above<'_>,
-    inside: Env<'_>,
-    item: &'a Item,
+    nesting: Nesting<'_>,
+    instance: Instance<'a, '_>,
     fields: &'a [Field],
-    depth_left: u32,
 ) -> Result<Vec<TypeTree>, Stop>
-    ensures { (m : Measure) → IsMeasure cx.now.dl.now m → Means (λ all. map tree_of all.items)
-        (checked_trees cx.now m (tree_inner cx.now m depth_left) (outer_of above.now) (where_of inside.entry) item.now
-        fields.now) result }
+    ensures { (m : Measure) → IsMeasure cx.now.dl.now m → Means (λ all. map tree_of all.items) (checked_trees cx.now m
+        (tree_inner cx.now m nesting.entry.depth_left) (outer_of nesting.entry.above) (inside_of instance.entry)
+        instance.entry.item.now fields.now) result }
 {
-    let trees = trees_of(cx, budget, above, inside, fields, depth_left)?;
-    check_transparent(cx, item, trees.as_slice())?;
+    let trees = trees_of(cx, budget, nesting, instance, fields)?;
+    check_transparent(cx, instance.item, trees.as_slice())?;
     Ok(trees)
 }
 
@@ -339,18 +320,17 @@ fn checked_trees<'a>(
 fn trees_of<'a>(
     cx: &Context<'a, '_>,
     budget: &mut Budget<'a>,
-    above: &Above<'_>,
-    inside: Env<'_>,
+    nesting: Nesting<'_>,
+    instance: Instance<'a, '_>,
     fields: &'a [Field],
-    depth_left: u32,
 ) -> Result<Vec<TypeTree>, Stop>
-    ensures { (m : Measure) → IsMeasure cx.now.dl.now m → Means (λ all. map tree_of all.items)
-        (field_trees cx.now m (tree_inner cx.now m depth_left) (outer_of above.now) (where_of inside.entry)
+    ensures { (m : Measure) → IsMeasure cx.now.dl.now m → Means (λ all. map tree_of all.items) (field_trees cx.now m
+        (tree_inner cx.now m nesting.entry.depth_left) (outer_of nesting.entry.above) (inside_of instance.entry)
         fields.now) result }
 {
     let mut trees = Vec::new(cx.alloc);
     for field in fields {
-        let one = tree_of_field(cx, budget, above, inside, field, depth_left)?;
+        let one = tree_of_field(cx, budget, nesting, instance, field)?;
         push_tree(&mut trees, one)?;
     }
     Ok(trees)
@@ -361,16 +341,16 @@ fn trees_of<'a>(
 fn tree_of_field<'a>(
     cx: &Context<'a, '_>,
     budget: &mut Budget<'a>,
-    above: &Above<'_>,
-    inside: Env<'_>,
+    nesting: Nesting<'_>,
+    instance: Instance<'a, '_>,
     field: &'a Field,
-    depth_left: u32,
 ) -> Result<TypeTree, Stop>
     ensures { (m : Measure) → IsMeasure cx.now.dl.now m → Means tree_of (field_tree cx.now m
-        (tree_inner cx.now m depth_left) (outer_of above.now) (where_of inside.entry) field.now) result }
+        (tree_inner cx.now m nesting.entry.depth_left) (outer_of nesting.entry.above) (inside_of instance.entry)
+        field.now) result }
 {
-    let ty = resolve(cx, budget, inside, &field.ty, most_deep())?;
-    match formed_tree(cx, budget, above, &ty, depth_left) {
+    let ty = resolve(cx, budget, instance.inside(), &field.ty)?;
+    match formed_tree(cx, budget, nesting, &ty) {
         Ok(one) => Ok(one),
         Err(stop) => Err(stop_in(field.start, stop)),
     }
@@ -381,15 +361,15 @@ fn tree_of_field<'a>(
 fn formed_tree<'a>(
     cx: &Context<'a, '_>,
     budget: &mut Budget<'a>,
-    above: &Above<'_>,
+    nesting: Nesting<'_>,
     ty: &Ty,
-    depth_left: u32,
 ) -> Result<TypeTree, Stop>
     ensures { (m : Measure) → IsMeasure cx.now.dl.now m → Means tree_of
-        (formed_tree cx.now m (tree_inner cx.now m depth_left) (outer_of above.now) (ty_of ty.now)) result }
+        (formed_tree cx.now m (tree_inner cx.now m nesting.entry.depth_left)
+        (outer_of nesting.entry.above) (ty_of ty.now)) result }
 {
     check_formed(cx, budget, ty)?;
-    tree(cx, budget, above, ty, depth_left)
+    tree(cx, budget, nesting, ty)
 }
 
 /// A fault that has no place, reported at this one.
@@ -409,19 +389,18 @@ fn stop_in(at: Place, stop: Stop) -> Stop
 fn tree_of_union<'a>(
     cx: &Context<'a, '_>,
     budget: &mut Budget<'a>,
-    above: &Above<'_>,
-    inside: Env<'_>,
-    item: &'a Item,
+    nesting: Nesting<'_>,
+    instance: Instance<'a, '_>,
     fields: &'a Fields,
-    depth_left: u32,
 ) -> Result<TypeTree, Stop>
     ensures { (m : Measure) → IsMeasure cx.now.dl.now m → Means tree_of (union_tree cx.now m
-        (tree_inner cx.now m depth_left) (outer_of above.now) (where_of inside.entry) item.now fields.now.all.items) result }
+        (tree_inner cx.now m nesting.entry.depth_left) (outer_of nesting.entry.above) (inside_of instance.entry)
+        instance.entry.item.now fields.now.all.items) result }
 {
-    let repr = repr_of(item)?;
-    check_packed(cx, budget, item, fields, most_deep())?;
-    let trees = trees_of(cx, budget, above, inside, fields.all.as_slice(), depth_left)?;
-    check_union_fields(cx, budget, inside, fields.all.as_slice())?;
+    let repr = repr_of(instance.item)?;
+    check_packed(cx, budget, instance.item, fields, most_deep())?;
+    let trees = trees_of(cx, budget, nesting, instance, fields.all.as_slice())?;
+    check_union_fields(cx, budget, instance.inside(), fields.all.as_slice())?;
     Ok(TypeTree::Union {
         repr,
         fields: trees,
@@ -434,19 +413,17 @@ fn tree_of_union<'a>(
 fn tree_of_enum<'a>(
     cx: &Context<'a, '_>,
     budget: &mut Budget<'a>,
-    above: &Above<'_>,
-    inside: Env<'_>,
-    item: &'a Item,
+    nesting: Nesting<'_>,
+    instance: Instance<'a, '_>,
     all: &'a Enum,
-    depth_left: u32,
 ) -> Result<TypeTree, Stop>
     ensures { (m : Measure) → IsMeasure cx.now.dl.now m → Means tree_of (enum_tree cx.now m
-        (tree_inner cx.now m depth_left) (outer_of above.now) (where_of inside.entry) item.now all.now.variants.items) result }
+        (tree_inner cx.now m nesting.entry.depth_left) (outer_of nesting.entry.above) (inside_of instance.entry)
+        instance.entry.item.now all.now.variants.items) result }
 {
-    let repr = repr_of(item)?;
-    check_discriminants(item, all)?;
-    let all = all.variants.as_slice();
-    let variants = trees_of_variants(cx, budget, above, inside, item, all, depth_left)?;
+    let repr = repr_of(instance.item)?;
+    check_discriminants(instance.item, all)?;
+    let variants = trees_of_variants(cx, budget, nesting, instance, all.variants.as_slice())?;
     Ok(TypeTree::Enum { repr, variants })
 }
 
@@ -456,22 +433,19 @@ fn tree_of_enum<'a>(
 fn trees_of_variants<'a>(
     cx: &Context<'a, '_>,
     budget: &mut Budget<'a>,
-    above: &Above<'_>,
-    inside: Env<'_>,
-    item: &'a Item,
+    nesting: Nesting<'_>,
+    instance: Instance<'a, '_>,
     all: &'a [Variant],
-    depth_left: u32,
 ) -> Result<Vec<(u128, Vec<TypeTree>)>, Stop>
     ensures { (m : Measure) → IsMeasure cx.now.dl.now m → Means (λ made. map variant_as_tree made.items)
-        (variant_trees cx.now m (tree_inner cx.now m depth_left) (outer_of above.now) (where_of inside.entry) item.now None
-        all.now) result }
+        (variant_trees cx.now m (tree_inner cx.now m nesting.entry.depth_left) (outer_of nesting.entry.above)
+        (inside_of instance.entry) instance.entry.item.now None all.now) result }
 {
     let mut variants = Vec::new(cx.alloc);
     let mut last = None;
     for variant in all {
-        let (number, fields) = tree_of_variant(
-            cx, budget, above, inside, item, variant, last, depth_left,
-        )?;
+        let next = NextVariant { variant, last };
+        let (number, fields) = tree_of_variant(cx, budget, nesting, instance, next)?;
         push_variant(&mut variants, number, fields)?;
         last = Some(number);
     }
@@ -498,20 +472,18 @@ fn push_variant(
 fn tree_of_variant<'a>(
     cx: &Context<'a, '_>,
     budget: &mut Budget<'a>,
-    above: &Above<'_>,
-    inside: Env<'_>,
-    item: &'a Item,
-    variant: &'a Variant,
-    last: Option<Int>,
-    depth_left: u32,
+    nesting: Nesting<'_>,
+    instance: Instance<'a, '_>,
+    next: NextVariant<'a>,
 ) -> Result<(Int, Vec<TypeTree>), Stop>
     ensures { (m : Measure) → IsMeasure cx.now.dl.now m → Means (λ made. (number_of_int made.0, map tree_of made.1.items))
-        (variant_tree cx.now m (tree_inner cx.now m depth_left) (outer_of above.now) (where_of inside.entry) item.now
-        (option_map number_of_int last) variant.now) result }
+        (variant_tree cx.now m (tree_inner cx.now m nesting.entry.depth_left) (outer_of nesting.entry.above)
+        (inside_of instance.entry) instance.entry.item.now (option_map number_of_int next.entry.last)
+        next.entry.variant.now) result }
 {
-    let number = discriminant_of(cx, budget, item, variant, last)?;
-    let fields = variant.fields.all.as_slice();
-    let trees = checked_trees(cx, budget, above, inside, item, fields, depth_left)?;
+    let number = discriminant_of(cx, budget, instance.item, next)?;
+    let fields = next.variant.fields.all.as_slice();
+    let trees = checked_trees(cx, budget, nesting, instance, fields)?;
     Ok((number, trees))
 }
 
@@ -521,22 +493,14 @@ fn discriminant_of<'a>(
     cx: &Context<'a, '_>,
     budget: &mut Budget<'a>,
     item: &'a Item,
-    variant: &'a Variant,
-    last: Option<Int>,
+    next: NextVariant<'a>,
 ) -> Result<Int, Stop>
-    ensures { Means number_of_int (variant_number cx.now item.now (option_map number_of_int last) variant.now) result }
+    ensures { Means number_of_int (variant_number cx.now item.now (option_map number_of_int next.entry.last)
+        next.entry.variant.now) result }
 {
-    let value = discriminant_value(
-        cx,
-        budget,
-        item,
-        variant.discriminant.as_ref(),
-        last,
-        variant.at,
-    )?;
-    match value {
-        Value::Integer(_, int) => Ok(int),
-        _ => Err(stop_at(variant.at, FaultKind::WrongType)),
+    match discriminant_value(cx, budget, item, next)? {
+        ConstValue::Integer(_, int) => Ok(int),
+        _ => Err(stop_at(next.variant.at, FaultKind::WrongType)),
     }
 }
 
@@ -545,19 +509,17 @@ fn discriminant_value<'a>(
     cx: &Context<'a, '_>,
     budget: &mut Budget<'a>,
     item: &'a Item,
-    written: Option<&'a Expr>,
-    last: Option<Int>,
-    at: Place,
-) -> Result<Value, Stop>
-    ensures { Means value_as_read
-        (discriminant_value cx.now item.now (option_map number_of_int last) at (option_copied written.entry)) result }
+    next: NextVariant<'a>,
+) -> Result<ConstValue, Stop>
+    ensures { Means value_as_read (discriminant_value cx.now item.now (option_map number_of_int next.entry.last)
+        next.entry.variant.now.at next.entry.variant.now.discriminant) result }
 {
-    match written {
+    match &next.variant.discriminant {
         Some(expr) => {
             let wanted = Some(Kind::Integer(discriminant_kind(item)));
-            evaluate(cx, budget, outside(item.module), expr, wanted, most_deep())
+            evaluate(cx, budget, outside(item.module), expr, wanted)
         }
-        None => number_behind(cx, item, last, at),
+        None => number_behind(cx, item, next.last, next.variant.at),
     }
 }
 
@@ -568,7 +530,7 @@ fn number_behind(
     item: &Item,
     last: Option<Int>,
     at: Place,
-) -> Result<Value, Stop>
+) -> Result<ConstValue, Stop>
     ensures { Means value_as_read (discriminant_value cx.now item.now (option_map number_of_int last) at None) result }
 {
     let kind = discriminant_kind(item);

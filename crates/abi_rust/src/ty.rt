@@ -46,7 +46,7 @@ pub(crate) enum Ty {
 #[derive(Drop)]
 pub(crate) enum GenericArg {
     Type(Ty),
-    Value(Value),
+    Value(ConstValue),
 }
 
 /// A type of constants.
@@ -59,7 +59,7 @@ pub(crate) enum Kind {
 
 /// A constant's value.
 #[derive(Clone, Copy, PartialEq, Eq)]
-pub(crate) enum Value {
+pub(crate) enum ConstValue {
     Bool(bool),
     /// A character's code.
     Char(u32),
@@ -67,28 +67,28 @@ pub(crate) enum Value {
     Integer(IntegerKind, Int),
 }
 
-impl Value {
+impl ConstValue {
     /// Its type.
     pub(crate) fn kind(self) -> Kind
         ensures value { result ≡ kind_of_value self }
         ensures read { result ≡ kind_read (value_as_read self) }
     {
         match self {
-            Value::Bool(_) => Kind::Bool,
-            Value::Char(_) => Kind::Char,
-            Value::Integer(kind, _) => Kind::Integer(kind),
+            ConstValue::Bool(_) => Kind::Bool,
+            ConstValue::Char(_) => Kind::Char,
+            ConstValue::Integer(kind, _) => Kind::Integer(kind),
         }
     }
 }
 
 /// Whether two values are one.
-fn same_value(a: Value, b: Value) -> bool
+fn same_value(a: ConstValue, b: ConstValue) -> bool
     ensures { result ≡ same_value (value_as_read a) (value_as_read b) }
 {
     match (a, b) {
-        (Value::Bool(a), Value::Bool(b)) => { if a { b } else { !b } }
-        (Value::Char(a), Value::Char(b)) => a == b,
-        (Value::Integer(kind, a), Value::Integer(other, b)) => {
+        (ConstValue::Bool(a), ConstValue::Bool(b)) => { if a { b } else { !b } }
+        (ConstValue::Char(a), ConstValue::Char(b)) => a == b,
+        (ConstValue::Integer(kind, a), ConstValue::Integer(other, b)) => {
             same_integer(kind, other) && !a.is_below(b) && !b.is_below(a)
         }
         _ => false,

@@ -5,7 +5,7 @@ ghost use Rattle.abi_rust.specs.Names.{most_uses, target_in, targets_on, use_tar
 ghost use Rattle.abi_rust.specs.Standing.{IsMemory};
 
 use crate::fault::Stop;
-use crate::paths::{Found, Space, target_of};
+use crate::paths::{NameTables, Resolution, Space, target_of};
 use crate::scope::Scope;
 use crate::standing::numbered;
 use rust_source::{Items, Use};
@@ -18,9 +18,9 @@ const MOST_USES: u32 = 32;
 #[derive(Clone, Copy)]
 pub(crate) struct UseTarget {
     /// A type or a module, if anything.
-    pub(crate) types: Option<Found>,
+    pub(crate) types: Option<Resolution>,
     /// A constant, if anything.
-    pub(crate) values: Option<Found>,
+    pub(crate) values: Option<Resolution>,
 }
 
 /// How many uses may lead from one to another.
@@ -32,7 +32,7 @@ fn most_uses() -> u32
 }
 
 /// What the use of this number is known to bring in, of these names.
-pub(crate) fn target_in(targets: &[UseTarget], number: u32, space: Space) -> Option<Found>
+pub(crate) fn target_in(targets: &[UseTarget], number: u32, space: Space) -> Option<Resolution>
     ensures { result ≡ target_in targets.now number space }
 {
     let target = targets.get(number as usize)?;
@@ -92,13 +92,18 @@ fn use_target(
 ) -> UseTarget
     ensures { result ≡ use_target items.now scope.now known.now number used.now }
 {
+    let tables = NameTables {
+        items,
+        scope,
+        targets: known,
+    };
     let values = if used.is_glob {
         None
     } else {
-        target_of(items, scope, known, number, used, Space::Values)
+        target_of(tables, number, used, Space::Values)
     };
     UseTarget {
-        types: target_of(items, scope, known, number, used, Space::Types),
+        types: target_of(tables, number, used, Space::Types),
         values,
     }
 }
@@ -130,16 +135,16 @@ fn is_same_target(a: UseTarget, b: UseTarget) -> bool
 }
 
 /// Whether two names are found to lead to the same.
-fn is_same(a: Option<Found>, b: Option<Found>) -> bool
+fn is_same(a: Option<Resolution>, b: Option<Resolution>) -> bool
     ensures { result ≡ true → a ≡ b }
 {
     match (a, b) {
-        (Some(Found::Module(a)), Some(Found::Module(b))) => a == b,
-        (Some(Found::Item(a)), Some(Found::Item(b))) => a == b,
-        (Some(Found::Primitive(a)), Some(Found::Primitive(b))) => a == b,
-        (Some(Found::Hidden(a)), Some(Found::Hidden(b))) => a == b,
-        (Some(Found::Ambiguous(a)), Some(Found::Ambiguous(b))) => a == b,
-        (Some(Found::Unknown), Some(Found::Unknown)) => true,
+        (Some(Resolution::Module(a)), Some(Resolution::Module(b))) => a == b,
+        (Some(Resolution::Item(a)), Some(Resolution::Item(b))) => a == b,
+        (Some(Resolution::Primitive(a)), Some(Resolution::Primitive(b))) => a == b,
+        (Some(Resolution::Hidden(a)), Some(Resolution::Hidden(b))) => a == b,
+        (Some(Resolution::Ambiguous(a)), Some(Resolution::Ambiguous(b))) => a == b,
+        (Some(Resolution::Unknown), Some(Resolution::Unknown)) => true,
         (None, None) => true,
         _ => false,
     }

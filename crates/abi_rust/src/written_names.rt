@@ -12,7 +12,7 @@ ghost use Rattle.abi_rust.specs.WrittenNames.{argument_named, begins_inside, eac
 use crate::budget::{Context, Env, less, most_deep};
 use crate::fault::{FaultKind, Stop, stop_at};
 use crate::kind::{parameter_named, single_name};
-use crate::paths::{Found, Space, find, find_of};
+use crate::paths::{Resolution, Space, find, find_prefix};
 use crate::places::place_of_path;
 use rust_source::{
     Argument, Field, Item, ItemKind, Parameter, ParameterKind, Path, Segment, Symbol, Type, Variant,
@@ -55,8 +55,7 @@ fn begins_inside(cx: &Context<'_, '_>, env: Env<'_>, path: &Path) -> bool
 fn leads_out(cx: &Context<'_, '_>, env: Env<'_>, path: &Path) -> bool
     ensures { result ≡ leads_out cx.now (where_of env.entry) path.now }
 {
-    path.segments.len() > 1
-        && find_of(cx.items, cx.scope, env.module, path, 1, Space::Types).is_none()
+    path.segments.len() > 1 && find_prefix(cx.items, cx.scope, env.module, path, 1).is_none()
 }
 
 /// Whether a path that is read as a type names a constant.
@@ -105,9 +104,12 @@ fn check_found(
         (found cx.now.items.now cx.now.scope.now env.entry.«module» path.now Space.Types) }
 {
     match find(cx.items, cx.scope, env.module, path, Space::Types) {
-        Some(Found::Module(_)) => refuse_module(cx, env, path),
-        Some(Found::Hidden(name)) => Err(stop_at(place_of_path(path), FaultKind::Private(name))),
-        Some(Found::Ambiguous(name)) => {
+        Some(Resolution::Module(_)) => refuse_module(cx, env, path),
+        Some(Resolution::Hidden(name)) => Err(stop_at(
+            place_of_path(path),
+            FaultKind::Private(name),
+        )),
+        Some(Resolution::Ambiguous(name)) => {
             Err(stop_at(place_of_path(path), FaultKind::Ambiguous(name)))
         }
         Some(_) => Ok(()),
@@ -354,6 +356,7 @@ fn inside_item(number: u32, item: &Item) -> Env<'static>
         module: item.module,
         item: Some(number),
         given: &[],
+        depth_left: most_deep(),
     }
 }
 

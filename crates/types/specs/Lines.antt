@@ -3,8 +3,8 @@ use Rattle.std.specs.Prelude.{ℕ, ◌+◌, ◌==◌, List, [], ◌∷◌, ◌++
 use Rattle.std.specs.Fmt.{decimal}
 use Rattle.abi_tree.specs.Placed.{Placed, layout_of}
 use Rattle.abi_rust.specs.declared.report.Label.{Label}
-use Rattle.abi_rust.specs.declared.report.Shape.{Shape}
-use Rattle.abi_rust.specs.declared.report.Shape.TheVariants.{Plain, Struct, Union, Enum}
+use Rattle.abi_rust.specs.declared.report.ReportShape.{ReportShape}
+use Rattle.abi_rust.specs.declared.report.ReportShape.TheVariants.{Plain, Struct, Union, Enum}
 use Rattle.abi_rust.specs.declared.report.VariantLabels.{VariantLabels}
 use Rattle.abi_scalar.specs.declared.fields_shape.FieldsShape.{FieldsShape}
 use Rattle.abi_scalar.specs.declared.fields_shape.FieldsShape.TheVariants.{Arbitrary}
@@ -77,17 +77,17 @@ labelled_variants names labels placed offsets (Multiple tag encoding field varia
     several_lines names labels placed 0 variants ++ labelled_tag names labels (get_or offsets field 0) tag encoding
 
 -- where the parts of a type lie, and whether it has no values; a union has some, and of a type without names nothing is told
-abbrev pub parts_lines : Names → Shape → Placed → Layout → List ℕ
+abbrev pub parts_lines : Names → ReportShape → Placed → Layout → List ℕ
 parts_lines names Plain placed layout = []
 parts_lines names (Struct labels) placed layout = uninhabited_line layout.uninhabited ++ labelled_fields names 0 labels.items (offsets_in layout.fields)
 parts_lines names (Union labels) placed layout = labelled_fields names 0 labels.items []
 parts_lines names (Enum labels) placed layout = uninhabited_line layout.uninhabited ++ labelled_variants names labels.items placed (offsets_in layout.fields) layout.variants
 
 -- the largest niche and the padding, of a type with named parts
-abbrev pub rest_lines : Shape → Placed → List ℕ
+abbrev pub rest_lines : ReportShape → Placed → List ℕ
 rest_lines Plain placed = []
 rest_lines _ placed = niche_line (layout_of placed).largest_niche ++ padding_lines placed
 
 -- all lines of a type behind that of its name
-abbrev pub type_lines : Names → Shape → Placed → List ℕ
+abbrev pub type_lines : Names → ReportShape → Placed → List ℕ
 type_lines names shape placed = size_line (layout_of placed) ++ parts_lines names shape placed (layout_of placed) ++ rest_lines shape placed

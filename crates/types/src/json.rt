@@ -7,7 +7,7 @@ ghost use Rattle.abi_tree.specs.Placed.{layout_of};
 use crate::labels::{offset_at, offsets_of, write_field_name};
 use crate::place::locate;
 use abi_base::{Size, TargetDataLayout};
-use abi_rust::{Label, Shape, VariantLabels};
+use abi_rust::{Label, ReportShape, VariantLabels};
 use abi_scalar::{Niche, Scalar, TagEncoding, Variants};
 use abi_text::write_scalar;
 use abi_tree::{Laid, TypeTree};
@@ -259,13 +259,13 @@ fn padding_value(alloc: Global, laid: &Laid) -> Result<Value, AllocError> {
 fn put_parts(
     object: &mut Map<String, Value>,
     cx: JsonContext<'_>,
-    shape: &Shape,
+    shape: &ReportShape,
     tree: &TypeTree,
     laid: &Laid,
 ) -> Result<(), LayError> {
     match (shape, tree) {
         (
-            Shape::Struct(labels),
+            ReportShape::Struct(labels),
             TypeTree::Struct {
                 repr: _,
                 always_sized: _,
@@ -276,11 +276,11 @@ fn put_parts(
             let fields = fields_value(cx, labels, offsets, fields)?;
             put_member(cx.alloc, object, "fields", fields)?;
         }
-        (Shape::Union(labels), TypeTree::Union { repr: _, fields }) => {
+        (ReportShape::Union(labels), TypeTree::Union { repr: _, fields }) => {
             let fields = fields_value(cx, labels, &[], fields)?;
             put_member(cx.alloc, object, "fields", fields)?;
         }
-        (Shape::Enum(labels), TypeTree::Enum { repr: _, variants }) => {
+        (ReportShape::Enum(labels), TypeTree::Enum { repr: _, variants }) => {
             let all = variants_value(cx, labels, laid, variants)?;
             put_member(cx.alloc, object, "variants", all)?;
             put_member(cx.alloc, object, "tag", tag_value(cx, labels, laid)?)?;
@@ -316,7 +316,7 @@ pub(crate) fn fault_value(
 pub(crate) fn type_value(
     cx: JsonContext<'_>,
     name: &str,
-    shape: &Shape,
+    shape: &ReportShape,
     tree: &TypeTree,
     laid: &Laid,
 ) -> Result<Map<String, Value>, LayError>
@@ -327,7 +327,7 @@ pub(crate) fn type_value(
     put_text(cx.alloc, &mut object, "name", name)?;
     put_number(cx.alloc, &mut object, "size", layout.size.bytes())?;
     put_number(cx.alloc, &mut object, "align", layout.align.abi.bytes())?;
-    if !matches!(shape, Shape::Plain) {
+    if !matches!(shape, ReportShape::Plain) {
         put_parts(&mut object, cx, shape, tree, laid)?;
         put_member(
             cx.alloc,

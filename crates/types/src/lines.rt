@@ -11,7 +11,7 @@ use crate::labels::{offset_at, offsets_of, write_field_name};
 use crate::mapped::write_variant;
 use abi_base::Size;
 use abi_index::{FieldIdx, VariantIdx};
-use abi_rust::{Label, Shape, VariantLabels};
+use abi_rust::{Label, ReportShape, VariantLabels};
 use abi_scalar::{RangeInclusive, Scalar, TagEncoding, VariantLayout, Variants};
 use abi_text::{
     listed_unused, runs_of, write_niche, write_padding, write_ranges, write_scalar, write_size,
@@ -234,7 +234,7 @@ fn write_parts(
     alloc: Global,
     out: &mut String,
     names: &Names,
-    shape: &Shape,
+    shape: &ReportShape,
     laid: &Laid,
 ) -> Result<(), AllocError>
     ensures { let placed = placed_of laid.now in OnOk result (string_bytes out.new
@@ -242,13 +242,13 @@ fn write_parts(
 {
     let layout = laid.layout();
     match shape {
-        Shape::Plain => Ok(()),
-        Shape::Struct(labels) => {
+        ReportShape::Plain => Ok(()),
+        ReportShape::Struct(labels) => {
             write_uninhabited(out, layout.uninhabited)?;
             write_fields(out, names, labels, offsets_of(layout))
         }
-        Shape::Union(labels) => write_fields(out, names, labels, &[]),
-        Shape::Enum(labels) => {
+        ReportShape::Union(labels) => write_fields(out, names, labels, &[]),
+        ReportShape::Enum(labels) => {
             write_uninhabited(out, layout.uninhabited)?;
             write_variants(alloc, out, names, labels, laid)
         }
@@ -256,11 +256,11 @@ fn write_parts(
 }
 
 /// Writes the largest niche and the padding of a type with named parts.
-fn write_rest(alloc: Global, out: &mut String, shape: &Shape, laid: &Laid) -> Result<(), AllocError>
+fn write_rest(alloc: Global, out: &mut String, shape: &ReportShape, laid: &Laid) -> Result<(), AllocError>
     ensures { OnOk result (string_bytes out.new
         ≡ string_bytes out.old ++ rest_lines shape.now (placed_of laid.now)) }
 {
-    if let Shape::Plain = shape {
+    if let ReportShape::Plain = shape {
         return Ok(());
     }
     write_niche(out, laid.layout().largest_niche)?;
@@ -274,7 +274,7 @@ pub(crate) fn write_lines(
     alloc: Global,
     out: &mut String,
     names: &Names,
-    shape: &Shape,
+    shape: &ReportShape,
     laid: &Laid,
 ) -> Result<(), AllocError>
     requires align { (layout_of (placed_of laid.now)).align.abi < 64 }

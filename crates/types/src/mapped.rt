@@ -5,7 +5,7 @@ ghost use Rattle.types.specs.Labels.{label_text, labels_in, variant_text};
 
 use crate::labels::write_field_name;
 use abi_map::Called;
-use abi_rust::{Label, Shape, VariantLabels};
+use abi_rust::{Label, ReportShape, VariantLabels};
 use abi_scalar::Variants;
 use abi_tree::{Laid, PartName};
 use rust_source::Names;
@@ -90,12 +90,12 @@ impl Called for ByName<'_> {
 
 /// What the parts of a laid-out type of this shape are called. An enum that is laid out as one variant has that one's
 /// fields.
-pub(crate) fn by_name<'a>(names: &'a Names, shape: &'a Shape, laid: &Laid) -> ByName<'a> {
+pub(crate) fn by_name<'a>(names: &'a Names, shape: &'a ReportShape, laid: &Laid) -> ByName<'a> {
     let (fields, variants): (&'a [Label], &'a [VariantLabels]) = match shape {
-        Shape::Plain => (&[], &[]),
-        Shape::Struct(labels) => (labels, &[]),
-        Shape::Union(labels) => (labels, &[]),
-        Shape::Enum(variants) => match &laid.layout().variants {
+        ReportShape::Plain => (&[], &[]),
+        ReportShape::Struct(labels) => (labels, &[]),
+        ReportShape::Union(labels) => (labels, &[]),
+        ReportShape::Enum(variants) => match &laid.layout().variants {
             Variants::Single { index } => (labels_of(variants, index.as_usize()), &[]),
             _ => (&[], variants),
         },

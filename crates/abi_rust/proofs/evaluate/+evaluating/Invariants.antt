@@ -3,40 +3,34 @@ use Rattle.std.proofs.Common.{◌+◌, ◌*◌}
 use Rattle.abi_rust.proofs.evaluate.+evaluating.Given as goal
 
 abbrev pub decreases-evaluate : goal.decreases-evaluate
-decreases-evaluate l = 8 * l.depth_left
+decreases-evaluate l = 8 * l.env.depth_left
 
-abbrev pub decreases-evaluate_branch : goal.decreases-evaluate_branch
-decreases-evaluate_branch l = 8 * l.depth_left + 1
-
-abbrev pub decreases-begun : goal.decreases-begun
-decreases-begun l = 8 * l.depth_left + 1
+abbrev pub decreases-discriminant_base : goal.decreases-discriminant_base
+decreases-discriminant_base l = 8 * l.depth_left + 1
 
 abbrev pub decreases-evaluate_second : goal.decreases-evaluate_second
-decreases-evaluate_second l = 8 * l.depth_left + 1
+decreases-evaluate_second l = 8 * l.env.depth_left + 1
 
 abbrev pub decreases-constant : goal.decreases-constant
 decreases-constant l = 8 * l.depth_left + 1
 
 abbrev pub decreases-evaluate_unary : goal.decreases-evaluate_unary
-decreases-evaluate_unary l = 8 * l.depth_left + 1
+decreases-evaluate_unary l = 8 * l.env.depth_left + 1
 
 abbrev pub decreases-discriminant : goal.decreases-discriminant
 decreases-discriminant l = 8 * l.depth_left + 2
 
 abbrev pub decreases-evaluate_binary : goal.decreases-evaluate_binary
-decreases-evaluate_binary l = 8 * l.depth_left + 2
+decreases-evaluate_binary l = 8 * l.env.depth_left + 2
 
 abbrev pub decreases-evaluate_operand : goal.decreases-evaluate_operand
-decreases-evaluate_operand l = 8 * l.depth_left + 3
+decreases-evaluate_operand l = 8 * l.env.depth_left + 3
 
 abbrev pub decreases-evaluate_path : goal.decreases-evaluate_path
-decreases-evaluate_path l = 8 * l.depth_left + 2
+decreases-evaluate_path l = 8 * l.env.depth_left + 2
 
 abbrev pub decreases-evaluate_cast : goal.decreases-evaluate_cast
-decreases-evaluate_cast l = 8 * l.depth_left + 4
+decreases-evaluate_cast l = 8 * l.env.depth_left + 4
 
 abbrev pub decreases-evaluate_any : goal.decreases-evaluate_any
-decreases-evaluate_any l = 8 * l.depth_left + 5
-
-abbrev pub decreases-evaluate_typed : goal.decreases-evaluate_typed
-decreases-evaluate_typed l = 8 * l.depth_left + 6
+decreases-evaluate_any l = 8 * l.env.depth_left + 5

@@ -5,5 +5,5 @@ use Rattle.abi_rust.proofs.paths.among.Given as goal
 -- the ways that are left bring, beside what the others did, what all of them bring
 abbrev pub invariant-loop-way : goal.invariant-loop-way
 invariant-loop-way l =
-    among l.items l.scope (target_in l.targets) l.ways l.lookup l.all (drop l.way-index l.ways)
-    ≡ among l.items l.scope (target_in l.targets) l.ways l.lookup None l.ways
+    among l.tables.items.now l.tables.scope.now (target_in l.tables.targets.now) l.ways l.lookup l.all (drop l.way-index l.ways)
+    ≡ among l.tables.items.now l.tables.scope.now (target_in l.tables.targets.now) l.ways l.lookup None l.ways

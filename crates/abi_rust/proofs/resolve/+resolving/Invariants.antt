@@ -6,52 +6,49 @@ use Rattle.abi_rust.specs.Types.{all_given, ty_of, where_of}
 use Rattle.abi_rust.proofs.resolve.+resolving.Given as goal
 
 abbrev pub decreases-resolve : goal.decreases-resolve
-decreases-resolve l = 8 * l.depth_left
+decreases-resolve l = 8 * l.env.depth_left
 
 abbrev pub decreases-resolve_item : goal.decreases-resolve_item
-decreases-resolve_item l = 8 * l.depth_left
+decreases-resolve_item l = 8 * l.env.depth_left
 
 abbrev pub decreases-type_given_by : goal.decreases-type_given_by
-decreases-type_given_by l = 8 * l.depth_left + 1
+decreases-type_given_by l = 8 * l.env.depth_left + 1
 
 abbrev pub decreases-given_by_default : goal.decreases-given_by_default
-decreases-given_by_default l = 8 * l.depth_left + 1
+decreases-given_by_default l = 8 * l.inside.depth_left + 1
 
 abbrev pub decreases-item_under : goal.decreases-item_under
 decreases-item_under l = 8 * l.depth_left + 1
 
 abbrev pub decreases-resolve_tuple : goal.decreases-resolve_tuple
-decreases-resolve_tuple l = 8 * l.depth_left + 1
-
-abbrev pub decreases-given_by : goal.decreases-given_by
-decreases-given_by l = 8 * l.depth_left + 2
+decreases-resolve_tuple l = 8 * l.env.depth_left + 1
 
 abbrev pub decreases-give_one : goal.decreases-give_one
-decreases-give_one l = 8 * l.depth_left + 3
+decreases-give_one l = 8 * l.env.depth_left + 2
 
 abbrev pub decreases-give : goal.decreases-give
-decreases-give l = 8 * l.depth_left + 4
+decreases-give l = 8 * l.env.depth_left + 3
 
-abbrev pub decreases-resolve_item_with : goal.decreases-resolve_item_with
-decreases-resolve_item_with l = 8 * l.depth_left + 5
+abbrev pub decreases-instantiate : goal.decreases-instantiate
+decreases-instantiate l = 8 * l.env.depth_left + 4
 
 abbrev pub decreases-resolve_named : goal.decreases-resolve_named
-decreases-resolve_named l = 8 * l.depth_left + 1
+decreases-resolve_named l = 8 * l.env.depth_left + 1
 
 abbrev pub decreases-resolve_path : goal.decreases-resolve_path
-decreases-resolve_path l = 8 * l.depth_left + 2
+decreases-resolve_path l = 8 * l.env.depth_left + 2
 
-abbrev pub decreases-resolve_with : goal.decreases-resolve_with
-decreases-resolve_with l = 8 * l.depth_left + 3
+abbrev pub decreases-resolve_kind : goal.decreases-resolve_kind
+decreases-resolve_kind l = 8 * l.env.depth_left + 3
 
 -- the types that are left, behind those that are made, make the tuple that all make
 abbrev pub invariant-resolve_tuple-loop-part : goal.invariant-resolve_tuple-loop-part
 invariant-resolve_tuple-loop-part l =
-    tuple_from l.cx (inner l.cx l.depth_left) (where_of l.env) (map ty_of l.resolved.items) (drop l.part-index l.parts)
-    ≡ tuple_from l.cx (inner l.cx l.depth_left) (where_of l.env) [] l.parts
+    tuple_from l.cx (inner l.cx l.env.depth_left) (where_of l.env) (map ty_of l.resolved.items) (drop l.part-index l.parts)
+    ≡ tuple_from l.cx (inner l.cx l.env.depth_left) (where_of l.env) [] l.parts
 
 -- the parameters that are left are given the same behind those that are given so much
 abbrev pub invariant-give-loop-index : goal.invariant-give-loop-index
 invariant-give-loop-index l =
-    give_from l.cx (inner l.cx l.depth_left) (where_of l.env) l.number l.item l.last (all_given l.given.items) (drop l.index l.item.parameters.items) (drop l.index (out-Segment l.last).arguments.items)
-    ≡ give_from l.cx (inner l.cx l.depth_left) (where_of l.env) l.number l.item l.last [] l.item.parameters.items (out-Segment l.last).arguments.items
+    give_from l.cx (inner l.cx l.env.depth_left) (where_of l.env) l.named.number l.named.item l.named.last (all_given l.given.items) (drop l.index l.named.item.parameters.items) (drop l.index (out-Segment l.named.last).arguments.items)
+    ≡ give_from l.cx (inner l.cx l.env.depth_left) (where_of l.env) l.named.number l.named.item l.named.last [] l.named.item.parameters.items (out-Segment l.named.last).arguments.items
