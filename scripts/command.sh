@@ -66,6 +66,15 @@ end_untold() {
   exit 127
 }
 
+# Adds the other sources below the folder of a file, which the run knows by this name, to those that are copied.
+add_sources_below() {
+  local folder=$(dirname "$1") known file
+  known=$(dirname "$2")/
+  while IFS= read -r -d '' file; do
+    [ "$folder/$file" -ef "$1" ] || data+=(--data "${known#./}$file=$(realpath "$folder/$file")")
+  done < <(cd "$folder" && find . -name '*.rs' -type f -printf '%P\0')
+}
+
 # Runs a program with these words: proved, where it is, and else the same sources unproved. The status is the program's.
 run_program() {
   local program=$1 status=0 word name words=() data=()
@@ -82,6 +91,9 @@ run_program() {
         name=$(realpath -ms --relative-to=. "$word" | sed -E 's|^(\.\./)*||')
       fi
       data+=(--data "$name=$(realpath "$word")")
+      if [ -n "${follows:-}" ] && [[ "/$word" == */lib.rs || "/$word" == */main.rs || " $* " == *" --root "* ]]; then
+        add_sources_below "$word" "$name"
+      fi
     fi
     words+=("$name")
   done

@@ -13,6 +13,7 @@ use Rattle.abi_rust.specs.declared.ways.Way.{Way}
 use Rattle.abi_rust.specs.Names.{module_found, most_uses, target_in, use_targets}
 use Rattle.abi_rust.specs.Scope.{nowhere, numbered, reached_from}
 use Rattle.abi_rust.specs.ScopeNames.{HasSameNames}
+use Rattle.abi_rust.specs.Unread.{is_read}
 use Rattle.abi_rust.specs.Ways.{leads_on}
 
 -- how many ways of globs are kept of a module
@@ -38,15 +39,16 @@ abbrev pub glob_target : Scope → (use_number : ℕ) → Use → Option Glob
 glob_target scope n u =
     if u.is_glob then option_map (glob_to u) (other_than u.«module» (module_found (target_in scope.use_targets.items n Types))) else None
 
--- nowhere, but for a module, and for an item: the glob of an enum brings in its variants, which are no types
-abbrev pub nowhere_by : Option Resolution → Option ℕ
-nowhere_by (Some (Module m)) = None
-nowhere_by (Some (Item n)) = None
-nowhere_by _ = Some nowhere
+-- nowhere, but for a module that is read, and for an item: the glob of an enum brings in its variants, which are no types
+abbrev pub nowhere_by : Items → Option Resolution → Option ℕ
+nowhere_by items (Some (Module m)) = if is_read items m then None else Some nowhere
+nowhere_by items (Some (Item n)) = None
+nowhere_by items _ = Some nowhere
 
 -- the use of this number as a glob, if it is one that leads to nothing that is read
-abbrev pub lost_target : Scope → (use_number : ℕ) → Use → Option Glob
-lost_target scope n u = if u.is_glob then option_map (glob_to u) (nowhere_by (target_in scope.use_targets.items n Types)) else None
+abbrev pub lost_target : Items → Scope → (use_number : ℕ) → Use → Option Glob
+lost_target items scope n u =
+    if u.is_glob then option_map (glob_to u) (nowhere_by items (target_in scope.use_targets.items n Types)) else None
 
 -- they are the same module, or no module both
 abbrev pub same_visibility : Option ℕ → Option ℕ → Bool
@@ -87,7 +89,7 @@ globs_added items scope direct = with_globs (glob_target scope) 0 items.uses.ite
 
 -- each module's own globs, and behind those the ones that lead nowhere
 abbrev pub lost_added : Items → Scope → (direct : List (List Glob)) → List (List Glob)
-lost_added items scope direct = with_globs (lost_target scope) 0 items.uses.items direct
+lost_added items scope direct = with_globs (lost_target items scope) 0 items.uses.items direct
 
 -- a way that leads to nothing that is read
 abbrev pub lost_way : Way

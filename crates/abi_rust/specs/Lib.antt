@@ -28,6 +28,7 @@ pub mod TypeReport
 pub mod Trees
 pub mod Types
 pub mod Values
+pub mod Unread
 pub mod Visible
 pub mod Ways
 pub mod Words

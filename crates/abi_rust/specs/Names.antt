@@ -18,6 +18,7 @@ use Rattle.abi_rust.specs.declared.scope.Scope.{Scope}
 use Rattle.abi_rust.specs.declared.use_targets.UseTarget.{UseTarget}
 use Rattle.abi_rust.specs.declared.ways.Way.{Way}
 use Rattle.abi_rust.specs.Scope.{constant_standing, leads_nowhere, module_in, numbered, reached_from, several, type_standing, use_in}
+use Rattle.abi_rust.specs.Unread.{is_read}
 use Rattle.abi_rust.specs.Visible.{is_visible, most_modules, parent}
 use Rattle.abi_rust.specs.Ways.{all_along, is_way_visible}
 use Rattle.abi_rust.specs.Words.{is_std, primitive_named, is_same_name}
@@ -181,12 +182,14 @@ agreed name (Some one) (Some other) =
 abbrev pub names_in_path : Path → List Symbol
 names_in_path p = map (λ s. (out-Segment s).name) (out-Path p).segments.items
 
--- a name that a glob may bring into a module, if one leads to nothing that is read: it stands before the names of the
--- prelude and of the language. At the head of a use it is none of the standard library's own names, since it would be
--- ambiguous there
+-- a name that a module may have which isn't read, or that a glob may bring into one, if one leads to nothing that is
+-- read: it stands before the names of the prelude and of the language. At the head of a use it is none of the standard
+-- library's own names, since it would be ambiguous there
 abbrev pub perhaps : Items → Scope → (inside : ℕ) → Lookup → Option Resolution
 perhaps items scope m a =
-    if leads_nowhere items scope m a.from && not (is_some a.skipped && is_std scope.words a.name) then Some Unknown else None
+    if not (is_read items m) || (leads_nowhere items scope m a.from && not (is_some a.skipped && is_std scope.words a.name))
+    then Some Unknown
+    else None
 
 module _ (items : Items) (scope : Scope) where
   module _ (brought : (use_number : ℕ) → Space → Option Resolution) where

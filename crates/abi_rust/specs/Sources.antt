@@ -1,5 +1,5 @@
 -- What the sources that were read hold.
-use Rattle.std.specs.Prelude.{◌≡◌, ◌⊎◌, ℕ, zero, suc, ◌-◌, nat_eq, nat_le, Bool, true, false, ◌&&◌, if◌then◌else◌, codes, List, [], ◌++◌, length, slice_get, Option, Some, None, Result, Ok, Err}
+use Rattle.std.specs.Prelude.{◌≡◌, ◌⊎◌, ℕ, zero, suc, ◌+◌, ◌-◌, nat_eq, nat_le, Bool, true, false, ◌&&◌, if◌then◌else◌, codes, List, [], ◌∷◌, ◌++◌, length, slice_get, Option, Some, None, Result, Ok, Err}
 use Rattle.std.specs.Option.{option_map}
 use Rattle.abi_base.specs.declared.data_layout.TargetDataLayout.{TargetDataLayout}
 use Rattle.abi_rust.specs.declared.fault.Fault.{Fault as FaultReported}
@@ -32,7 +32,7 @@ use Rattle.rust_source.specs.declared.names.Names.{Names}
 use Rattle.rust_source.specs.declared.place.Place.{Place}
 use Rattle.rust_source.specs.declared.place.Symbol.{Symbol}
 
--- the items: the standard library's, and then the file's
+-- the items: the standard library's, and then the files'
 abbrev pub items_read : Sources → List Item
 items_read s = s.items.items.items
 
@@ -46,13 +46,21 @@ abbrev pub is_type_alone : Option Item → Bool
 is_type_alone None = false
 is_type_alone (Some it) = is_type it.kind && nat_eq (length it.parameters.items) 0
 
--- an item that is reported on by itself: one of the file, which stands behind the standard library's, that is a type by itself
+-- an item that is reported on by itself: one of the files, which stands behind the standard library's, that is a type by itself
 abbrev pub is_reported : Sources → (item : ℕ) → Bool
 is_reported s item = nat_le s.first item && is_type_alone (slice_get (items_read s) item)
 
--- where a place of the sources is: those behind the file's beginning are the file's, and those behind the argument's are the argument's
+-- where a place is in files that begin at these, the first of which has this index: in the last that begins there or before it, and where
+-- none does, where it was before
+abbrev pub place_in_files : (index : ℕ) → (starts : List Place) → (at : ℕ) → (before : FaultPlace) → FaultPlace
+place_in_files i [] at before = before
+place_in_files i (start ∷ starts) at before =
+    place_in_files (i + 1) starts at (if nat_le start.0 at then File i (at - start.0) else before)
+
+-- where a place of the sources is: behind all files it is the argument's; those of the standard library's text are nowhere
 abbrev pub place_in_sources : Sources → (at : ℕ) → FaultPlace
-place_in_sources s at = if nat_le s.argument.0 at then Argument (at - s.argument.0) else (if nat_le s.file.0 at then File (at - s.file.0) else Nowhere)
+place_in_sources s at =
+    if nat_le s.next.0 at then Argument (at - s.next.0) else place_in_files 0 s.files.items at Nowhere
 
 -- of a place that there may be
 abbrev pub reported_place : Sources → Option Place → FaultPlace
@@ -123,7 +131,7 @@ abbrev pub Reports : Sources → TargetDataLayout → Measure → Subject → Re
 Reports s dl m subject result =
     ((s.scope ≡ None) × (result ≡ Ok None)) ⊎ ((cx : Context) × IsContextOver s dl cx × IsMeantBy s cx m subject result)
 
--- the names of an item of the file; those of the standard library's aren't checked
+-- the names of an item of the files; those of the standard library's aren't checked
 abbrev pub names_checked : Sources → Context → ℕ → Option Item → Checked
 names_checked s cx item None = Ok tt
 names_checked s cx item (Some it) =
@@ -150,7 +158,7 @@ abbrev pub ReportsRead : Sources → TargetDataLayout → Measure → Result (Op
 ReportsRead s dl m result (Ok t) = (subject : Subject) × IsWrittenIn s.root t subject × Reports s dl m subject result
 ReportsRead s dl m result (Err e) = result ≡ Err (reported_fault s (Fault (Some e.at) (Source e.kind)))
 
--- the report on the type that a text writes in the file's root
+-- the report on the type that a text writes in the first file's root
 abbrev pub ReportsWritten : (old new : Sources) → TargetDataLayout → Measure → (text : List ℕ) → Result (Option TypeReport) FaultReported → Type 0
 ReportsWritten old new dl m text result =
-    (read : Result Written SourceFault) × MeansType text old.argument.0 (texts old.names) (texts new.names) read × ReportsRead new dl m result read
+    (read : Result Written SourceFault) × MeansType text old.next.0 (texts old.names) (texts new.names) read × ReportsRead new dl m result read

@@ -8,14 +8,15 @@ use rust_source::{IntegerKind, Place, SourceFaultKind, Symbol, Unevaluated};
 use rustc_abi::LayError;
 use std::alloc::{AllocError, AllocFailed};
 
-/// Where a fault stands, in bytes from the beginning of a text that the caller handed in.
+/// Where a fault stands: in which of the files that were read, in their order, or in another text that the caller handed
+/// in, and how many bytes behind its beginning.
 #[derive(Clone, Copy, PartialEq, Eq)]
 pub enum FaultPlace {
-    /// Behind this many bytes of the file.
-    File(u32),
+    /// In the file of this index, behind so many bytes.
+    File(usize, u32),
     /// Behind this many bytes of the text that writes a type.
     Argument(u32),
-    /// At no place of either.
+    /// At no place of these.
     Nowhere,
 }
 

@@ -18,6 +18,7 @@ mod own_constants;
 mod paths;
 mod scope;
 mod standing;
+mod unread;
 mod use_targets;
 mod visible;
 mod ways;

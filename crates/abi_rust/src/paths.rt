@@ -9,6 +9,7 @@ ghost use Rattle.abi_rust.specs.Names.{agreed, along, ambiguous, among, lookup_o
 use crate::scope::Scope;
 use crate::standing::SEVERAL;
 use crate::ty::Primitive;
+use crate::unread::is_read;
 use crate::use_targets::{UseTarget, target_in};
 use crate::visible::{is_visible, most_modules, parent_of};
 use crate::ways::{Way, is_way_visible, way_at};
@@ -367,12 +368,12 @@ fn behind_module(tables: NameTables<'_>, module: u32, lookup: Lookup) -> Option<
     }
 }
 
-/// What a glob may bring into a module under a name that leads to nothing that is read.
+/// What a module may have under a name which isn't read, or a glob may bring into one that leads to nothing that is read.
 fn perhaps(items: &Items, scope: &Scope, module: u32, lookup: Lookup) -> Option<Resolution>
     ensures { result ≡ perhaps items.now scope.now «module» lookup }
 {
     let is_at_head = lookup.skipped.is_some() && scope.words.is_std(lookup.name);
-    if scope.leads_nowhere(items, module, lookup.from) && !is_at_head {
+    if !is_read(items, module) || scope.leads_nowhere(items, module, lookup.from) && !is_at_head {
         Some(Resolution::Unknown)
     } else {
         None

@@ -10,6 +10,7 @@ use crate::fault::{FaultKind, Stop, stop_at};
 use crate::own_constants::add_own_constants;
 use crate::paths::{Resolution, Space};
 use crate::standing::{Key, add_items, add_modules, add_uses, key, numbered};
+use crate::unread::is_read;
 use crate::use_targets::{UseTarget, target_in, use_targets};
 use crate::ways::{Glob, Way, is_way_visible, leads_on};
 use crate::words::{Word, Words};
@@ -177,7 +178,7 @@ impl Scope {
         ensures err { IfErr result IsMemory }
     {
         for (number, used) in items.uses.iter().enumerate() {
-            let target = self.lost_target(numbered(number), used);
+            let target = self.lost_target(items, numbered(number), used);
             let _is_new = add_target(direct, target)?;
         }
         Ok(())
@@ -185,14 +186,14 @@ impl Scope {
 
     /// The use of this number as a glob, if it is one that leads to nothing that is read. The glob of an enum brings in
     /// its variants, which are no types.
-    fn lost_target(&self, number: u32, used: &Use) -> Option<Glob>
-        ensures { result ≡ lost_target self.now number used.now }
+    fn lost_target(&self, items: &Items, number: u32, used: &Use) -> Option<Glob>
+        ensures { result ≡ lost_target items.now self.now number used.now }
     {
         if !used.is_glob {
             return None;
         }
         match target_in(self.use_targets.as_slice(), number, Space::Types) {
-            Some(Resolution::Module(_)) => None,
+            Some(Resolution::Module(target)) if is_read(items, target) => None,
             Some(Resolution::Item(_)) => None,
             _ => Some(glob_to(used, NOWHERE)),
         }

@@ -1,10 +1,12 @@
-//! A file of Rust source, and what its types are.
+//! Files of Rust source, and what their types are.
 
-ghost use Rattle.std.specs.Prelude.{◌≡◌, ◌-◌, ◌<◌, ◌^◌, ◌++◌, IfErr, IfOk, OnOk, Some, [], length, slice_get, string_bytes};
+ghost use Rattle.std.specs.Prelude.{◌≡◌, ◌⊎◌, ◌-◌, ◌<◌, ◌^◌, ◌++◌, Err, IfErr, IfOk, Ok, OnOk, Some, [], length, slice_get, string_bytes};
 ghost use Rattle.rust_source.specs.Growth.{BeginsWith};
 ghost use Rattle.abi_rust.specs.Measure.{IsMeasure, Measure};
-ghost use Rattle.abi_rust.specs.Reading.{AllRead, IsSourceOf, IsUnread, ReadsText, Stops, StopsReading, file_kind, having, is_library, library_text, place_behind, root_name};
-ghost use Rattle.abi_rust.specs.Sources.{ChecksNames, IsContextOver, Reports, ReportsWritten, names_checked, reported_fault, is_reported, items_read, module_path, qualified_name, place_of_attribute, place_of_item, reported_place, pointer_bits};
+ghost use Rattle.abi_rust.specs.Reading.{FileRead, FileReads, HasScope, IsSourceOf, IsUnread, LibraryRead, ReadsText, Stops, file_kind, having, is_library, library_text, place_behind, root_of};
+ghost use Rattle.abi_rust.specs.ScopeNames.{repeated_of};
+ghost use Rattle.abi_rust.specs.Sources.{ChecksNames, IsContextOver, Reports, ReportsWritten, names_checked, reported_fault, is_reported, items_read, module_path, qualified_name, place_in_files, place_of_attribute, place_of_item, reported_place, pointer_bits};
+ghost use Rattle.abi_rust.specs.Standing.{IsMemory};
 
 use crate::budget::Context;
 use crate::fault::{Fault, FaultKind, FaultPlace, Stop, stop_at};
@@ -15,7 +17,8 @@ use crate::words::Words;
 use crate::written_names::check_item;
 use abi_base::TargetDataLayout;
 use rust_source::{
-    CfgTarget, ItemKind, Items, Names, ParameterKind, Place, Source, Symbol, read_items, read_type,
+    CfgTarget, ItemKind, Items, Module, Names, Outline, Place, Source, SourceRoot, Symbol,
+    read_items, read_type,
 };
 use std::alloc::{AllocError, Global};
 
@@ -28,20 +31,26 @@ enum TextKind {
     CrateRoot,
     /// Another file of a crate: a module whose name and place in the crate aren't known.
     OtherFile,
+    /// The file of a module that another file of the crate names.
+    Module(Outline),
 }
 
-/// The standard library's types, a file of Rust source, and the names of both.
+/// The standard library's types, files of Rust source, and the names of all.
 #[derive(Drop)]
 pub struct Sources {
     names: Names,
     words: Words,
     items: Items,
     scope: Option<Scope>,
-    /// How many bytes of sources stand before the file's.
+    /// How many bytes of sources stand before each of the files.
+    files: Vec<Place>,
+    /// How many bytes of sources stand before the first file.
     file: Place,
-    /// How many bytes of sources stand before the text that writes a type.
-    argument: Place,
-    /// The module of the file's items that stand in no other.
+    /// How many bytes of sources stand before the text that comes next: another file, or one that writes a type.
+    next: Place,
+    /// The standard library's module that stands in no other.
+    std_root: u32,
+    /// The module of the first file's items that stand in no other.
     root: u32,
     /// How many items are the standard library's.
     first: usize,
@@ -61,57 +70,141 @@ impl Sources {
             words,
             items: Items::new(alloc),
             scope: None,
+            files: Vec::new(alloc),
             file: Place(0),
-            argument: Place(0),
+            next: Place(0),
+            std_root: 0,
             root: 0,
             first: 0,
             passed_over: 0,
         })
     }
 
-    /// Reads the standard library's types, and then the file, which is the root of a crate or another file of one. It is
-    /// called once. After a fault there are no types.
-    pub fn read(
-        &mut self,
-        alloc: Global,
-        target: &CfgTarget<'_>,
-        is_root: bool,
-        text: &str,
-    ) -> Result<(), Fault>
-        ensures ok { IfOk result (λ _. AllRead target.now is_root text.now self.old self.new) }
+    /// Reads the standard library's types. It is called once, before files are added. After a fault there are no types.
+    pub fn begin(&mut self, alloc: Global, target: &CfgTarget<'_>) -> Result<(), Fault>
+        ensures ok { IfOk result (λ _. LibraryRead target.now self.old self.new (Ok self.new.std_root)) }
         ensures err { IfErr result (λ fault. (stop : Stop) × (fault ≡ reported_fault self.new stop) ×
-            StopsReading target.now is_root text.now self.old self.new stop) }
+            LibraryRead target.now self.old self.new (Err stop)) }
     {
-        match self.read_both(alloc, target, is_root, text) {
-            Ok(()) => Ok(()),
+        match self.read_library(alloc, target) {
+            Ok(std_root) => {
+                self.std_root = std_root;
+                Ok(())
+            }
             Err(stop) => Err(self.fault(stop)),
         }
     }
 
-    /// Reads the standard library's types, and then the file.
-    fn read_both(
+    /// Reads the standard library's types, and answers the number of their root module.
+    fn read_library(&mut self, alloc: Global, target: &CfgTarget<'_>) -> Result<u32, Stop>
+        ensures { LibraryRead target.now self.old self.new result }
+    {
+        let library = library_text();
+        self.file = behind(Place(0), library);
+        self.next = self.file;
+        let read = self.read_text(alloc, target, library, Place(0), TextKind::Library);
+        self.first = self.items.items.len();
+        self.passed_over = self.items.passed_over;
+        read
+    }
+
+    /// Adds the file that is read first, the root of a crate or another file of one, and answers the number of its root
+    /// module. After a fault there are no types.
+    pub fn add_root(
         &mut self,
         alloc: Global,
         target: &CfgTarget<'_>,
         is_root: bool,
         text: &str,
-    ) -> Result<(), Stop>
-        ensures ok { IfOk result (λ _. AllRead target.now is_root text.now self.old self.new) }
-        ensures err { IfErr result
-            (λ stop. StopsReading target.now is_root text.now self.old self.new stop) }
+    ) -> Result<u32, Fault>
+        ensures ok { IfOk result (λ root. FileRead target.now (file_kind is_root) text.now self.old self.new (Ok root)) }
+        ensures root { IfOk result (λ root. self.new.root ≡ root) }
+        ensures err { IfErr result (λ fault. (stop : Stop) × (fault ≡ reported_fault self.new stop) ×
+            FileReads target.now (file_kind is_root) text.now self.old self.new (Err stop)) }
     {
-        let library = library_text();
-        self.file = behind(Place(0), library);
-        let std_root = self.read_text(alloc, target, library, Place(0), TextKind::Library)?;
-        self.first = self.items.items.len();
-        self.passed_over = self.items.passed_over;
-        self.argument = behind(self.file, text);
-        self.root = self.read_text(alloc, target, text, self.file, file_kind(is_root))?;
-        self.scope = Some(Scope::new(alloc, self.words, &self.items, std_root)?);
-        Ok(())
+        match self.read_file(alloc, target, file_kind(is_root), text) {
+            Ok(root) => {
+                self.root = root;
+                Ok(root)
+            }
+            Err(stop) => Err(self.fault(stop)),
+        }
     }
 
-    /// Reads a text whose first byte has a place, in a new root module.
+    /// Adds the file of a module that a file before it names, and answers the module's number. After a fault there are no
+    /// types.
+    pub fn add_module(
+        &mut self,
+        alloc: Global,
+        target: &CfgTarget<'_>,
+        outline: Outline,
+        text: &str,
+    ) -> Result<u32, Fault>
+        ensures ok { IfOk result (λ number. FileRead target.now (TextKind.Module outline) text.now self.old self.new (Ok number)) }
+        ensures err { IfErr result (λ fault. (stop : Stop) × (fault ≡ reported_fault self.new stop) ×
+            FileReads target.now (TextKind.Module outline) text.now self.old self.new (Err stop)) }
+        ensures root { self.new.root ≡ self.old.root }
+    {
+        match self.read_file(alloc, target, TextKind::Module(outline), text) {
+            Ok(number) => Ok(number),
+            Err(stop) => Err(self.fault(stop)),
+        }
+    }
+
+    /// Reads a file behind the texts that were read, and answers the number of the module that its items are in.
+    fn read_file(
+        &mut self,
+        alloc: Global,
+        target: &CfgTarget<'_>,
+        kind: TextKind,
+        text: &str,
+    ) -> Result<u32, Stop>
+        ensures read { FileReads target.now kind text.now self.old self.new result }
+        ensures root { self.new.root ≡ self.old.root }
+    {
+        self.scope = None;
+        self.files.push(self.next)?;
+        self.read_behind(alloc, target, kind, text)
+    }
+
+    /// Reads a text behind those that were read.
+    fn read_behind(
+        &mut self,
+        alloc: Global,
+        target: &CfgTarget<'_>,
+        kind: TextKind,
+        text: &str,
+    ) -> Result<u32, Stop>
+        ensures read { Stops (ReadsText target.now text.now self.old.next.0 kind
+            (having self.old) (having self.new)) result }
+        ensures front { BeginsWith (having self.new).1.items (having self.old).1.items }
+        ensures next { self.new.next.0 ≡ place_behind self.old.next.0 text.now }
+        ensures same { self.new
+            ≡ record self.old { names = self.new.names; items = self.new.items; next = self.new.next } }
+    {
+        let start = self.next;
+        self.next = behind(start, text);
+        self.read_text(alloc, target, text, start, kind)
+    }
+
+    /// Finds the names of all modules, once all files are added. `RepeatedType` and `RepeatedConstant` where a module has
+    /// two types or two constants of one name, or a type and a module. After a fault there are no types.
+    pub fn finish(&mut self, alloc: Global) -> Result<(), Fault>
+        ensures ok { IfOk result (λ _. HasScope self.new) }
+        ensures err { IfErr result (λ fault. (stop : Stop) × (fault ≡ reported_fault self.new stop) ×
+            ((repeated_of self.new.items ≡ Some stop) ⊎ IsMemory stop)) }
+        ensures same { self.new ≡ record self.old { scope = self.new.scope } }
+    {
+        match Scope::new(alloc, self.words, &self.items, self.std_root) {
+            Ok(scope) => {
+                self.scope = Some(scope);
+                Ok(())
+            }
+            Err(stop) => Err(self.fault(stop)),
+        }
+    }
+
+    /// Reads a text whose first byte has a place.
     fn read_text(
         &mut self,
         alloc: Global,
@@ -131,6 +224,27 @@ impl Sources {
             Ok(root) => Ok(root),
             Err(fault) => Err(stop_at(fault.at, FaultKind::Source(fault.kind))),
         }
+    }
+
+    /// The modules whose items stand in other files, in the order of the sources.
+    pub fn outlines(&self) -> &[Outline]
+        ensures { result.now ≡ self.now.items.outlines.items }
+    {
+        self.items.outlines.as_slice()
+    }
+
+    /// The module of this number.
+    pub fn module(&self, number: u32) -> Option<Module>
+        ensures { result ≡ slice_get self.now.items.modules.items number }
+    {
+        self.items.modules.get(number as usize).copied()
+    }
+
+    /// Where a module's name stands whose items stand in another file.
+    pub fn place_of_outline(&self, outline: Outline) -> FaultPlace
+        ensures { result ≡ reported_place self.now (Some outline.at) }
+    {
+        self.place(Some(outline.at))
     }
 
     /// A fault as it is reported.
@@ -156,24 +270,22 @@ impl Sources {
         let Some(Place(at)) = at else {
             return FaultPlace::Nowhere;
         };
-        if at >= self.argument.0 {
-            FaultPlace::Argument(at - self.argument.0)
-        } else if at >= self.file.0 {
-            FaultPlace::File(at - self.file.0)
+        if at >= self.next.0 {
+            FaultPlace::Argument(at - self.next.0)
         } else {
-            FaultPlace::Nowhere
+            place_in_files(self.files.as_slice(), at)
         }
     }
 
-    /// How many items there are: the standard library's, and then the file's.
+    /// How many items there are: the standard library's, and then the files'.
     pub fn item_count(&self) -> usize
         ensures { result ≡ length (items_read self.now) }
     {
         self.items.items.len()
     }
 
-    /// Whether the item is reported on by itself: a struct, an enum, a union or an alias of the file that has no type and
-    /// no constant as a parameter.
+    /// Whether the item is reported on by itself: a struct, an enum, a union or an alias of the files that has no type
+    /// and no constant as a parameter.
     pub fn is_reported(&self, item: usize) -> bool
         ensures { result ≡ is_reported self.now item }
     {
@@ -213,7 +325,7 @@ impl Sources {
         }
     }
 
-    /// Writes the item's name with the modules of the file that it is in, as `module::Name`.
+    /// Writes the item's name with the modules that it is in, as `module::Name`.
     pub fn write_name(&self, out: &mut String, item: usize) -> Result<(), AllocError>
         ensures { OnOk result (string_bytes out.new ≡ string_bytes out.old ++
             qualified_name self.now (slice_get (items_read self.now) item)) }
@@ -249,7 +361,7 @@ impl Sources {
         out.push_str("::")
     }
 
-    /// How many items of the file were passed over, since they are no types and no constants.
+    /// How many items of the files were passed over, since they are no types and no constants.
     pub fn passed_over(&self) -> u64
         ensures { result ≡ self.now.items.passed_over - self.now.passed_over }
     {
@@ -275,8 +387,8 @@ impl Sources {
         &self.items
     }
 
-    /// The type that an item is, with the names of its parts. None where its size isn't known by itself, and before a
-    /// source was read. The fault is the first, with its place.
+    /// The type that an item is, with the names of its parts. None where its size isn't known by itself, and before the
+    /// names were found. The fault is the first, with its place.
     pub fn type_of(
         &self,
         alloc: Global,
@@ -327,8 +439,8 @@ impl Sources {
         }
     }
 
-    /// The type that a text writes, with the names of the file's root. None where its size isn't known, and before a
-    /// source was read. The fault is the first, with its place.
+    /// The type that a text writes, with the names of the file's root. None where its size isn't known, and before the
+    /// names were found. The fault is the first, with its place.
     pub fn type_written(
         &mut self,
         alloc: Global,
@@ -337,7 +449,7 @@ impl Sources {
     ) -> Result<Option<TypeReport>, Fault>
         ensures { (m : Measure) → IsMeasure dl.now m → ReportsWritten self.old self.new dl.now m text.now result }
     {
-        let ty = match read_type(alloc, &mut self.names, text, self.argument) {
+        let ty = match read_type(alloc, &mut self.names, text, self.next) {
             Ok(ty) => ty,
             Err(fault) => return Err(self.fault(Stop::Fault(
                 Some(fault.at),
@@ -408,14 +520,15 @@ fn file_kind(is_root: bool) -> TextKind
     }
 }
 
-/// The name of a text's root module.
-fn root_name(kind: TextKind) -> Symbol
-    ensures { result ≡ root_name kind }
+/// Where a text's items go.
+fn root_of(kind: TextKind) -> SourceRoot
+    ensures { result ≡ root_of kind }
 {
     match kind {
-        TextKind::Library => Symbol::CRATE,
-        TextKind::CrateRoot => Symbol::CRATE,
-        TextKind::OtherFile => Symbol::UNDERSCORE,
+        TextKind::Library => SourceRoot::New(Symbol::CRATE),
+        TextKind::CrateRoot => SourceRoot::New(Symbol::CRATE),
+        TextKind::OtherFile => SourceRoot::New(Symbol::UNDERSCORE),
+        TextKind::Module(outline) => SourceRoot::Outline(outline),
     }
 }
 
@@ -436,9 +549,22 @@ fn source_of<'a>(text: &'a str, start: Place, kind: TextKind) -> Source<'a>
     Source {
         text,
         start,
-        root: root_name(kind),
+        root: root_of(kind),
         is_trusted: is_library(kind),
     }
+}
+
+/// Where a place is in files that begin at these: in the last that begins there or before it.
+fn place_in_files(starts: &[Place], at: u32) -> FaultPlace
+    ensures { result ≡ place_in_files 0 starts.now at FaultPlace.Nowhere }
+{
+    let mut found = FaultPlace::Nowhere;
+    for (index, start) in starts.iter().enumerate() {
+        if start.0 <= at {
+            found = FaultPlace::File(index, at - start.0);
+        }
+    }
+    found
 }
 
 /// The place behind a text, and one more.

@@ -1,6 +1,7 @@
 -- A turn of the loops over the modules around one, and what stands at their ends.
-use Rattle.std.proofs.Common.{◌≡◌, ℕ, ◌+◌, ◌-◌, ◌<◌, ◌≤◌, List, None, ap}
+use Rattle.std.proofs.Common.{◌≡◌, ℕ, ◌+◌, ◌-◌, ◌<◌, ◌≤◌, List, None, ap, refl}
 use Rattle.rust_source.specs.declared.item.Module.{Module}
+use Rattle.rust_source.specs.Outlines.{room_by, room_from}
 use Rattle.rust_source.specs.Visibility.{around, child_by, child_from, root_by, root_from}
 use Rattle.rust_source.proofs.Turns.{none_left, turns}
 
@@ -16,3 +17,9 @@ module _ (modules : List Module) (n i : ℕ) where
 
   pub child_done : (outer number : ℕ) → n ≤ i → child_from modules (n - i) outer number ≡ None
   child_done outer number past = ap (λ k. child_from modules k outer number) (none_left n i past)
+
+  pub room_more : (number : ℕ) → i < n → room_from modules (n - i) number ≡ room_by (n - i) (room_from modules (n - (i + 1))) (around modules number)
+  room_more number left = rw (turns n i left) refl
+
+  pub room_done : (number : ℕ) → n ≤ i → room_from modules (n - i) number ≡ 0
+  room_done number past = ap (λ k. room_from modules k number) (none_left n i past)

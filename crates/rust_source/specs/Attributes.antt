@@ -1,5 +1,6 @@
 -- What the attributes of items, fields and variants say.
 use Rattle.std.specs.Prelude.{ℕ, zero, suc, ◌-◌, ◌==◌, ◌&&◌, ◌||◌, Bool, true, false, not, codes, is_some, length, List, Option, None, Some, Result, Ok, Err, if◌then◌else◌}
+use Rattle.std.specs.Option.{option_or}
 use Rattle.std.specs.Str.{bytes_eq}
 use Rattle.rust_source.specs.declared.fault.SourceFault.{SourceFault}
 use Rattle.rust_source.specs.declared.fault.SourceFaultKind.TheVariants.{BadAttribute, BadCfg, BadRepr, ExpectedComma, TooDeep}
@@ -11,8 +12,11 @@ use Rattle.rust_source.specs.declared.reader.cursor.Cursor.{Cursor}
 use Rattle.rust_source.specs.declared.reader.literals.Number.{Number}
 use Rattle.rust_source.specs.declared.reader.literals.Number.TheVariants as number
 use Rattle.rust_source.specs.declared.tokens.token.Bracket.TheVariants as bracket
+use Rattle.rust_source.specs.declared.tokens.token.Token.{Token}
+use Rattle.rust_source.specs.declared.tokens.token.TokenKind.{TokenKind}
+use Rattle.rust_source.specs.declared.tokens.token.TokenKind.TheVariants as kind
 use Rattle.rust_source.specs.Cfg.{Noted, predicate_read}
-use Rattle.rust_source.specs.Cursor.{behind_group, comma_passed, expected, fault, inside, is_done, is_next, passed, place}
+use Rattle.rust_source.specs.Cursor.{behind_group, comma_passed, expected, fault, inside, is_done, is_next, is_nth, nth, passed, place}
 use Rattle.rust_source.specs.KnownAttributes.{is_among, known_names, names_copy, names_other_trait}
 use Rattle.rust_source.specs.Reading.{read_on, read_as, then_read, word_text}
 use Rattle.rust_source.specs.Repr.{asks, misplaced, next_number, with_repr}
@@ -55,6 +59,7 @@ none_said = record {
   derives_copy = false;
   has_helpers = false;
   unknown = None;
+  path = None;
 }
 
 -- what is said where a `cfg` is all that its parentheses have
@@ -80,11 +85,30 @@ abbrev pub repr_said : Attributes → Result Repr SourceFault → Attributes
 repr_said said (Ok r) = record said { repr = r }
 repr_said said (Err e) = faulty said e
 
+-- a token of this kind, where it is a string
+abbrev pub as_text : Token → TokenKind → Option Token
+as_text t kind.Text = Some t
+as_text t _ = None
+
+-- the token, where there is one and it is a string
+abbrev pub text_in : Option Token → Option Token
+text_in None = None
+text_in (Some t) = as_text t t.kind
+
+-- the string behind the name of an attribute that is next, and `=`
+abbrev pub value_next : Cursor → Option Token
+value_next c = if is_nth c 1 61 then text_in (nth c 2) else None
+
+-- with what `path` says that is next, unless it was said before
+abbrev pub with_path : Attributes → Cursor → Attributes
+with_path said c = record said { path = option_or said.path (value_next c) }
+
 -- what an attribute says that has no list in parentheses: `cfg`, `cfg_attr` and `repr` need one
 unfoldable pub listless_said : Attributes → Cursor → Result Attributes SourceFault
 listless_said said c =
     if bytes_eq (word_text c) (codes "cfg") || bytes_eq (word_text c) (codes "cfg_attr") then Err (fault c BadCfg)
-    else (if bytes_eq (word_text c) (codes "repr") then Ok (faulty said (fault c BadRepr)) else Ok said)
+    else (if bytes_eq (word_text c) (codes "repr") then Ok (faulty said (fault c BadRepr))
+    else (if bytes_eq (word_text c) (codes "path") then Ok (with_path said c) else Ok said))
 
 -- what an attribute says that has nothing within it that is read by attributes, of this name
 unfoldable pub simple_said : Rules → Attributes → (name : List ℕ) → Cursor → Result Attributes SourceFault

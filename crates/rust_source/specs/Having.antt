@@ -1,7 +1,8 @@
 -- What sources have so far, beside the names that have numbers.
-use Rattle.std.specs.Prelude.{ℕ, ◌+◌, ◌-◌, ◌^◌, List, [], ◌∷◌, ◌++◌, length, min, Result}
+use Rattle.std.specs.Prelude.{ℕ, ◌+◌, ◌-◌, ◌^◌, Bool, false, true, List, [], ◌∷◌, ◌++◌, length, min, slice_set, Result}
 use Rattle.rust_source.specs.declared.fault.SourceFault.{SourceFault}
 use Rattle.rust_source.specs.declared.item.Module.{Module}
+use Rattle.rust_source.specs.declared.place.Place.{Place}
 use Rattle.rust_source.specs.declared.reader.attributes.Attributes.{Attributes}
 use Rattle.rust_source.specs.declared.reader.visibility.Standing.{Standing}
 use Rattle.rust_source.specs.Cfg.{Noted}
@@ -54,13 +55,22 @@ with_owner p items = record items { owners = items.owners ++ p ∷ [] }
 abbrev pub next_owner : ItemsRead → ℕ
 next_owner items = min (length items.owners) (2 ^ 32 - 1)
 
--- with a module more
-abbrev pub with_module : Module → ItemsRead → ItemsRead
-with_module m items = record items { modules = items.modules ++ m ∷ [] }
-
 -- the number of the next module
 abbrev pub next_module : ItemsRead → ℕ
 next_module items = min (length items.modules) (2 ^ 32 - 1)
+
+-- with a module more, whose items are read or aren't
+abbrev pub with_module : Module → (is_read : Bool) → ItemsRead → ItemsRead
+with_module m is_read items = record items { modules = items.modules ++ m ∷ []; are_read = items.are_read ++ is_read ∷ [] }
+
+-- with a module more whose items stand in another file, whose name stands there: a module without items, and an outline
+abbrev pub with_outline : Module → Place → ItemsRead → ItemsRead
+with_outline m at items =
+    record (with_module m false items) { outlines = items.outlines ++ record { «module» = next_module items; at = at } ∷ [] }
+
+-- the items of this module are read
+abbrev pub with_read : (number : ℕ) → ItemsRead → ItemsRead
+with_read number items = record items { are_read = slice_set items.are_read number true }
 
 -- with an item more that is passed over; no more than 2 ^ 64 - 1 are counted
 abbrev pub with_passed : ItemsRead → ItemsRead

@@ -10,6 +10,7 @@ use Rattle.rust_source.specs.declared.item.ItemKind.{ItemKind}
 use Rattle.rust_source.specs.declared.item.ItemKind.TheVariants as item
 use Rattle.rust_source.specs.declared.item.Items.{Items}
 use Rattle.rust_source.specs.declared.item.Module.{Module}
+use Rattle.rust_source.specs.declared.item.Outline.{Outline}
 use Rattle.rust_source.specs.declared.item.Parameter.{Parameter}
 use Rattle.rust_source.specs.declared.item.ParameterKind.{ParameterKind}
 use Rattle.rust_source.specs.declared.item.ParameterKind.TheVariants as parameter
@@ -84,9 +85,11 @@ pub record UseRead : Type 0 where
   pub name : Option Symbol
   pub is_glob : Bool
 
--- what sources have
+-- what sources have: of each module whether its items were read, and the modules whose items stand in other files
 pub record ItemsRead : Type 0 where
   pub modules : List Module
+  pub are_read : List Bool
+  pub outlines : List Outline
   pub items : List ItemRead
   pub uses : List UseRead
   pub owners : List PathRead
@@ -95,7 +98,7 @@ pub record ItemsRead : Type 0 where
 
 -- nothing is read
 abbrev pub no_items : ItemsRead
-no_items = record { modules = []; items = []; uses = []; owners = []; passed_over = 0; unknown = [] }
+no_items = record { modules = []; are_read = []; outlines = []; items = []; uses = []; owners = []; passed_over = 0; unknown = [] }
 
 -- the program's field as the definitions see it, and so on
 abbrev pub field_of : Field → FieldRead
@@ -154,6 +157,8 @@ use_of u = record { inside = u.«module»; visible_in = u.visible_in; is_global 
 abbrev pub items_as_read : Items → ItemsRead
 items_as_read i = record {
   modules = i.modules.items;
+  are_read = i.are_read.items;
+  outlines = i.outlines.items;
   items = map item_of i.items.items;
   uses = map use_of i.uses.items;
   owners = map path_as_read i.owners.items;

@@ -32,5 +32,6 @@ pub mod Definition
 pub mod Having
 pub mod Constants
 pub mod Functions
+pub mod Outlines
 pub mod Modules
 pub mod Sources

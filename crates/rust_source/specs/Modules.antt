@@ -3,11 +3,13 @@ use Rattle.std.specs.Prelude.{ℕ, zero, suc, ◌+◌, ◌-◌, ◌&&◌, ◌||�
 use Rattle.std.specs.Str.{bytes_eq}
 use Rattle.rust_source.specs.declared.fault.SourceFault.{SourceFault}
 use Rattle.rust_source.specs.declared.fault.SourceFaultKind.TheVariants.{ExpectedItem, ExpectedSemicolon, TooDeep}
+use Rattle.rust_source.specs.declared.item.Module.{Module}
 use Rattle.rust_source.specs.declared.place.Place.{Place}
 use Rattle.rust_source.specs.declared.place.Symbol.{Symbol}
 use Rattle.rust_source.specs.declared.reader.attributes.Attributes.{Attributes}
 use Rattle.rust_source.specs.declared.reader.attributes.Rules.{Rules}
 use Rattle.rust_source.specs.declared.reader.cursor.Cursor.{Cursor}
+use Rattle.rust_source.specs.declared.reader.modules.SourceRoot.{SourceRoot}
 use Rattle.rust_source.specs.declared.reader.visibility.Standing.{Standing}
 use Rattle.rust_source.specs.declared.tokens.keyword.Keyword.{Keyword}
 use Rattle.rust_source.specs.declared.tokens.keyword.Keyword.TheVariants as keyword
@@ -16,10 +18,11 @@ use Rattle.rust_source.specs.declared.tokens.token.TokenKind.{TokenKind}
 use Rattle.rust_source.specs.declared.tokens.token.TokenKind.TheVariants as kind
 use Rattle.rust_source.specs.Attributes.{attributes_read}
 use Rattle.rust_source.specs.Constants.{own_constants}
-use Rattle.rust_source.specs.Cursor.{behind_group, expected, inside, is_done, is_next, is_open, is_keyword_next, next_kind, nth, passed}
+use Rattle.rust_source.specs.Cursor.{behind_group, expected, inside, is_done, is_next, is_keyword_next, next_kind, passed}
 use Rattle.rust_source.specs.Fields.{by_names, visibility_passed}
 use Rattle.rust_source.specs.Functions.{function_read}
 use Rattle.rust_source.specs.Having.{Having, item_of_module, next_module, noted, using_within, with_item, with_module, with_passed, noted_within}
+use Rattle.rust_source.specs.Outlines.{number_of_root, outline_read, path_named, room_of_root, with_root}
 use Rattle.rust_source.specs.Passing.{item_passed}
 use Rattle.rust_source.specs.Reading.{read_on, is_named, is_path_name, name, word_text}
 use Rattle.rust_source.specs.Repr.{misplaced}
@@ -56,7 +59,6 @@ passes keyword.Extern = true
 passes keyword.Unsafe = true
 passes keyword.Async = true
 passes keyword.Const = true
-passes keyword.Mod = true
 passes _ = false
 
 -- the token is a keyword that begins what is passed over
@@ -89,9 +91,9 @@ use_read standing c known =
     (using_within known.1
     (tree_read most_nested (record { «module» = standing.«module»; visible_in = standing.visible_in; is_global = false }) [] c (known.0, known.1.uses)))
 
--- a module with its items is next
-abbrev pub is_inline_module : Cursor → Bool
-is_inline_module c = is_keyword_next c keyword.Mod && is_open bracket.Curly (nth c 2)
+-- a module of this name, in the one that it stands in
+abbrev pub module_of : Standing → Symbol → (path : Option Symbol) → Module
+module_of standing name path = record { name = name; parent = Some standing.«module»; visible_in = standing.visible_in; path = path }
 
 -- how the items of the module with this number are read, which stands within others
 abbrev pub ModuleReader : Type 0
@@ -115,26 +117,30 @@ module _ (rules : Rules) where
       read_on (λ (w : Option DefinitionRead × Cursor) ns. next_item_by standing said w.0 w.1 ns) (noted_within known.1 (definition_read rules c (noted known)))
 
   module _ (M : ModuleReader) where
-    -- the items of a module, which stand in these braces
-    abbrev pub module_items : (number : ℕ) → Cursor → Option Cursor → Having → Result Cursor SourceFault × Having
-    module_items number c None known = done c known
-    module_items number c (Some i) known = read_on (λ _ ns. done (behind_group c) ns) (M number i known)
+    -- the items of a module, which is begun: those within its braces
+    abbrev pub items_within : Module → Cursor → Having → Result (Unit {0}) SourceFault × Having
+    items_within m i known = M (next_module known.1) i (known.0, with_module m true known.1)
 
-    -- a module of this name in another one
-    abbrev pub module_on : Standing → Symbol → Cursor → Having → Result Cursor SourceFault × Having
-    module_on standing name c known =
-        module_items (next_module known.1) c (inside c bracket.Curly)
-        (known.0, with_module (record { name = name; parent = Some standing.«module»; visible_in = standing.visible_in }) known.1)
+    -- a module, whose name stands there: its items stand in these braces, or in another file
+    abbrev pub module_by : Module → Place → Cursor → Option Cursor → Having → Result Cursor SourceFault × Having
+    module_by m at c None known = outline_read m at c known
+    module_by m at c (Some i) known = read_on (λ _ ns. done (behind_group c) ns) (items_within m i known)
+
+    -- the module of a name, with what its attributes say of its file
+    unfoldable pub module_on : Standing → Attributes → Symbol × Place → Cursor → Having → Result Cursor SourceFault × Having
+    module_on standing said n c known =
+        read_on (λ path ns. module_by (module_of standing n.0 path) n.1 c (inside c bracket.Curly) ns)
+        (by_names known.1 (path_named c said.path known.0))
 
     -- the module that is next
-    unfoldable pub module_read : Standing → Cursor → Having → Result Cursor SourceFault × Having
-    module_read standing c known =
-        read_on (λ (n : (Symbol × Place) × Cursor) ns. module_on standing n.0.0 n.1 ns) (by_names known.1 (name (passed c 1) known.0))
+    unfoldable pub module_read : Standing → Attributes → Cursor → Having → Result Cursor SourceFault × Having
+    module_read standing said c known =
+        read_on (λ (n : (Symbol × Place) × Cursor) ns. module_on standing said n.0 n.1 ns) (by_names known.1 (name (passed c 1) known.0))
 
     -- what stands behind these attributes and its `pub`, and what follows it
     abbrev pub standing_read : Standing → Attributes → Cursor → Having → Result Cursor SourceFault × Having
     standing_read standing said c known =
-        read_on (λ _ ns. if is_inline_module c then module_read standing c ns else item_read standing said c ns) (repr_judged said c, known)
+        read_on (λ _ ns. if is_keyword_next c keyword.Mod then module_read standing said c ns else item_read standing said c ns) (repr_judged said c, known)
 
     -- what stands behind these attributes, which no `cfg` takes out, and what follows it
     unfoldable pub said_read : (number : ℕ) → Attributes → Cursor → Having → Result Cursor SourceFault × Having
@@ -164,9 +170,9 @@ unfoldable pub module_within : Rules → (depth_left : ℕ) → ModuleReader
 module_within rules zero number c known = fault_next TooDeep c known
 module_within rules (suc depth_left) number c known = all_read rules (module_within rules depth_left) number c known
 
--- the items of a source, in a new root module of this name, and that module's number; modules may stand in 200 others
-unfoldable pub root_read : Rules → Symbol → Cursor → Having → Result ℕ SourceFault × Having
-root_read rules name c known =
-    read_on (λ _ ns. done (next_module known.1) ns)
-    (all_read rules (module_within rules (most_nested + 1)) (next_module known.1) c
-    (known.0, with_module (record { name = name; parent = None; visible_in = None }) known.1))
+-- the items of a source, in the module into which they go, and that module's number; modules may stand in 200 others,
+-- those of other files with them
+unfoldable pub root_read : Rules → SourceRoot → Cursor → Having → Result ℕ SourceFault × Having
+root_read rules root c known =
+    read_on (λ _ ns. done (number_of_root root known.1) ns)
+    (module_within rules (room_of_root root known.1) (number_of_root root known.1) c (known.0, with_root root known.1))

@@ -173,6 +173,17 @@ pub struct Module {
     pub parent: Option<u32>,
     /// The module in which, with all that stand inside it, its name may be used; none where it may be used everywhere.
     pub visible_in: Option<u32>,
+    /// What `#[path = ".."]` says of the file, or the folder, that its items stand in.
+    pub path: Option<Symbol>,
+}
+
+/// A module whose items stand in another file: `mod name;`.
+#[derive(Clone, Copy, PartialEq, Eq)]
+pub struct Outline {
+    /// The module, by its number.
+    pub module: u32,
+    /// Where its name stands.
+    pub at: Place,
 }
 
 /// What sources have, in the order in which they were read.
@@ -180,6 +191,10 @@ pub struct Module {
 pub struct Items {
     /// The modules, by their numbers. A module stands behind the one that it is in.
     pub modules: Vec<Module>,
+    /// For each module, whether its items were read: those that stand in another file are not, until its source is read.
+    pub are_read: Vec<bool>,
+    /// The modules whose items stand in other files, in the order of the sources.
+    pub outlines: Vec<Outline>,
     /// The items, in the order of the source.
     pub items: Vec<Item>,
     pub uses: Vec<Use>,

@@ -16,11 +16,12 @@ mod tokens;
 
 pub use fault::{SourceFault, SourceFaultKind};
 pub use item::{
-    Const, Enum, Field, FieldName, Fields, Item, ItemKind, Items, Module, Parameter, ParameterKind,
-    Repr, Use, UsedName, Variant,
+    Const, Enum, Field, FieldName, Fields, Item, ItemKind, Items, Module, Outline, Parameter,
+    ParameterKind, Repr, Use, UsedName, Variant,
 };
 pub use names::Names;
 pub use place::{Place, Symbol};
+pub use reader::modules::SourceRoot;
 pub use reader::{Source, read_items, read_type};
 pub use syntax::{Argument, Binary, Expr, IntegerKind, Path, Segment, Type, Unary, Unevaluated};
 pub use target::{CfgTarget, Family};

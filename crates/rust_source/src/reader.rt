@@ -14,6 +14,7 @@ mod items;
 mod known_attributes;
 mod lifetimes;
 mod literals;
+pub(crate) mod modules;
 mod naming;
 mod operators;
 mod passing;
@@ -40,11 +41,12 @@ ghost use Rattle.rust_source.specs.Tokens.{Yields};
 use crate::fault::{SourceFault, SourceFaultKind};
 use crate::item::Items;
 use crate::names::Names;
-use crate::place::{Place, Symbol};
+use crate::place::Place;
 use crate::reader::attributes::Rules;
 use crate::reader::cursor::{Cursor, fault, is_done};
 use crate::reader::depth::most_nested;
 use crate::reader::items::read_root;
+use crate::reader::modules::SourceRoot;
 use crate::syntax::Type;
 use crate::target::CfgTarget;
 use crate::tokens::token::Token;
@@ -58,9 +60,8 @@ pub struct Source<'a> {
     pub text: &'a str,
     /// The place of its first byte, among all sources that are read together.
     pub start: Place,
-    /// The name of its root module: `crate` where it is the root of a crate. Another source stands in modules that
-    /// aren't read.
-    pub root: Symbol,
+    /// Where its items go.
+    pub root: SourceRoot,
     /// Whether it may use what only the standard library's own sources may.
     pub is_trusted: bool,
 }
@@ -75,6 +76,8 @@ impl Items {
     {
         Items {
             modules: Vec::new(alloc),
+            are_read: Vec::new(alloc),
+            outlines: Vec::new(alloc),
             items: Vec::new(alloc),
             uses: Vec::new(alloc),
             owners: Vec::new(alloc),
@@ -110,9 +113,10 @@ fn cursor_at_start<'a>(text: &'a str, start: Place, tokens: &'a [Token]) -> Curs
     }
 }
 
-/// Reads a source. Its items go behind those that are there, in a new root module of its name, whose number is the
-/// answer. What `cfg` takes out is left out, and so are constants of types that can't be read. The modules, the items and
-/// the uses that are there stay in front.
+/// Reads a source. Its items go behind those that are there, in a new root module or in one whose items stand in another
+/// file, and the answer is the module's number. What `cfg` takes out is left out, and so are constants of types that can't
+/// be read. A `mod name;` makes a module without items, and an outline. The modules, the items and the uses that are there
+/// stay in front.
 ///
 /// The first fault is reported, at its place; what was read before it is among the items then. `OutOfMemory` comes where a
 /// growth of memory was refused.

@@ -2,3 +2,4 @@
 pub mod Labels
 -- a type as lines
 pub mod Lines
+pub mod ModuleFiles

@@ -2,6 +2,7 @@
 
 ghost use Rattle.abi_text.specs.LaidOut.{IsLaidOut};
 
+use crate::crate_files::{CrateFiles, Search, SourceFile};
 use crate::json::{JsonContext, fault_value, put_text, type_value};
 use crate::lines::write_lines;
 use crate::mapped::by_name;
@@ -16,16 +17,6 @@ use rust_source::Names;
 use rustc_abi::{LayError, lay_out};
 use serde_json::{Map, Value};
 use std::alloc::{AllocError, Global};
-
-/// A source that types are reported of.
-#[derive(Clone, Copy)]
-pub(crate) struct SourceFile<'a> {
-    /// Its name, where it isn't standard input.
-    pub(crate) name: Option<&'a str>,
-    pub(crate) text: &'a str,
-    /// Whether it is the root of a crate, which `crate` names in it.
-    pub(crate) is_root: bool,
-}
 
 /// What came of the types that were asked for.
 #[derive(Clone, Copy, PartialEq, Eq)]
@@ -80,9 +71,23 @@ impl FileReport {
     }
 }
 
-/// Why there is no report.
+/// Why there is no report on a file.
 #[derive(Drop)]
-pub(crate) enum SourceFailure {
+pub(crate) enum FileFailure {
+    OutOfMemory,
+    /// What came of it, and what is written of that on standard error.
+    Stopped(Outcome, String),
+}
+
+impl From<AllocError> for FileFailure {
+    fn from(_error: AllocError) -> Self {
+        FileFailure::OutOfMemory
+    }
+}
+
+/// Why there is no report on a type, or on all.
+#[derive(Drop)]
+enum SourceFailure {
     OutOfMemory,
     /// The source, or a type that was asked for, has a fault: where it lies, and what it is.
     Fault(Spot, String),
@@ -119,24 +124,42 @@ fn refusal_of(alloc: Global, name: &str, own: Spot, error: LayError) -> SourceFa
     }
 }
 
-/// What the reports on all types of a file under one target have in common.
+/// What is asked of a file under one target.
 #[derive(Clone, Copy)]
-struct ReportContext<'a> {
+struct TargetContext<'a> {
     options: &'a Options<'a>,
-    file: SourceFile<'a>,
+    target: &'a Target,
     dl: &'a TargetDataLayout,
     /// The target's name, where several were asked for.
     triple: Option<&'static str>,
 }
 
+/// What the reports on all types of a file under one target have in common.
+#[derive(Clone, Copy)]
+struct ReportContext<'a> {
+    options: &'a Options<'a>,
+    files: &'a CrateFiles<'a>,
+    dl: &'a TargetDataLayout,
+    /// The target's name, where several were asked for.
+    triple: Option<&'static str>,
+}
+
+/// Why the file of a module isn't read.
+#[derive(Drop)]
+struct ModuleFault {
+    /// Where the module's name stands.
+    at: Spot,
+    text: String,
+}
+
 /// The text that a fault lies in, with what it is called, and the byte; none where the fault has no place.
 fn text_at<'a>(
     options: &Options<'a>,
-    file: SourceFile<'a>,
+    files: &'a CrateFiles<'_>,
     at: Spot,
 ) -> Option<(&'a str, &'a str, usize)> {
     match at {
-        Spot::File(byte) => Some((file.name.unwrap_or("<stdin>"), file.text, byte as usize)),
+        Spot::File(index, byte) => Some((files.name(index), files.text(index), byte as usize)),
         Spot::Asked(before, byte) => {
             let written = options.types.get(before).copied().unwrap_or("");
             Some(("--type", written, byte as usize))
@@ -146,19 +169,97 @@ fn text_at<'a>(
 }
 
 /// Writes a fault, with the line in which it lies. An error comes where a growth of memory was refused.
-pub(crate) fn write_failure(
+fn write_failure(
     out: &mut String,
     options: &Options<'_>,
-    file: SourceFile<'_>,
+    files: &CrateFiles<'_>,
     at: Spot,
     text: &str,
 ) -> Result<(), AllocError> {
-    match text_at(options, file, at) {
+    match text_at(options, files, at) {
         Some((name, source, byte)) => write_fault(out, name, source, byte, text),
         None => {
-            let name = file.name.unwrap_or("<stdin>");
+            let name = files.name(0);
             Ok(write!(out, "{name}: {text}\n")?)
         }
+    }
+}
+
+/// What is written of a failure that stops all of a file.
+fn written_failure(
+    alloc: Global,
+    options: &Options<'_>,
+    files: &CrateFiles<'_>,
+    failure: SourceFailure,
+) -> FileFailure {
+    let (outcome, at, text) = match failure {
+        SourceFailure::OutOfMemory => return FileFailure::OutOfMemory,
+        SourceFailure::Fault(at, text) => (Outcome::Faulty, at, text),
+        SourceFailure::Refused(at, text) => (Outcome::Refused, at, text),
+    };
+    let mut all = String::new(alloc);
+    match write_failure(&mut all, options, files, at, text.as_str()) {
+        Ok(()) => FileFailure::Stopped(outcome, all),
+        Err(_) => FileFailure::OutOfMemory,
+    }
+}
+
+/// Puts the fault of a module behind the others.
+fn put_fault(faults: &mut Vec<ModuleFault>, at: Spot, text: String) -> Result<(), AllocError> {
+    faults.push(ModuleFault { at, text })?;
+    Ok(())
+}
+
+/// Reads the files of modules, those that they name too, and puts the faults of those that aren't read behind the others.
+fn follow_modules(
+    rt: &HostRuntime,
+    target: &Target,
+    sources: &mut Sources,
+    files: &mut CrateFiles<'_>,
+    faults: &mut Vec<ModuleFault>,
+) -> Result<(), SourceFailure> {
+    for number in 0..usize::MAX {
+        let Some(outline) = sources.outlines().get(number).copied() else {
+            return Ok(());
+        };
+        let at = Spot::Nowhere.of(sources.place_of_outline(outline));
+        match files.find(rt, sources, outline)? {
+            Search::Found => {
+                let text = files.last_text();
+                if let Err(fault) = sources.add_module(rt.alloc(), &target.cfg, outline, text) {
+                    return Err(failure_of(rt.alloc(), sources, &fault, Spot::Nowhere));
+                }
+            }
+            Search::Fault(text) => put_fault(faults, at, text)?,
+            Search::Full(text) => return Ok(put_fault(faults, at, text)?),
+        }
+    }
+    Ok(())
+}
+
+/// Reads a file into these sources, and those of its modules where it is the root of a crate.
+fn read_files(
+    rt: &HostRuntime,
+    target: &Target,
+    sources: &mut Sources,
+    files: &mut CrateFiles<'_>,
+    faults: &mut Vec<ModuleFault>,
+) -> Result<(), SourceFailure> {
+    let alloc = rt.alloc();
+    let root = files.root;
+    if let Err(fault) = sources.begin(alloc, &target.cfg) {
+        return Err(failure_of(alloc, sources, &fault, Spot::Nowhere));
+    }
+    match sources.add_root(alloc, &target.cfg, root.is_root, root.text) {
+        Ok(module) => files.module = module,
+        Err(fault) => return Err(failure_of(alloc, sources, &fault, Spot::Nowhere)),
+    }
+    if root.is_root && root.name.is_some() {
+        follow_modules(rt, target, sources, files, faults)?;
+    }
+    match sources.finish(alloc) {
+        Ok(()) => Ok(()),
+        Err(fault) => Err(failure_of(alloc, sources, &fault, Spot::Nowhere)),
     }
 }
 
@@ -169,7 +270,7 @@ fn put_context(
     object: &mut Map<String, Value>,
 ) -> Result<(), AllocError> {
     if cx.options.files.len() > 1 {
-        put_text(alloc, object, "file", cx.file.name.unwrap_or("<stdin>"))?;
+        put_text(alloc, object, "file", cx.files.name(0))?;
     }
     if let Some(triple) = cx.triple {
         put_text(alloc, object, "target", triple)?;
@@ -205,7 +306,7 @@ fn object_of(
         alloc,
         dl: cx.dl,
         names: ty.names,
-        source: cx.file.text,
+        files: cx.files,
     };
     let mut object = type_value(json, ty.name, &ty.report.shape, &ty.report.tree, laid)?;
     put_context(alloc, cx, &mut object)?;
@@ -263,14 +364,14 @@ impl FileReport {
         at: Spot,
         text: &str,
     ) -> Result<(), AllocError> {
-        write_failure(&mut self.notes, cx.options, cx.file, at, text)?;
+        write_failure(&mut self.notes, cx.options, cx.files, at, text)?;
         write!(self.notes, "note: so nothing is reported of {name}")?;
         if let Some(triple) = cx.triple {
             write!(self.notes, " on {triple}")?;
         }
         self.notes.push_str("\n")?;
         if cx.options.form == Form::Json {
-            let place = match text_at(cx.options, cx.file, at) {
+            let place = match text_at(cx.options, cx.files, at) {
                 Some((_, source, byte)) => Some((source, byte)),
                 None => None,
             };
@@ -369,18 +470,33 @@ impl FileReport {
         Ok(())
     }
 
-    /// Reads the source into these sources, and reports on its types.
+    /// Reports why the files of modules aren't read; where one is to stop all, fails by it.
+    fn add_faults(
+        &mut self,
+        cx: ReportContext<'_>,
+        faults: Vec<ModuleFault>,
+    ) -> Result<(), SourceFailure> {
+        for fault in faults {
+            let ModuleFault { at, text } = fault;
+            if cx.options.is_strict {
+                return Err(SourceFailure::Fault(at, text));
+            }
+            self.outcome = self.outcome.worse_of(Outcome::Faulty);
+            write_failure(&mut self.notes, cx.options, cx.files, at, text.as_str())?;
+            self.notes.push_str("note: so its names aren't known\n")?;
+        }
+        Ok(())
+    }
+
+    /// Reports on the types that were read.
     fn add_types(
         &mut self,
         cx: ReportContext<'_>,
-        target: &Target,
         sources: &mut Sources,
+        faults: Vec<ModuleFault>,
     ) -> Result<(), SourceFailure> {
-        let file = cx.file;
-        if let Err(fault) = sources.read(self.alloc, &target.cfg, file.is_root, file.text) {
-            return Err(failure_of(self.alloc, sources, &fault, Spot::Nowhere));
-        }
-        write_notes(self.alloc, &mut self.notes, sources, file.name, file.text)?;
+        self.add_faults(cx, faults)?;
+        write_notes(self.alloc, &mut self.notes, sources, cx.files)?;
         if cx.options.types.is_empty() {
             self.add_all(cx, sources)
         } else {
@@ -388,49 +504,78 @@ impl FileReport {
         }
     }
 
+    /// Reads a file, and those of its modules, into these, and reports on their types.
+    fn add_files(
+        &mut self,
+        rt: &HostRuntime,
+        cx: TargetContext<'_>,
+        sources: &mut Sources,
+        files: &mut CrateFiles<'_>,
+    ) -> Result<(), SourceFailure> {
+        let mut faults = Vec::new(self.alloc);
+        read_files(rt, cx.target, sources, files, &mut faults)?;
+        let cx = ReportContext {
+            options: cx.options,
+            files: &*files,
+            dl: cx.dl,
+            triple: cx.triple,
+        };
+        self.add_types(cx, sources, faults)
+    }
+
     /// Reports on the types of the source. (What is read is made here alone: a function that makes it drops it at each way
     /// out, which takes long to prove.)
-    fn add_source(&mut self, cx: ReportContext<'_>, target: &Target) -> Result<(), SourceFailure> {
+    fn add_source(
+        &mut self,
+        rt: &HostRuntime,
+        cx: TargetContext<'_>,
+        file: SourceFile<'_>,
+    ) -> Result<(), FileFailure> {
         let mut sources = Sources::new(self.alloc)?;
-        self.add_types(cx, target, &mut sources)
+        let mut files = CrateFiles::new(self.alloc, file);
+        match self.add_files(rt, cx, &mut sources, &mut files) {
+            Ok(()) => Ok(()),
+            Err(failure) => Err(written_failure(self.alloc, cx.options, &files, failure)),
+        }
     }
 
     /// Reports on types under a target, whose name is printed where several are asked for.
     fn add_target(
         &mut self,
-        options: &Options<'_>,
+        rt: &HostRuntime,
+        cx: TargetContext<'_>,
         file: SourceFile<'_>,
-        target: &Target,
-        dl: &TargetDataLayout,
-    ) -> Result<(), SourceFailure> {
-        let is_one = options.targets.len() == 1;
-        let triple = if is_one { None } else { Some(target.triple) };
-        if let Some(triple) = triple {
+    ) -> Result<(), FileFailure> {
+        if let Some(triple) = cx.triple {
             write!(self.text, "target {triple}\n")?;
         }
-        let cx = ReportContext {
-            options,
-            file,
-            dl,
-            triple,
-        };
-        self.add_source(cx, target)
+        self.add_source(rt, cx, file)
     }
 
     /// Reports on types under each target that is asked for, behind the file's name where several were named.
     fn add_targets(
         &mut self,
+        rt: &HostRuntime,
         options: &Options<'_>,
         file: SourceFile<'_>,
-    ) -> Result<(), SourceFailure> {
+    ) -> Result<(), FileFailure> {
         if options.files.len() > 1 {
             let name = file.name.unwrap_or("<stdin>");
             write!(self.text, "file {name}\n")?;
         }
+        let is_one = options.targets.len() == 1;
         for target in &options.targets {
             match data_layout_of(self.alloc, target) {
-                Ok(dl) => self.add_target(options, file, target, &dl)?,
-                Err(_) => return Err(SourceFailure::OutOfMemory),
+                Ok(dl) => {
+                    let cx = TargetContext {
+                        options,
+                        target,
+                        dl: &dl,
+                        triple: if is_one { None } else { Some(target.triple) },
+                    };
+                    self.add_target(rt, cx, file)?;
+                }
+                Err(_) => return Err(FileFailure::OutOfMemory),
             }
         }
         Ok(())
@@ -439,12 +584,12 @@ impl FileReport {
 
 /// Reports on the types of a source under each target that is asked for.
 pub(crate) fn answer_source(
-    alloc: Global,
+    rt: &HostRuntime,
     options: &Options<'_>,
     file: SourceFile<'_>,
-) -> Result<FileReport, SourceFailure> {
-    let mut answer = FileReport::new(alloc);
-    match answer.add_targets(options, file) {
+) -> Result<FileReport, FileFailure> {
+    let mut answer = FileReport::new(rt.alloc());
+    match answer.add_targets(rt, options, file) {
         Ok(()) => Ok(answer),
         Err(failure) => Err(failure),
     }

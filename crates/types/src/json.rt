@@ -4,6 +4,7 @@ ghost use Rattle.std.specs.Prelude.{◌<◌};
 ghost use Rattle.abi_tree.specs.Laid.{placed_of};
 ghost use Rattle.abi_tree.specs.Placed.{layout_of};
 
+use crate::crate_files::CrateFiles;
 use crate::labels::{offset_at, offsets_of, write_field_name};
 use crate::place::locate;
 use abi_base::{Size, TargetDataLayout};
@@ -25,8 +26,8 @@ pub(crate) struct JsonContext<'a> {
     pub(crate) alloc: Global,
     pub(crate) dl: &'a TargetDataLayout,
     pub(crate) names: &'a Names,
-    /// The file, of which types are cut out as they are written.
-    pub(crate) source: &'a str,
+    /// The files, of which types are cut out as they are written.
+    pub(crate) files: &'a CrateFiles<'a>,
 }
 
 /// Puts a member into an object.
@@ -78,8 +79,8 @@ fn field_value(
     let mut name = String::new(cx.alloc);
     write_field_name(&mut name, cx.names, label.name)?;
     put_member(cx.alloc, &mut object, "name", Value::String(name))?;
-    let written = cx.source.get(label.start.0 as usize..label.end.0 as usize);
-    put_text(cx.alloc, &mut object, "type", written.unwrap_or(""))?;
+    let written = cx.files.written(label.start, label.end);
+    put_text(cx.alloc, &mut object, "type", written)?;
     put_number(cx.alloc, &mut object, "offset", offset)?;
     put_number(
         cx.alloc,

@@ -5,6 +5,10 @@
 mod options;
 mod place;
 
+// The files of a crate.
+mod crate_files;
+mod module_files;
+
 // Types as lines, as maps and as JSON, and the answer to a source.
 mod answer;
 mod json;
@@ -13,9 +17,9 @@ mod lines;
 mod mapped;
 mod notes;
 
-use crate::answer::{FileReport, Outcome, SourceFailure, SourceFile, answer_source, write_failure};
+use crate::answer::{FileFailure, FileReport, Outcome, answer_source};
+use crate::crate_files::SourceFile;
 use crate::options::{Form, OptionFault, Options, command, is_root, options_of};
-use crate::place::Spot;
 use serde_json::Value;
 use std::alloc::AllocError;
 use std::process::ExitCode;
@@ -60,38 +64,13 @@ fn report_option(rt: &HostRuntime, fault: OptionFault<'_>) -> Outcome {
     Outcome::Faulty
 }
 
-/// Writes a fault of a file on standard error, and answers what came of its types.
-fn report_fault(
-    rt: &HostRuntime,
-    options: &Options<'_>,
-    file: SourceFile<'_>,
-    (at, text): (Spot, &str),
-    outcome: Outcome,
-) -> Outcome {
-    let mut all = String::new(rt.alloc());
-    match write_failure(&mut all, options, file, at, text) {
-        Ok(()) => {
-            let _ = rt.eprint(all.as_str());
-            outcome
-        }
-        Err(_) => report_memory(rt),
-    }
-}
-
-/// Writes on standard error why there is no report.
-fn report_failure(
-    rt: &HostRuntime,
-    options: &Options<'_>,
-    file: SourceFile<'_>,
-    failure: &SourceFailure,
-) -> Outcome {
+/// Writes on standard error why there is no report on a file.
+fn report_failure(rt: &HostRuntime, failure: &FileFailure) -> Outcome {
     match failure {
-        SourceFailure::OutOfMemory => report_memory(rt),
-        SourceFailure::Fault(at, text) => {
-            report_fault(rt, options, file, (*at, text.as_str()), Outcome::Faulty)
-        }
-        SourceFailure::Refused(at, text) => {
-            report_fault(rt, options, file, (*at, text.as_str()), Outcome::Refused)
+        FileFailure::OutOfMemory => report_memory(rt),
+        FileFailure::Stopped(outcome, text) => {
+            let _ = rt.eprint(text.as_str());
+            *outcome
         }
     }
 }
@@ -197,9 +176,9 @@ fn report_file(
         text: source.as_str(),
         is_root: options.are_roots || is_root(name),
     };
-    match answer_source(rt.alloc(), options, file) {
+    match answer_source(rt, options, file) {
         Ok(answer) => print_answer(rt, options, progress, name, answer),
-        Err(failure) => report_failure(rt, options, file, &failure),
+        Err(failure) => report_failure(rt, &failure),
     }
 }
 

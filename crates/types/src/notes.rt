@@ -1,5 +1,6 @@
 //! What is noted of a source on standard error, beside the report on its types.
 
+use crate::crate_files::CrateFiles;
 use crate::place::write_fault;
 use abi_rust::{FaultPlace, Sources};
 use std::alloc::{AllocError, Global};
@@ -9,18 +10,17 @@ pub(crate) fn write_notes(
     alloc: Global,
     notes: &mut String,
     sources: &Sources,
-    file: Option<&str>,
-    source: &str,
+    files: &CrateFiles<'_>,
 ) -> Result<(), AllocError> {
     write_counts(notes, sources)?;
-    let file = file.unwrap_or("<stdin>");
     let mut known = Vec::new(alloc);
     for item in 0..sources.item_count() {
-        if let FaultPlace::File(at) = sources.unknown_attribute(item) {
+        if let FaultPlace::File(index, at) = sources.unknown_attribute(item) {
+            let source = files.text(index);
             let name = attribute_at(source, at);
             if !known.contains(&name) {
                 known.push(name)?;
-                write_attribute(alloc, notes, file, source, (at, name))?;
+                write_attribute(alloc, notes, files.name(index), source, (at, name))?;
             }
         }
     }

@@ -69,7 +69,7 @@ fn file_argument<'a>(alloc: Global) -> Arg<'a> {
     Arg::new(alloc, "file")
         .value_name("FILE.rs")
         .action(ArgAction::Append)
-        .help("a source, read apart from the others; standard input where none is named")
+        .help("a source or the root of a crate, read apart from the others; standard input where none is named")
 }
 
 /// The command, with what it may be asked for.
@@ -86,7 +86,7 @@ pub(crate) fn command<'a>(alloc: Global) -> Result<Command<'a>, AllocError> {
     let root = form_option(
         alloc,
         "root",
-        "takes each file for the root of a crate, as lib.rs, main.rs and standard input are",
+        "takes each file for the root of a crate, as lib.rs and main.rs are, whose modules are read from their files",
     );
     let strict = form_option(
         alloc,

@@ -7,8 +7,8 @@ use unicode_width::UnicodeWidthChar;
 /// What a fault lies in, and the byte of it.
 #[derive(Clone, Copy)]
 pub(crate) enum Spot {
-    /// The file.
-    File(u32),
+    /// The file of this index, and the byte of it.
+    File(usize, u32),
     /// The type that was asked for behind as many others.
     Asked(usize, u32),
     /// Neither.
@@ -19,7 +19,7 @@ impl Spot {
     /// Where a fault of a type lies that stands here: the type's own place where the fault has none.
     pub(crate) fn of(self, fault: FaultPlace) -> Spot {
         match (fault, self) {
-            (FaultPlace::File(byte), _) => Spot::File(byte),
+            (FaultPlace::File(index, byte), _) => Spot::File(index, byte),
             (FaultPlace::Argument(byte), Spot::Asked(before, _)) => Spot::Asked(before, byte),
             _ => self,
         }

@@ -1,7 +1,7 @@
 //! Attributes of items, fields and variants.
 
 ghost use Rattle.std.specs.Prelude.{◌≡◌};
-ghost use Rattle.rust_source.specs.Attributes.{attribute_read, attribute_with, attributes_read, attributes_said, begins_attribute, cfg_said, expanded, expanded_all, faulty, judged_by, listless_said, named_said, none_said, number_and_comma, one_attribute, part_attributes, part_judged, range_read, repr_said, simple_said, unknown_with};
+ghost use Rattle.rust_source.specs.Attributes.{attribute_read, attribute_with, attributes_read, attributes_said, begins_attribute, cfg_said, expanded, expanded_all, faulty, judged_by, listless_said, named_said, none_said, number_and_comma, one_attribute, part_attributes, part_judged, range_read, repr_said, simple_said, unknown_with, value_next, with_path};
 ghost use Rattle.rust_source.specs.Names.{texts};
 ghost use Rattle.rust_source.specs.Reading.{Reads, read_as};
 ghost use Rattle.rust_source.specs.Repr.{with_repr};
@@ -12,8 +12,8 @@ use crate::names::Names;
 use crate::place::{Place, Symbol};
 use crate::reader::cfg::is_predicate;
 use crate::reader::cursor::{
-    Cursor, expect, expect_comma, fault, is_done, is_next, pass, place, take, take_group,
-    take_until,
+    Cursor, expect, expect_comma, fault, is_done, is_next, is_nth, nth, pass, place, take,
+    take_group, take_until,
 };
 use crate::reader::depth::{most_nested, one_level_deeper};
 use crate::reader::known_attributes::{is_known, names_copy, names_other_trait};
@@ -21,7 +21,7 @@ use crate::reader::literals::Number;
 use crate::reader::naming::word_text;
 use crate::reader::repr::{NOTHING, asks, next_number, refuse_repr, with_repr};
 use crate::target::CfgTarget;
-use crate::tokens::token::Bracket;
+use crate::tokens::token::{Bracket, Token, TokenKind};
 
 /// What is asked of `cfg`, and whether the source may use what only the standard library may.
 #[derive(Clone, Copy)]
@@ -45,6 +45,8 @@ pub(crate) struct Attributes {
     pub has_helpers: bool,
     /// Where the first attribute stands that isn't known, and that no `derive` before it may have brought in.
     pub unknown: Option<Place>,
+    /// The string that the first `path = ".."` says, which names the file or the folder of a module.
+    pub path: Option<Token>,
 }
 
 /// Where an attribute is read.
@@ -65,6 +67,7 @@ const NONE: Attributes = Attributes {
     derives_copy: false,
     has_helpers: false,
     unknown: None,
+    path: None,
 };
 
 /// The attribute that says which numbers a scalar may be.
@@ -155,6 +158,31 @@ fn with_repr_said(before: Attributes, inside: &mut Cursor<'_>) -> Attributes
     }
 }
 
+/// The string behind the name of an attribute that is next, and `=`.
+fn value_next(cursor: &Cursor<'_>) -> Option<Token>
+    ensures { result ≡ value_next cursor.now }
+{
+    if !is_nth(cursor, 1, b'=') {
+        return None;
+    }
+    let token = nth(cursor, 2)?;
+    match token.kind {
+        TokenKind::Text => Some(token),
+        _ => None,
+    }
+}
+
+/// What is said with the `path` that is next, unless one stands before.
+fn with_path(before: Attributes, cursor: &Cursor<'_>) -> Attributes
+    ensures { result ≡ with_path before cursor.now }
+{
+    let mut said = before;
+    if said.path.is_none() {
+        said.path = value_next(cursor);
+    }
+    said
+}
+
 /// What the attribute says that is next and has no list in parentheses.
 #[tactic(auto, unfolding(crate::specs::Attributes::listless_said))]
 fn read_listless(before: Attributes, cursor: &Cursor<'_>) -> Result<Attributes, SourceFault>
@@ -166,6 +194,9 @@ fn read_listless(before: Attributes, cursor: &Cursor<'_>) -> Result<Attributes, 
     }
     if name == "repr" {
         return Ok(faulty(before, fault(cursor, SourceFaultKind::BadRepr)));
+    }
+    if name == "path" {
+        return Ok(with_path(before, cursor));
     }
     Ok(before)
 }

@@ -3,9 +3,9 @@
 ghost use Rattle.std.specs.Prelude.{◌≡◌, IfErr, IfOk};
 ghost use Rattle.rust_source.specs.Cursor.{inside, next_kind};
 ghost use Rattle.rust_source.specs.Growth.{KeepsItems};
-ghost use Rattle.rust_source.specs.Having.{item_of_module, next_module, with_item, with_module};
+ghost use Rattle.rust_source.specs.Having.{item_of_module, with_item};
 ghost use Rattle.rust_source.specs.Items.{item_of, items_as_read};
-ghost use Rattle.rust_source.specs.Modules.{all_read, is_inline_module, is_item_word, is_macro, is_passed_over, item_read, may_have_repr, module_items, module_read, module_within, one_read, other_read, over_passed, passes_kind, path_passed, repr_judged, root_read, standing_read, use_read};
+ghost use Rattle.rust_source.specs.Modules.{all_read, is_item_word, is_macro, is_passed_over, item_read, items_within, may_have_repr, module_by, module_read, module_within, one_read, other_read, over_passed, passes_kind, path_passed, repr_judged, root_read, standing_read, use_read};
 ghost use Rattle.rust_source.specs.Names.{texts};
 ghost use Rattle.rust_source.specs.Reading.{Reads};
 ghost use Rattle.rust_source.specs.Simple.{most_nested};
@@ -14,7 +14,7 @@ ghost use Rattle.rust_source.specs.Definition.{definition_of};
 use crate::fault::{SourceFault, SourceFaultKind};
 use crate::item::{Item, Items, Module};
 use crate::names::Names;
-use crate::place::Symbol;
+use crate::place::Place;
 use crate::reader::attributes::{Attributes, Rules, read_attributes};
 use crate::reader::constants::read_own_constants;
 use crate::reader::cursor::{
@@ -24,6 +24,9 @@ use crate::reader::definition::{Definition, is_union, read_definition};
 use crate::reader::depth::{most_nested, one_level_deeper};
 use crate::reader::fields::pass_visibility;
 use crate::reader::functions::read_function;
+use crate::reader::modules::{
+    OpenModule, SourceRoot, add_path, begin_module, open_root, read_outline,
+};
 use crate::reader::naming::{is_named, is_path_name, take_name, word_text};
 use crate::reader::passing::pass_item;
 use crate::reader::repr::refuse_repr;
@@ -43,11 +46,13 @@ struct ItemContext {
     depth_left: u32,
 }
 
-/// A module whose items are read.
+/// A module that is next, behind its name.
 #[derive(Clone, Copy)]
-struct OpenModule {
-    number: u32,
-    /// How many modules may stand in one another, with this one.
+struct NamedModule {
+    module: Module,
+    /// Where its name stands.
+    at: Place,
+    /// How many modules may stand in one another within it.
     depth_left: u32,
 }
 
@@ -160,8 +165,7 @@ fn passes_next(cursor: &Cursor<'_>) -> bool
                 | Keyword::Extern
                 | Keyword::Unsafe
                 | Keyword::Async
-                | Keyword::Const
-                | Keyword::Mod,
+                | Keyword::Const,
             ),
         ) => true,
         _ => false,
@@ -232,20 +236,6 @@ fn read_item(
     }
 }
 
-/// Begins a module behind the modules that are there, and is its number.
-#[tactic(auto, using(std::proofs::lemmas::Grind::common_steps))]
-fn begin_module(items: &mut Items, one: Module) -> Result<u32, SourceFault>
-    ensures kept { KeepsItems items.old items.new }
-    ensures number { IfOk result (λ number. number ≡ next_module (items_as_read items.old)) }
-    ensures ok { IfOk result
-        (λ _. items_as_read items.new ≡ with_module one (items_as_read items.old)) }
-    ensures err { IfErr result (λ fault. fault.kind ≡ SourceFaultKind.OutOfMemory) }
-{
-    let number = as_place(items.modules.len());
-    items.modules.push(one)?;
-    Ok(number)
-}
-
 /// Whether what is next may have a `repr`.
 #[tactic(auto, unfolding(crate::specs::Modules::may_have_repr))]
 fn may_have_repr(cursor: &Cursor<'_>) -> bool
@@ -268,42 +258,51 @@ fn refuse_misplaced_repr(said: &Attributes, cursor: &Cursor<'_>) -> Result<(), S
     }
 }
 
-/// Whether a module with its items is next.
-fn is_inline_module(cursor: &Cursor<'_>) -> bool
-    ensures { result ≡ is_inline_module cursor.now }
-{
-    match nth(cursor, 2) {
-        Some(third) => {
-            is_word(cursor, Keyword::Mod) && third.kind == TokenKind::Open(Bracket::Curly)
-        }
-        None => false,
-    }
-}
-
-/// Reads the items of a module that stand in braces, which are passed over.
+/// Reads the items of a module, which stand within its braces.
 #[cycle(modules)]
-fn read_braces(
+fn read_within(
     rules: &Rules<'_>,
     names: &mut Names,
     items: &mut Items,
-    module: OpenModule,
+    named: &NamedModule,
+    inside: &mut Cursor<'_>,
+) -> Result<(), SourceFault>
+    ensures kept { KeepsItems items.old items.new }
+    ensures read { Reads (λ done. done)
+        (items_within rules.now (module_within rules.now named.now.depth_left) named.now.«module» inside.old (texts names.old, items_as_read items.old))
+        (texts names.new, items_as_read items.new) result }
+{
+    let module = OpenModule {
+        number: begin_module(items, named.module, true)?,
+        depth_left: named.depth_left,
+    };
+    read_module_items(rules, names, items, module, inside)
+}
+
+/// Reads a module behind its name: its items, which stand in braces, or an outline.
+#[cycle(modules)]
+fn read_named_module(
+    rules: &Rules<'_>,
+    names: &mut Names,
+    items: &mut Items,
+    named: &NamedModule,
     cursor: &mut Cursor<'_>,
 ) -> Result<(), SourceFault>
     ensures kept { KeepsItems items.old items.new }
     ensures read { Reads (λ _. cursor.new)
-        (module_items rules.now (module_within rules.now «module».depth_left) «module».number cursor.old
+        (module_by rules.now (module_within rules.now named.now.depth_left) named.now.«module» named.now.at cursor.old
         (inside cursor.old Bracket.Curly) (texts names.old, items_as_read items.old))
         (texts names.new, items_as_read items.new) result }
 {
     match take_group(cursor, Bracket::Curly) {
-        Some(mut inside) => read_module_items(rules, names, items, module, &mut inside),
-        None => Ok(()),
+        Some(mut inside) => read_within(rules, names, items, named, &mut inside),
+        None => read_outline(names, items, named.module, named.at, cursor),
     }
 }
 
-/// Reads the module that is next, which stands here.
+/// Reads the module that is next.
 #[cycle(modules)]
-#[tactic(auto, unfolding(crate::specs::Modules::module_read))]
+#[tactic(auto, unfolding(crate::specs::Modules::module_read, crate::specs::Modules::module_on))]
 fn read_module(
     rules: &Rules<'_>,
     names: &mut Names,
@@ -313,21 +312,23 @@ fn read_module(
 ) -> Result<(), SourceFault>
     ensures kept { KeepsItems items.old items.new }
     ensures read { Reads (λ _. cursor.new)
-        (module_read rules.now (module_within rules.now context.now.depth_left) context.now.standing cursor.old (texts names.old, items_as_read items.old))
+        (module_read rules.now (module_within rules.now context.now.depth_left) context.now.standing context.now.said cursor.old (texts names.old, items_as_read items.old))
         (texts names.new, items_as_read items.new) result }
 {
     pass(cursor, 1);
-    let (name, _at) = take_name(names, cursor)?;
-    let one = Module {
-        name,
-        parent: Some(context.standing.module),
-        visible_in: context.standing.visible_in,
-    };
-    let module = OpenModule {
-        number: begin_module(items, one)?,
+    let (name, at) = take_name(names, cursor)?;
+    let path = add_path(names, cursor, context.said.path)?;
+    let named = NamedModule {
+        module: Module {
+            name,
+            parent: Some(context.standing.module),
+            visible_in: context.standing.visible_in,
+            path,
+        },
+        at,
         depth_left: context.depth_left,
     };
-    read_braces(rules, names, items, module, cursor)
+    read_named_module(rules, names, items, &named, cursor)
 }
 
 /// Reads what stands behind attributes and a `pub`.
@@ -346,7 +347,7 @@ fn read_in_context(
         (texts names.new, items_as_read items.new) result }
 {
     refuse_misplaced_repr(&context.said, cursor)?;
-    if is_inline_module(cursor) {
+    if is_word(cursor, Keyword::Mod) {
         read_module(rules, names, items, context, cursor)
     } else {
         read_item(rules, names, items, context, cursor)
@@ -435,28 +436,20 @@ fn read_module_items(
     read_all(rules, names, items, inner, cursor)
 }
 
-/// Reads the items of a source, in a new root module of this name, and is that module's number.
-#[tactic(auto, unfolding(crate::specs::Modules::root_read, crate::specs::Simple::most_nested))]
+/// Reads the items of a source, in the module into which they go, and is that module's number.
+#[tactic(auto, unfolding(crate::specs::Modules::root_read))]
 pub(crate) fn read_root(
     rules: &Rules<'_>,
     names: &mut Names,
     items: &mut Items,
-    name: Symbol,
+    root: SourceRoot,
     cursor: &mut Cursor<'_>,
 ) -> Result<u32, SourceFault>
     ensures kept { KeepsItems items.old items.new }
-    ensures read { Reads (λ root. root) (root_read rules.now name cursor.old (texts names.old, items_as_read items.old))
+    ensures read { Reads (λ root. root) (root_read rules.now root cursor.old (texts names.old, items_as_read items.old))
         (texts names.new, items_as_read items.new) result }
 {
-    let one = Module {
-        name,
-        parent: None,
-        visible_in: None,
-    };
-    let root = OpenModule {
-        number: begin_module(items, one)?,
-        depth_left: most_nested() + 1,
-    };
-    read_all(rules, names, items, root, cursor)?;
-    Ok(root.number)
+    let module = open_root(items, root)?;
+    read_module_items(rules, names, items, module, cursor)?;
+    Ok(module.number)
 }

@@ -25,7 +25,7 @@ pub(crate) struct Standing {
 }
 
 /// The module around the one with this number; none around a root.
-fn around(modules: &[Module], number: u32) -> Option<u32>
+pub(crate) fn around(modules: &[Module], number: u32) -> Option<u32>
     ensures { result ≡ around modules.now number }
 {
     match modules.get(number as usize) {

@@ -9,20 +9,23 @@ use Rattle.rust_source.proofs.reader.items.+modules.Given as goal
 abbrev pub decreases-read_module_items : goal.decreases-read_module_items
 decreases-read_module_items l = 8 * l.«module».depth_left
 
-abbrev pub decreases-read_braces : goal.decreases-read_braces
-decreases-read_braces l = 8 * l.«module».depth_left + 1
+abbrev pub decreases-read_within : goal.decreases-read_within
+decreases-read_within l = 8 * l.named.now.depth_left + 1
+
+abbrev pub decreases-read_named_module : goal.decreases-read_named_module
+decreases-read_named_module l = 8 * l.named.now.depth_left + 2
 
 abbrev pub decreases-read_module : goal.decreases-read_module
-decreases-read_module l = 8 * l.context.now.depth_left + 2
+decreases-read_module l = 8 * l.context.now.depth_left + 3
 
 abbrev pub decreases-read_in_context : goal.decreases-read_in_context
-decreases-read_in_context l = 8 * l.context.now.depth_left + 3
+decreases-read_in_context l = 8 * l.context.now.depth_left + 4
 
 abbrev pub decreases-read_one : goal.decreases-read_one
-decreases-read_one l = 8 * l.«module».depth_left + 4
+decreases-read_one l = 8 * l.«module».depth_left + 5
 
 abbrev pub decreases-read_all : goal.decreases-read_all
-decreases-read_all l = 8 * l.«module».depth_left + 5
+decreases-read_all l = 8 * l.«module».depth_left + 6
 
 abbrev pub invariant-read_all-loop-turn : goal.invariant-read_all-loop-turn
 invariant-read_all-loop-turn l = record {

@@ -1,0 +1,2 @@
+pub struct One(pub Absent);
+pub struct Two(pub u32);

@@ -1,0 +1,3 @@
+pub mod one;
+
+pub struct Root(pub u8);

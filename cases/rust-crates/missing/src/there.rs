@@ -1,0 +1,4 @@
+mod further;
+
+pub struct There(pub u16);
+pub struct Further(pub further::Gone);

@@ -1,0 +1,4 @@
+pub enum Task {
+    Waiting(u32),
+    Done,
+}

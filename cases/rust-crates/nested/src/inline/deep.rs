@@ -1,0 +1,3 @@
+pub mod under;
+
+pub struct Deep(pub under::Under, pub u64);

@@ -1,0 +1,4 @@
+pub struct Under {
+    pub shape: super::super::super::Circle,
+    pub mark: bool,
+}

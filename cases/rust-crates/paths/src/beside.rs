@@ -1,0 +1,1 @@
+pub struct Beside(pub u64, pub u8);

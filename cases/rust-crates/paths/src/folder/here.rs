@@ -1,0 +1,4 @@
+pub struct Here {
+    pub byte: u8,
+    pub word: u16,
+}

@@ -1,0 +1,3 @@
+pub struct Other {
+    pub of: Option<char>,
+}

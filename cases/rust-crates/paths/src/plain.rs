@@ -1,0 +1,7 @@
+#[path = "beside.rs"]
+pub mod beside;
+
+pub mod inline {
+    #[path = "deep.rs"]
+    pub mod other;
+}

@@ -1,0 +1,1 @@
+pub struct Deep(pub u16, pub u32);

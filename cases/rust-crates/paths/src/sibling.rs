@@ -1,0 +1,1 @@
+pub struct Sibling(pub u32);

@@ -1,0 +1,1 @@
+pub struct Handle(pub *mut u8);
