@@ -3,7 +3,8 @@
 /// The standard library's types, as far as their layouts depend on them: those of the compiler's release 1.95. They are
 /// the library's own business, and other releases may have others. `std`, `core` and `alloc` are one module here. On a
 /// struct, `rustc_layout_scalar_valid_range` limits the numbers of its first field. The unions are `transparent` there;
-/// without it they are laid out alike, and the stable language, whose rules count here, has no such unions.
+/// without it they are laid out alike, and the stable language, whose rules count here, has no such unions. A processor's
+/// vectors are `simd` there, and aligned to their size.
 pub(crate) const STD_SOURCES: &str = r#"pub mod prelude {
     pub use crate::option::Option;
     pub use crate::result::Result;
@@ -20,10 +21,17 @@ pub(crate) const STD_SOURCES: &str = r#"pub mod prelude {
 pub mod option {
     #[derive(Clone, Copy)]
     pub enum Option<T> { None, Some(T) }
+    struct Item<A> { opt: Option<A> }
+    pub struct Iter<'a, A> { inner: Item<&'a A> }
+    pub struct IterMut<'a, A> { inner: Item<&'a mut A> }
+    pub struct IntoIter<A> { inner: Item<A> }
 }
 pub mod result {
     #[derive(Clone, Copy)]
     pub enum Result<T, E> { Ok(T), Err(E) }
+    pub struct Iter<'a, T> { inner: Option<&'a T> }
+    pub struct IterMut<'a, T> { inner: Option<&'a mut T> }
+    pub struct IntoIter<T> { inner: Option<T> }
 }
 pub mod marker {
     #[derive(Clone, Copy)]
@@ -154,6 +162,14 @@ pub mod vec {
     pub struct Vec<T, A = crate::alloc::Global> { buf: RawVec<T, A>, len: usize }
     pub struct IntoIter<T, A = crate::alloc::Global> { buf: NonNull<T>, phantom: PhantomData<T>, cap: usize,
         alloc: crate::mem::ManuallyDrop<A>, ptr: NonNull<T>, end: *const T }
+    pub struct Drain<'a, T, A = crate::alloc::Global> { tail_start: usize, tail_len: usize, iter: crate::slice::Iter<'a, T>, vec: NonNull<Vec<T, A>> }
+}
+pub mod array {
+    struct IndexRange { start: usize, end: usize }
+    struct PolymorphicIter<T, const N: usize> { alive: IndexRange, data: [crate::mem::MaybeUninit<T>; N] }
+    pub struct IntoIter<T, const N: usize> { inner: crate::mem::ManuallyDrop<PolymorphicIter<T, N>> }
+    #[derive(Clone, Copy)]
+    pub struct TryFromSliceError(());
 }
 pub mod slice {
     use crate::{marker::PhantomData, ptr::NonNull};
@@ -161,12 +177,22 @@ pub mod slice {
     pub struct IterMut<'a, T> { ptr: NonNull<T>, end_or_len: *mut T, _marker: PhantomData<&'a mut T> }
     pub struct Chunks<'a, T> { v: &'a [T], chunk_size: usize }
     pub struct Windows<'a, T> { v: &'a [T], size: crate::num::NonZero<usize> }
+    pub struct ChunksMut<'a, T> { v: *mut [T], chunk_size: usize, _marker: PhantomData<&'a mut T> }
+    pub struct ChunksExact<'a, T> { v: &'a [T], rem: &'a [T], chunk_size: usize }
+    pub struct ChunksExactMut<'a, T> { v: *mut [T], rem: &'a mut [T], chunk_size: usize, _marker: PhantomData<&'a mut T> }
+    pub struct RChunks<'a, T> { v: &'a [T], chunk_size: usize }
+    pub struct RChunksExact<'a, T> { v: &'a [T], rem: &'a [T], chunk_size: usize }
+    pub struct Split<'a, T, P> { v: &'a [T], pred: P, finished: bool }
+    pub struct SplitN<'a, T, P> { iter: Split<'a, T, P>, count: usize }
+    pub struct SplitMut<'a, T, P> { v: &'a mut [T], pred: P, finished: bool }
+    pub struct ChunkBy<'a, T, P> { slice: &'a [T], predicate: P }
 }
 pub mod string {
     pub struct String { vec: Vec<u8> }
     pub struct FromUtf8Error { bytes: Vec<u8>, error: crate::str::Utf8Error }
     pub struct FromUtf16Error(());
     pub type ParseError = crate::convert::Infallible;
+    pub struct Drain<'a> { string: *mut String, start: usize, end: usize, iter: crate::str::Chars<'a> }
 }
 pub mod str {
     #[derive(Clone, Copy)]
@@ -175,6 +201,16 @@ pub mod str {
     pub struct Chars<'a> { iter: crate::slice::Iter<'a, u8> }
     pub struct CharIndices<'a> { front_offset: usize, iter: Chars<'a> }
     pub struct Bytes<'a>(crate::slice::Iter<'a, u8>);
+    struct CharSearcher<'a> { haystack: &'a str, finger: usize, finger_back: usize, needle: char, utf8_size: u8, utf8_encoded: [u8; 4] }
+    struct CharPredicateSearcher<'a> { haystack: &'a str, char_indices: CharIndices<'a> }
+    struct SplitInternal<M> { start: usize, end: usize, matcher: M, allow_trailing_empty: bool, finished: bool }
+    pub struct Lines<'a>(SplitInternal<CharSearcher<'a>>);
+    pub struct SplitWhitespace<'a> { inner: SplitInternal<CharPredicateSearcher<'a>> }
+    struct SplitBytes<'a> { v: &'a [u8], finished: bool }
+    pub struct SplitAsciiWhitespace<'a> { inner: SplitBytes<'a> }
+    pub struct EncodeUtf16<'a> { chars: Chars<'a>, extra: u16 }
+    pub struct Utf8Chunk<'a> { valid: &'a str, invalid: &'a [u8] }
+    pub struct Utf8Chunks<'a> { source: &'a [u8] }
 }
 pub mod borrow {
     pub(crate) struct Owned<B: ?Sized>(B);
@@ -199,25 +235,61 @@ pub mod collections {
     pub use crate::ops::Bound;
     pub use self::{binary_heap::BinaryHeap, btree_map::BTreeMap, btree_set::BTreeSet, hash_map::HashMap,
         hash_set::HashSet, linked_list::LinkedList, vec_deque::VecDeque};
+    enum TryReserveErrorKind { CapacityOverflow, AllocError { layout: crate::alloc::Layout, non_exhaustive: () } }
+    pub struct TryReserveError { kind: TryReserveErrorKind }
     pub mod vec_deque {
         pub struct VecDeque<T, A = crate::alloc::Global> { head: usize, len: usize, buf: crate::vec::RawVec<T, A> }
+        pub struct Iter<'a, T> { i1: crate::slice::Iter<'a, T>, i2: crate::slice::Iter<'a, T> }
+        pub struct IterMut<'a, T> { i1: crate::slice::IterMut<'a, T>, i2: crate::slice::IterMut<'a, T> }
+        pub struct IntoIter<T, A = crate::alloc::Global> { inner: VecDeque<T, A> }
+        pub struct Drain<'a, T, A = crate::alloc::Global> { deque: crate::ptr::NonNull<VecDeque<T, A>>, drain_len: usize, idx: usize, new_len: usize,
+            remaining: usize, _marker: crate::marker::PhantomData<&'a T> }
     }
     pub mod binary_heap {
         pub struct BinaryHeap<T, A = crate::alloc::Global> { data: Vec<T, A> }
+        pub struct PeekMut<'a, T, A = crate::alloc::Global> { heap: &'a mut BinaryHeap<T, A>, original_len: Option<crate::num::NonZero<usize>> }
+        pub struct Iter<'a, T> { iter: crate::slice::Iter<'a, T> }
+        pub struct IntoIter<T, A = crate::alloc::Global> { iter: crate::vec::IntoIter<T, A> }
+        pub struct Drain<'a, T, A = crate::alloc::Global> { iter: crate::vec::Drain<'a, T, A> }
     }
     pub mod linked_list {
         use crate::{marker::PhantomData, ptr::NonNull};
         struct Node<T> { next: Option<NonNull<Node<T>>>, prev: Option<NonNull<Node<T>>>, element: T }
         pub struct LinkedList<T, A = crate::alloc::Global> { head: Option<NonNull<Node<T>>>,
             tail: Option<NonNull<Node<T>>>, len: usize, alloc: A, marker: PhantomData<Box<Node<T>, A>> }
+        pub struct Iter<'a, T> { head: Option<NonNull<Node<T>>>, tail: Option<NonNull<Node<T>>>, len: usize, marker: PhantomData<&'a Node<T>> }
+        pub struct IterMut<'a, T> { head: Option<NonNull<Node<T>>>, tail: Option<NonNull<Node<T>>>, len: usize, marker: PhantomData<&'a mut Node<T>> }
+        pub struct IntoIter<T, A = crate::alloc::Global> { list: LinkedList<T, A> }
     }
     pub mod btree_map {
         use crate::{marker::PhantomData, mem::ManuallyDrop, ptr::NonNull};
         struct Root { height: usize, node: NonNull<u8>, _marker: () }
         pub struct BTreeMap<K, V, A = crate::alloc::Global> { root: Option<Root>, length: usize, alloc: ManuallyDrop<A>, _marker: PhantomData<Box<(K, V), A>> }
+        struct Handle { node: Root, idx: usize, _marker: () }
+        enum LazyLeafHandle { Root(Root), Edge(Handle) }
+        struct LazyLeafRange { front: Option<LazyLeafHandle>, back: Option<LazyLeafHandle> }
+        struct LeafRange { front: Option<Handle>, back: Option<Handle> }
+        pub struct Iter<'a, K, V> { range: LazyLeafRange, length: usize, _marker: PhantomData<&'a (K, V)> }
+        pub struct IterMut<'a, K, V> { range: LazyLeafRange, length: usize, _marker: PhantomData<&'a mut (K, V)> }
+        pub struct IntoIter<K, V, A = crate::alloc::Global> { range: LazyLeafRange, length: usize, alloc: A, _marker: PhantomData<(K, V)> }
+        pub struct Range<'a, K, V> { inner: LeafRange, _marker: PhantomData<&'a (K, V)> }
+        pub struct RangeMut<'a, K, V> { inner: LeafRange, _marker: PhantomData<&'a mut (K, V)> }
+        pub struct Keys<'a, K, V> { inner: Iter<'a, K, V> }
+        pub struct Values<'a, K, V> { inner: Iter<'a, K, V> }
+        pub struct ValuesMut<'a, K, V> { inner: IterMut<'a, K, V> }
+        pub struct IntoKeys<K, V, A = crate::alloc::Global> { inner: IntoIter<K, V, A> }
+        pub struct IntoValues<K, V, A = crate::alloc::Global> { inner: IntoIter<K, V, A> }
+        pub struct VacantEntry<'a, K, V, A = crate::alloc::Global> { key: K, handle: Option<Handle>, dormant_map: NonNull<BTreeMap<K, V, A>>, alloc: A,
+            _marker: PhantomData<&'a mut (K, V)> }
+        pub struct OccupiedEntry<'a, K, V, A = crate::alloc::Global> { handle: Handle, dormant_map: NonNull<BTreeMap<K, V, A>>, alloc: A,
+            _marker: PhantomData<&'a mut (K, V)> }
+        pub enum Entry<'a, K, V, A = crate::alloc::Global> { Vacant(VacantEntry<'a, K, V, A>), Occupied(OccupiedEntry<'a, K, V, A>) }
     }
     pub mod btree_set {
         pub struct BTreeSet<T, A = crate::alloc::Global> { map: super::btree_map::BTreeMap<T, (), A> }
+        pub struct Iter<'a, T> { iter: super::btree_map::Keys<'a, T, ()> }
+        pub struct IntoIter<T, A = crate::alloc::Global> { iter: super::btree_map::IntoIter<T, (), A> }
+        pub struct Range<'a, T> { iter: super::btree_map::Range<'a, T, ()> }
     }
     pub mod hash_map {
         use crate::{marker::PhantomData, ptr::NonNull};
@@ -225,9 +297,36 @@ pub mod collections {
         struct RawTableInner { bucket_mask: usize, ctrl: NonNull<u8>, growth_left: usize, items: usize }
         struct RawTable<T, A> { table: RawTableInner, alloc: A, marker: PhantomData<T> }
         pub struct HashMap<K, V, S = RandomState, A = crate::alloc::Global> { hash_builder: S, table: RawTable<(K, V), A> }
+        #[cfg(all(any(target_arch = "x86", target_arch = "x86_64"), target_feature = "sse2"))]
+        type BitMask = u16;
+        #[cfg(all(not(all(any(target_arch = "x86", target_arch = "x86_64"), target_feature = "sse2")),
+            any(target_pointer_width = "64", target_arch = "wasm32")))]
+        type BitMask = u64;
+        #[cfg(not(any(all(any(target_arch = "x86", target_arch = "x86_64"), target_feature = "sse2"),
+            target_pointer_width = "64", target_arch = "wasm32")))]
+        type BitMask = u32;
+        struct RawIterRange<T> { current_group: BitMask, data: NonNull<T>, next_ctrl: *const u8, end: *const u8 }
+        struct RawIter<T> { iter: RawIterRange<T>, items: usize }
+        struct RawIntoIter<T, A> { iter: RawIter<T>, allocation: Option<(NonNull<u8>, crate::alloc::Layout, A)>, marker: PhantomData<T> }
+        struct RawDrain<'a, T, A> { iter: RawIter<T>, table: RawTableInner, orig_table: NonNull<RawTableInner>, marker: PhantomData<&'a (T, A)> }
+        pub struct Iter<'a, K, V> { base: RawIter<(K, V)>, marker: PhantomData<&'a (K, V)> }
+        pub struct IterMut<'a, K, V> { base: RawIter<(K, V)>, marker: PhantomData<&'a mut (K, V)> }
+        pub struct IntoIter<K, V, A = crate::alloc::Global> { base: RawIntoIter<(K, V), A> }
+        pub struct Drain<'a, K, V, A = crate::alloc::Global> { base: RawDrain<'a, (K, V), A> }
+        pub struct Keys<'a, K, V> { inner: Iter<'a, K, V> }
+        pub struct Values<'a, K, V> { inner: Iter<'a, K, V> }
+        pub struct ValuesMut<'a, K, V> { inner: IterMut<'a, K, V> }
+        pub struct IntoKeys<K, V, A = crate::alloc::Global> { inner: IntoIter<K, V, A> }
+        pub struct IntoValues<K, V, A = crate::alloc::Global> { inner: IntoIter<K, V, A> }
+        pub struct OccupiedEntry<'a, K, V, A = crate::alloc::Global> { elem: NonNull<(K, V)>, table: &'a mut RawTable<(K, V), A> }
+        pub struct VacantEntry<'a, K, V, A = crate::alloc::Global> { hash: u64, key: K, table: &'a mut RawTable<(K, V), A> }
+        pub enum Entry<'a, K, V, A = crate::alloc::Global> { Occupied(OccupiedEntry<'a, K, V, A>), Vacant(VacantEntry<'a, K, V, A>) }
     }
     pub mod hash_set {
         pub struct HashSet<T, S = crate::hash::RandomState, A = crate::alloc::Global> { map: super::hash_map::HashMap<T, (), S, A> }
+        pub struct Iter<'a, T> { base: super::hash_map::Keys<'a, T, ()> }
+        pub struct IntoIter<T, A = crate::alloc::Global> { base: super::hash_map::IntoIter<T, (), A> }
+        pub struct Drain<'a, T, A = crate::alloc::Global> { base: super::hash_map::Drain<'a, T, (), A> }
     }
 }
 pub mod hash {
@@ -235,11 +334,19 @@ pub mod hash {
     pub struct BuildHasherDefault<H>(crate::marker::PhantomData<fn() -> H>);
     struct State { v0: u64, v2: u64, v1: u64, v3: u64 }
     struct Hasher { k0: u64, k1: u64, length: usize, state: State, tail: u64, ntail: usize }
+    pub struct SipHasher(Hasher);
     pub struct DefaultHasher(Hasher);
 }
 pub mod sync {
     #[cfg(any(unix, windows, target_family = "wasm"))]
-    pub use crate::sync::poison::{Mutex, MutexGuard, RwLock, RwLockReadGuard, RwLockWriteGuard, Condvar, Once, PoisonError, TryLockError};
+    pub use crate::sync::poison::{Mutex, MutexGuard, RwLock, RwLockReadGuard, RwLockWriteGuard, Condvar, Once, OnceState, PoisonError, TryLockError, LockResult,
+        TryLockResult, WaitTimeoutResult};
+    #[cfg(any(unix, windows, target_family = "wasm"))]
+    struct BarrierState { count: usize, generation_id: usize }
+    #[cfg(any(unix, windows, target_family = "wasm"))]
+    pub struct Barrier { lock: Mutex<BarrierState>, cvar: Condvar, num_threads: usize }
+    #[cfg(any(unix, windows, target_family = "wasm"))]
+    pub struct BarrierWaitResult(bool);
     use crate::{cell::UnsafeCell, marker::PhantomData, mem::{ManuallyDrop, MaybeUninit}, ptr::NonNull};
     #[cfg(target_has_atomic = "ptr")]
     #[repr(C)]
@@ -297,6 +404,12 @@ pub mod sync {
         pub struct RwLockWriteGuard<'a, T: ?Sized> { lock: &'a RwLock<T>, poison: Guard }
         pub struct PoisonError<T> { data: T }
         pub enum TryLockError<T> { Poisoned(PoisonError<T>), WouldBlock }
+        pub type LockResult<T> = crate::result::Result<T, PoisonError<T>>;
+        pub type TryLockResult<T> = crate::result::Result<T, TryLockError<T>>;
+        #[derive(Clone, Copy)]
+        pub struct WaitTimeoutResult(bool);
+        #[cfg(any(target_os = "linux", windows))]
+        pub struct OnceState { poisoned: bool, set_state_to: Cell<u32> }
     }
     pub mod atomic {
         use crate::cell::UnsafeCell;
@@ -350,6 +463,9 @@ pub mod sync {
         pub struct Sender<T> { inner: Flavor<T> }
         pub struct SyncSender<T> { inner: Flavor<T> }
         pub struct Receiver<T> { inner: Flavor<T> }
+        pub struct Iter<'a, T> { rx: &'a Receiver<T> }
+        pub struct TryIter<'a, T> { rx: &'a Receiver<T> }
+        pub struct IntoIter<T> { rx: Receiver<T> }
         #[derive(Clone, Copy)]
         pub struct SendError<T>(pub T);
         #[derive(Clone, Copy)]
@@ -374,6 +490,10 @@ pub mod thread {
     #[cfg(target_family = "wasm")]
     struct Native(crate::convert::Infallible);
     pub struct JoinHandle<T> { native: Native, thread: Thread, packet: crate::sync::Arc<T> }
+    pub struct ScopedJoinHandle<'scope, T> { native: Native, thread: Thread, packet: crate::sync::Arc<T>, _marker: crate::marker::PhantomData<&'scope ()> }
+    pub struct Builder { name: Option<String>, stack_size: Option<usize>, no_hooks: bool }
+    pub type Result<T> = crate::result::Result<T, Box<dyn crate::any::Any>>;
+    pub struct LocalKey<T> { inner: fn(Option<&mut Option<T>>) -> *const T }
     #[derive(Clone, Copy)]
     pub struct AccessError;
 }
@@ -419,6 +539,8 @@ pub mod time {
     #[derive(Clone, Copy)]
     pub struct SystemTime(Duration);
     pub struct SystemTimeError(Duration);
+    enum TryFromFloatSecsErrorKind { Negative, OverflowOrNan }
+    pub struct TryFromFloatSecsError { kind: TryFromFloatSecsErrorKind }
 }
 pub mod task {
     #[derive(Clone, Copy)]
@@ -427,6 +549,13 @@ pub mod task {
     pub struct RawWakerVTable { clone: fn(), wake: fn(), wake_by_ref: fn(), drop: fn() }
     pub struct RawWaker { data: *const (), vtable: &'static RawWakerVTable }
     pub struct Waker { waker: RawWaker }
+    enum ExtData<'a> { Some(&'a mut dyn crate::any::Any), None(()) }
+    pub struct Context<'a> { waker: &'a Waker, local_waker: &'a Waker, ext: ExtData<'a> }
+}
+pub mod future {
+    pub struct Ready<T>(Option<T>);
+    pub struct Pending<T> { _data: crate::marker::PhantomData<fn() -> T> }
+    pub struct PollFn<F> { f: F }
 }
 pub mod any {
     #[derive(Clone, Copy)]
@@ -439,11 +568,33 @@ pub mod iter {
     pub struct Take<I> { iter: I, n: usize }
     pub struct Enumerate<I> { iter: I, count: usize }
     pub struct Once<T> { inner: Option<T> }
+    pub struct OnceWith<F> { make: Option<F> }
+    pub struct RepeatWith<F> { repeater: F }
+    struct RepeatNInner<A> { count: crate::num::NonZero<usize>, element: A }
+    pub struct RepeatN<A> { inner: Option<RepeatNInner<A>> }
+    pub struct FromFn<F>(F);
+    pub struct Successors<T, F> { next: Option<T>, succ: F }
+    pub struct Chain<A, B> { a: Option<A>, b: Option<B> }
+    pub struct Zip<A, B> { a: A, b: B, index: usize, len: usize }
+    pub struct Map<I, F> { iter: I, f: F }
+    pub struct Filter<I, P> { iter: I, predicate: P }
+    pub struct FilterMap<I, F> { iter: I, f: F }
+    pub struct Fuse<I> { iter: Option<I> }
+    pub struct Inspect<I, F> { iter: I, f: F }
+    pub struct MapWhile<I, P> { iter: I, predicate: P }
+    pub struct SkipWhile<I, P> { iter: I, flag: bool, predicate: P }
+    pub struct TakeWhile<I, P> { iter: I, flag: bool, predicate: P }
+    pub struct StepBy<I> { iter: I, step_minus_one: usize, first_take: bool }
+    pub struct Cycle<I> { orig: I, iter: I }
+    pub struct Scan<I, St, F> { iter: I, f: F, state: St }
     pub struct Repeat<A> { element: A }
     pub struct Cloned<I> { it: I }
     pub struct Copied<I> { it: I }
 }
 pub mod panic {
+    #[derive(Clone, Copy)]
+    pub struct Location<'a> { filename: crate::ptr::NonNull<str>, line: u32, col: u32, _filename: crate::marker::PhantomData<&'a str> }
+    pub struct PanicHookInfo<'a> { payload: &'a dyn crate::any::Any, location: &'a Location<'a>, can_unwind: bool, force_no_backtrace: bool }
     pub struct AssertUnwindSafe<T>(pub T);
 }
 pub mod fmt {
@@ -452,9 +603,85 @@ pub mod fmt {
     pub type Result = crate::result::Result<(), Error>;
     #[derive(Clone, Copy)]
     pub enum Alignment { Left, Right, Center }
+    struct FormattingOptions { flags: u32, width: u16, precision: u16 }
+    pub struct Formatter<'a> { options: FormattingOptions, buf: &'a mut dyn crate::any::Any }
+    #[derive(Clone, Copy)]
+    pub struct Arguments<'a> { template: crate::ptr::NonNull<u8>, args: crate::ptr::NonNull<u8>, _marker: crate::marker::PhantomData<&'a ()> }
+    struct DebugInner<'a, 'b> { fmt: &'a mut Formatter<'b>, result: Result, has_fields: bool }
+    pub struct DebugStruct<'a, 'b> { fmt: &'a mut Formatter<'b>, result: Result, has_fields: bool }
+    pub struct DebugTuple<'a, 'b> { fmt: &'a mut Formatter<'b>, result: Result, fields: usize, empty_name: bool }
+    pub struct DebugSet<'a, 'b> { inner: DebugInner<'a, 'b> }
+    pub struct DebugList<'a, 'b> { inner: DebugInner<'a, 'b> }
+    struct PadAdapterState { on_newline: bool }
+    pub struct DebugMap<'a, 'b> { fmt: &'a mut Formatter<'b>, result: Result, has_fields: bool, has_key: bool, state: PadAdapterState }
 }
 pub mod error {}
+#[cfg(any(unix, windows, target_family = "wasm"))]
+pub mod backtrace {
+    struct Capture { actual_start: usize, frames: Vec<()> }
+    enum Inner { Unsupported, Disabled, Captured(crate::sync::LazyLock<Capture, Capture>) }
+    pub struct Backtrace { inner: Inner }
+}
+#[cfg(any(unix, windows, target_family = "wasm"))]
+pub mod process {
+    #[cfg(unix)]
+    #[derive(Clone, Copy)]
+    pub struct ExitCode(u8);
+    #[cfg(windows)]
+    #[derive(Clone, Copy)]
+    pub struct ExitCode(u32);
+    #[cfg(unix)]
+    #[derive(Clone, Copy)]
+    pub struct ExitStatus(i32);
+    #[cfg(windows)]
+    #[derive(Clone, Copy)]
+    pub struct ExitStatus(u32);
+    #[cfg(any(unix, windows))]
+    pub struct Output { pub status: ExitStatus, pub stdout: Vec<u8>, pub stderr: Vec<u8> }
+    #[cfg(unix)]
+    type Pipe = crate::os::fd::OwnedFd;
+    #[cfg(windows)]
+    type Pipe = crate::os::windows::io::OwnedHandle;
+    #[cfg(target_family = "wasm")]
+    type Pipe = crate::convert::Infallible;
+    pub struct ChildStdin { inner: Pipe }
+    pub struct ChildStdout { inner: Pipe }
+    pub struct ChildStderr { inner: Pipe }
+    #[cfg(target_os = "linux")]
+    struct Process { pid: i32, status: Option<ExitStatus>, pidfd: Option<crate::os::fd::OwnedFd> }
+    #[cfg(target_os = "macos")]
+    struct Process { pid: i32, status: Option<ExitStatus> }
+    #[cfg(windows)]
+    struct Process { handle: crate::os::windows::io::OwnedHandle, main_thread_handle: crate::os::windows::io::OwnedHandle }
+    #[cfg(target_family = "wasm")]
+    struct Process(crate::convert::Infallible);
+    #[cfg(any(target_os = "linux", target_os = "macos", windows, target_family = "wasm"))]
+    pub struct Child { handle: Process, pub stdin: Option<ChildStdin>, pub stdout: Option<ChildStdout>, pub stderr: Option<ChildStderr> }
+    #[cfg(unix)]
+    enum StdioKind { Inherit, Null, MakePipe, Fd(crate::os::fd::OwnedFd), StaticFd(crate::os::fd::BorrowedFd<'static>) }
+    #[cfg(unix)]
+    pub struct Stdio(StdioKind);
+    #[cfg(target_os = "linux")]
+    struct CommandEnv { clear: bool, saw_path: bool, vars: crate::collections::BTreeMap<crate::ffi::OsString, Option<crate::ffi::OsString>> }
+    #[cfg(target_os = "linux")]
+    enum ProgramKind { PathLookup, Relative, Absolute }
+    #[cfg(target_os = "linux")]
+    pub struct Command { program: crate::ffi::CString, args: Vec<*const crate::ffi::c_char>, env: CommandEnv, program_kind: ProgramKind,
+        cwd: Option<crate::ffi::CString>, chroot: Option<crate::ffi::CString>, uid: Option<u32>, gid: Option<u32>, saw_nul: bool,
+        closures: Vec<Box<dyn crate::any::Any>>, groups: Option<Box<[u32]>>, stdin: Option<StdioKind>, stdout: Option<StdioKind>,
+        stderr: Option<StdioKind>, create_pidfd: bool, pgroup: Option<i32>, setsid: bool }
+}
 pub mod env {
+    #[cfg(unix)]
+    pub struct ArgsOs { inner: crate::vec::IntoIter<crate::ffi::OsString> }
+    #[cfg(unix)]
+    pub struct Args { inner: ArgsOs }
+    #[cfg(unix)]
+    pub struct VarsOs { inner: crate::vec::IntoIter<(crate::ffi::OsString, crate::ffi::OsString)> }
+    #[cfg(unix)]
+    pub struct Vars { inner: VarsOs }
+    #[cfg(unix)]
+    pub struct JoinPathsError {}
     pub enum VarError { NotPresent, NotUnicode(crate::ffi::OsString) }
 }
 pub mod io {
@@ -480,6 +707,40 @@ pub mod io {
     #[derive(Clone, Copy)]
     pub struct Sink;
     pub struct Cursor<T> { inner: T, pos: u64 }
+    struct Buffer { buf: Box<[crate::mem::MaybeUninit<u8>]>, pos: usize, filled: usize, initialized: usize }
+    pub struct BufReader<R: ?Sized> { buf: Buffer, inner: R }
+    pub struct BufWriter<W: ?Sized> { buf: Vec<u8>, panicked: bool, inner: W }
+    pub struct LineWriter<W: ?Sized> { inner: BufWriter<W> }
+    pub struct IntoInnerError<W>(W, Error);
+    pub struct Lines<B> { buf: B }
+    pub struct Split<B> { buf: B, delim: u8 }
+    pub struct Bytes<R> { inner: R }
+    pub struct Chain<T, U> { first: T, second: U, done_first: bool }
+    pub struct Take<T> { inner: T, len: u64, limit: u64 }
+    #[derive(Clone, Copy)]
+    pub struct Repeat { byte: u8 }
+    #[cfg(unix)]
+    struct Parts<'a> { base: *mut u8, len: usize, _p: crate::marker::PhantomData<&'a [u8]> }
+    #[cfg(windows)]
+    struct Parts<'a> { len: u32, base: *mut u8, _p: crate::marker::PhantomData<&'a [u8]> }
+    #[cfg(target_family = "wasm")]
+    type Parts<'a> = &'a [u8];
+    #[cfg(any(unix, windows, target_family = "wasm"))]
+    pub struct IoSlice<'a>(Parts<'a>);
+    #[cfg(any(unix, windows, target_family = "wasm"))]
+    pub struct IoSliceMut<'a>(Parts<'a>);
+    #[cfg(any(unix, windows, target_family = "wasm"))]
+    pub struct Stdin { inner: &'static crate::sync::Mutex<BufReader<()>> }
+    #[cfg(any(unix, windows, target_family = "wasm"))]
+    pub struct StdinLock<'a> { inner: crate::sync::MutexGuard<'a, BufReader<()>> }
+    #[cfg(any(unix, windows, target_family = "wasm"))]
+    pub struct Stdout { inner: &'static () }
+    #[cfg(any(unix, windows, target_family = "wasm"))]
+    pub struct StdoutLock<'a> { inner: &'a () }
+    #[cfg(any(unix, windows, target_family = "wasm"))]
+    pub struct Stderr { inner: &'static () }
+    #[cfg(any(unix, windows, target_family = "wasm"))]
+    pub struct StderrLock<'a> { inner: &'a () }
     pub mod prelude {}
 }
 #[cfg(unix)]
@@ -494,7 +755,19 @@ pub mod os {
         #[derive(Clone, Copy)]
         pub struct BorrowedFd<'a>(i32);
     }
-    pub mod unix { pub mod io { pub use crate::os::fd::*; } pub mod prelude { pub use crate::os::fd::*; } }
+    pub mod unix {
+        pub mod io { pub use crate::os::fd::*; }
+        pub mod prelude { pub use crate::os::fd::*; }
+        pub mod net {
+            pub struct UnixStream(crate::os::fd::OwnedFd);
+            pub struct UnixListener(crate::os::fd::OwnedFd);
+            pub struct UnixDatagram(crate::os::fd::OwnedFd);
+            #[cfg(target_os = "linux")]
+            struct Address { sun_family: u16, sun_path: [u8; 108] }
+            #[cfg(target_os = "linux")]
+            pub struct SocketAddr { addr: Address, len: u32 }
+        }
+    }
 }
 #[cfg(windows)]
 pub mod os {
@@ -537,6 +810,35 @@ pub mod os {
         c_longlong, c_ulonglong, c_float, c_double, c_void}; }
 }
 pub mod fs {
+    #[cfg(target_os = "macos")]
+    type Mode = u16;
+    #[cfg(all(unix, not(target_os = "macos")))]
+    type Mode = u32;
+    #[cfg(target_os = "linux")]
+    pub struct FileTimes { accessed: Option<crate::time::SystemTime>, modified: Option<crate::time::SystemTime> }
+    #[cfg(unix)]
+    pub struct OpenOptions { read: bool, write: bool, append: bool, truncate: bool, create: bool, create_new: bool, custom_flags: i32, mode: Mode }
+    #[cfg(target_family = "wasm")]
+    pub struct OpenOptions {}
+    #[cfg(target_family = "wasm")]
+    pub struct DirEntry(crate::convert::Infallible);
+    #[cfg(unix)]
+    pub struct DirBuilder { inner: Mode, recursive: bool }
+    #[cfg(unix)]
+    #[derive(Clone, Copy)]
+    pub struct FileType { mode: Mode }
+    #[cfg(all(target_os = "linux", target_env = "gnu", target_arch = "x86_64"))]
+    struct StatxExtraFields { stx_mask: u32, stx_btime: (i64, u32, i32) }
+    #[cfg(all(target_os = "linux", target_env = "gnu", target_arch = "x86_64"))]
+    pub struct Metadata { stat: [u64; 18], statx_extra_fields: Option<StatxExtraFields> }
+    #[cfg(target_os = "linux")]
+    struct InnerReadDir { dirp: crate::ptr::NonNull<u8>, root: crate::path::PathBuf }
+    #[cfg(target_os = "linux")]
+    pub struct ReadDir { inner: crate::sync::Arc<InnerReadDir>, end_of_stream: bool }
+    #[cfg(target_os = "linux")]
+    struct Dirent { d_ino: u64, d_type: u8 }
+    #[cfg(target_os = "linux")]
+    pub struct DirEntry { dir: crate::sync::Arc<InnerReadDir>, entry: Dirent, name: crate::ffi::CString }
     #[cfg(unix)]
     pub struct File { inner: crate::os::fd::OwnedFd }
     #[cfg(windows)]
@@ -579,6 +881,8 @@ pub mod net {
     pub struct TcpListener(Inner);
     #[cfg(any(unix, windows, target_family = "wasm"))]
     pub struct UdpSocket(Inner);
+    #[cfg(any(unix, windows, target_family = "wasm"))]
+    pub struct Incoming<'a> { listener: &'a TcpListener }
 }
 pub mod char {
     pub const MAX: char = '\u{10ffff}';
@@ -586,6 +890,12 @@ pub mod char {
     enum CharErrorKind { EmptyString, TooManyChars }
     #[derive(Clone, Copy)]
     pub struct CharTryFromError(());
+    #[derive(Clone, Copy)]
+    pub struct TryFromCharError(());
+    pub struct DecodeUtf16Error { code: u16 }
+    pub struct DecodeUtf16<I> { iter: I, buf: Option<u16> }
+    pub struct ToUppercase(crate::array::IntoIter<char, 3>);
+    pub struct ToLowercase(crate::array::IntoIter<char, 3>);
 }
 pub mod ffi {
     pub mod c_str { pub use super::{CStr, CString}; }
@@ -631,6 +941,12 @@ pub mod ffi {
     pub struct CString { inner: Box<[u8]> }
     pub struct CStr { inner: [c_char] }
     pub struct NulError(usize, Vec<u8>);
+    #[derive(Clone, Copy)]
+    pub struct FromBytesUntilNulError(());
+    #[derive(Clone, Copy)]
+    pub enum FromBytesWithNulError { InteriorNul { position: usize }, NotNulTerminated }
+    pub struct FromVecWithNulError { error_kind: FromBytesWithNulError, bytes: Vec<u8> }
+    pub struct IntoStringError { inner: CString, error: crate::str::Utf8Error }
     #[cfg(windows)]
     struct Buf { bytes: Vec<u8>, is_known_utf8: bool }
     #[cfg(not(windows))]
@@ -643,6 +959,58 @@ pub mod path {
     pub struct PathBuf { inner: crate::ffi::OsString }
     pub struct Path { inner: crate::ffi::OsStr }
     pub struct StripPrefixError(());
+    #[derive(Clone, Copy)]
+    pub enum Prefix<'a> { Verbatim(&'a crate::ffi::OsStr), VerbatimUNC(&'a crate::ffi::OsStr, &'a crate::ffi::OsStr), VerbatimDisk(u8),
+        DeviceNS(&'a crate::ffi::OsStr), UNC(&'a crate::ffi::OsStr, &'a crate::ffi::OsStr), Disk(u8) }
+    #[derive(Clone, Copy)]
+    pub struct PrefixComponent<'a> { raw: &'a crate::ffi::OsStr, parsed: Prefix<'a> }
+    #[derive(Clone, Copy)]
+    pub enum Component<'a> { Prefix(PrefixComponent<'a>), RootDir, CurDir, ParentDir, Normal(&'a crate::ffi::OsStr) }
+    #[derive(Clone, Copy)]
+    enum State { Prefix, StartDir, Body, Done }
+    pub struct Components<'a> { path: &'a [u8], prefix: Option<Prefix<'a>>, has_physical_root: bool, front: State, back: State }
+    pub struct Iter<'a> { inner: Components<'a> }
+    #[derive(Clone, Copy)]
+    pub struct Ancestors<'a> { next: Option<&'a Path> }
+    pub struct Display<'a> { inner: &'a crate::ffi::OsStr }
+}
+pub mod arch {
+    #[cfg(target_arch = "x86_64")]
+    pub mod x86_64 { pub use super::vectors::*; }
+    #[cfg(target_arch = "x86")]
+    pub mod x86 { pub use super::vectors::*; }
+    #[cfg(any(target_arch = "x86", target_arch = "x86_64"))]
+    mod vectors {
+        #[repr(C, align(16))]
+        #[derive(Clone, Copy)]
+        pub struct __m128i([i64; 2]);
+        #[repr(C, align(16))]
+        #[derive(Clone, Copy)]
+        pub struct __m128([f32; 4]);
+        #[repr(C, align(16))]
+        #[derive(Clone, Copy)]
+        pub struct __m128d([f64; 2]);
+        #[repr(C, align(32))]
+        #[derive(Clone, Copy)]
+        pub struct __m256i([i64; 4]);
+        #[repr(C, align(32))]
+        #[derive(Clone, Copy)]
+        pub struct __m256([f32; 8]);
+        #[repr(C, align(32))]
+        #[derive(Clone, Copy)]
+        pub struct __m256d([f64; 4]);
+        #[repr(C, align(64))]
+        #[derive(Clone, Copy)]
+        pub struct __m512i([i64; 8]);
+        #[repr(C, align(64))]
+        #[derive(Clone, Copy)]
+        pub struct __m512([f32; 16]);
+        #[repr(C, align(64))]
+        #[derive(Clone, Copy)]
+        pub struct __m512d([f64; 8]);
+        #[derive(Clone, Copy)]
+        pub struct CpuidResult { pub eax: u32, pub ebx: u32, pub ecx: u32, pub edx: u32 }
+    }
 }
 pub mod primitive {
     pub use super::raw_primitive::Raw_u8 as u8;
