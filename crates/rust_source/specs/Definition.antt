@@ -106,12 +106,12 @@ alias_head c names =
     read_on (λ (g : HeadRead × Cursor) ms. read_on (λ d ls. done (g.0, d) ls) (expected g.1 61 ExpectedEquals, ms)) (where_asked h.0 (asked h.1).1 ns))
     (head_read c names)
 
--- another name of a type, behind its `type`
+-- another name of a type, behind its `type`; what `where` asks stands before the `=`
 unfoldable pub alias_read : Reader DefinitionRead
 alias_read c names =
     read_on (λ (h : HeadRead × Cursor) ns.
     read_on (λ (t : TypeRead × Cursor) ms.
-    read_on (λ (g : HeadRead × Cursor) ls. done (definition g.0 (alias_of t.0), g.1) ls) (tail_read h.0 t.1 ms))
+    read_on (λ d ls. done (definition h.0 (alias_of t.0), d) ls) (expected t.1 59 ExpectedSemicolon, ms))
     (type_read most_nested h.1 ns))
     (alias_head c names)
 

@@ -58,10 +58,6 @@ token_closed k before (Some n) = Ok (k, before + n)
 unfoldable pub string_token : List ℕ → (before : ℕ) → Lexed
 string_token bytes before = token_closed kind.Text before (escaped_length 34 (drop before bytes))
 
--- the byte literal that the bytes begin with by `b'`
-unfoldable pub byte_token : List ℕ → Lexed
-byte_token bytes = token_closed kind.Byte 1 (escaped_length 39 (drop 1 bytes))
-
 -- the lifetime of this name, behind its `'`
 abbrev pub lifetime : (name : ℕ) → Lexed
 lifetime name = if name == 0 then Err BadCharacter else Ok (kind.Lifetime, name + 1)
@@ -77,6 +73,16 @@ unfoldable pub quote_token : List ℕ → Lexed
 quote_token bytes =
     let inside = drop 1 bytes in
     if byte_at inside 0 == 92 then token_closed kind.Char 0 (escaped_length 39 bytes) else quote_by inside (first_char inside)
+
+-- the byte literal of this character, behind its `b`; what would be a lifetime alone is none
+abbrev pub byte_of : (character : Lexed) → Lexed
+byte_of (Ok (kind.Char, n)) = Ok (kind.Byte, n + 1)
+byte_of (Ok _) = Err BadCharacter
+byte_of (Err k) = Err k
+
+-- the byte literal that the bytes begin with by `b'`
+unfoldable pub byte_token : List ℕ → Lexed
+byte_token bytes = byte_of (quote_token (drop 1 bytes))
 
 -- the raw name that the bytes begin with by `r#`, where a name of this length follows
 abbrev pub raw_name : (name : ℕ) → Option Lexed

@@ -183,9 +183,9 @@ fn read_alias(names: &mut Names, cursor: &mut Cursor<'_>) -> Result<Definition, 
     ensures { Reads (λ one. (definition_of one, cursor.new)) (alias_read cursor.old (texts names.old))
         (texts names.new) result }
 {
-    let mut head = read_alias_head(names, cursor)?;
+    let head = read_alias_head(names, cursor)?;
     let ty = read_type(names, cursor, most_nested())?;
-    read_tail(names, cursor, &mut head)?;
+    expect(cursor, b';', SourceFaultKind::ExpectedSemicolon)?;
     let kind = ItemKind::Alias(ty);
     Ok(Definition { head, kind })
 }

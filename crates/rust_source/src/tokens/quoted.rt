@@ -96,19 +96,6 @@ pub(crate) fn string_token(rest: &[u8], before: usize) -> Lexed
     )
 }
 
-/// The byte literal that the bytes begin with by `b'`.
-#[tactic(auto, unfolding(crate::specs::Quoted::byte_token))]
-fn byte_token(rest: &[u8]) -> Lexed
-    ensures same { result ≡ byte_token rest.now }
-    ensures bounded { IfOk result (λ token. token.1 ≤ length rest.now + 4) }
-{
-    closed(
-        TokenKind::Byte,
-        1,
-        escaped_length(bytes_after(rest, 1), b'\''),
-    )
-}
-
 /// The lifetime whose name has this length.
 fn lifetime(length: usize) -> Lexed
     requires { length < 2 ^ 63 }
@@ -137,6 +124,27 @@ pub(crate) fn quote_token(rest: &[u8]) -> Lexed
         return Ok((TokenKind::Char, length + 2));
     }
     lifetime(name_length(inside))
+}
+
+/// The byte literal of this character, which `b` stands before. What would be a lifetime alone is none.
+fn byte_of(character: Lexed) -> Lexed
+    requires { IfOk character (λ token. token.1 < 2 ^ 63) }
+    ensures { result ≡ byte_of character }
+{
+    match character? {
+        (TokenKind::Char, length) => Ok((TokenKind::Byte, length + 1)),
+        _ => Err(SourceFaultKind::BadCharacter),
+    }
+}
+
+/// The byte literal that the bytes begin with by `b'`.
+#[tactic(auto, unfolding(crate::specs::Quoted::byte_token))]
+fn byte_token(rest: &[u8]) -> Lexed
+    requires { 1 ≤ length rest.now }
+    ensures same { result ≡ byte_token rest.now }
+    ensures bounded { IfOk result (λ token. token.1 ≤ length rest.now + 4) }
+{
+    byte_of(quote_token(bytes_after(rest, 1)))
 }
 
 /// The raw name that the bytes begin with by `r#`, where a name of this length follows.
