@@ -42,6 +42,7 @@ place_of_word word.PathModule = 40
 place_of_word word.Path = 41
 place_of_word word.PathBuf = 42
 place_of_word word.ManuallyDrop = 43
+place_of_word word.Libc = 44
 
 -- its number among all names
 unfoldable pub symbol_of : Words → Word → Symbol

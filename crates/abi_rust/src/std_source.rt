@@ -4,7 +4,8 @@
 /// the library's own business, and other releases may have others. `std`, `core` and `alloc` are one module here. On a
 /// struct, `rustc_layout_scalar_valid_range` limits the numbers of its first field. The unions are `transparent` there;
 /// without it they are laid out alike, and the stable language, whose rules count here, has no such unions. A processor's
-/// vectors are `simd` there, and aligned to their size.
+/// vectors are `simd` there, and aligned to their size. `libc` isn't the library's: it has C's names of the crate of that
+/// name, and a glob that leads to nothing, so that none of its other names is known.
 pub(crate) const STD_SOURCES: &str = r#"pub mod prelude {
     pub use crate::option::Option;
     pub use crate::result::Result;
@@ -954,6 +955,24 @@ pub mod ffi {
     struct Slice { inner: [u8] }
     pub struct OsString { inner: Buf }
     pub struct OsStr { inner: Slice }
+}
+mod libc {
+    pub use crate::ffi::{c_char, c_schar, c_uchar, c_short, c_ushort, c_int, c_uint, c_long, c_ulong, c_longlong, c_ulonglong, c_float,
+        c_double, c_void};
+    pub type size_t = usize;
+    pub type ssize_t = isize;
+    pub type ptrdiff_t = isize;
+    pub type intptr_t = isize;
+    pub type uintptr_t = usize;
+    pub type int8_t = i8;
+    pub type int16_t = i16;
+    pub type int32_t = i32;
+    pub type int64_t = i64;
+    pub type uint8_t = u8;
+    pub type uint16_t = u16;
+    pub type uint32_t = u32;
+    pub type uint64_t = u64;
+    pub use not_read::*;
 }
 pub mod path {
     pub struct PathBuf { inner: crate::ffi::OsString }

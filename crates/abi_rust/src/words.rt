@@ -10,7 +10,7 @@ use rust_source::{IntegerKind, Names, Symbol};
 use std::alloc::AllocError;
 
 /// The names of primitive types, and then others, in the order of their numbers.
-static WORDS: [&str; 44] = [
+static WORDS: [&str; 45] = [
     "bool",
     "char",
     "str",
@@ -55,6 +55,7 @@ static WORDS: [&str; 44] = [
     "Path",
     "PathBuf",
     "ManuallyDrop",
+    "libc",
 ];
 
 /// The names that have a meaning of their own, by how far they stand behind the first of them.
@@ -91,6 +92,7 @@ pub(crate) enum Word {
     Path = 41,
     PathBuf = 42,
     ManuallyDrop = 43,
+    Libc = 44,
 }
 
 impl Words {
