@@ -126,25 +126,17 @@ pub(crate) fn quote_token(rest: &[u8]) -> Lexed
     lifetime(name_length(inside))
 }
 
-/// The byte literal of this character, which `b` stands before. What would be a lifetime alone is none.
-fn byte_of(character: Lexed) -> Lexed
-    requires { IfOk character (λ token. token.1 < 2 ^ 63) }
-    ensures { result ≡ byte_of character }
-{
-    match character? {
-        (TokenKind::Char, length) => Ok((TokenKind::Byte, length + 1)),
-        _ => Err(SourceFaultKind::BadCharacter),
-    }
-}
-
-/// The byte literal that the bytes begin with by `b'`.
+/// The byte literal that the bytes begin with by `b'`, which has one character. What would be a lifetime behind the `b` is none.
 #[tactic(auto, unfolding(crate::specs::Quoted::byte_token))]
 fn byte_token(rest: &[u8]) -> Lexed
     requires { 1 ≤ length rest.now }
     ensures same { result ≡ byte_token rest.now }
     ensures bounded { IfOk result (λ token. token.1 ≤ length rest.now + 4) }
 {
-    byte_of(quote_token(bytes_after(rest, 1)))
+    match quote_token(bytes_after(rest, 1))? {
+        (TokenKind::Char, length) => Ok((TokenKind::Byte, length + 1)),
+        _ => Err(SourceFaultKind::BadCharacter),
+    }
 }
 
 /// The raw name that the bytes begin with by `r#`, where a name of this length follows.
