@@ -274,7 +274,10 @@ impl<'a> CrateFiles<'a> {
                 Ok(Err(none))
             }
             (false, false) => {
-                write!(none, "this module has no file: neither {first} nor {second} is there")?;
+                write!(
+                    none,
+                    "this module has no file: neither {first} nor {second} is there"
+                )?;
                 Ok(Err(none))
             }
         }
@@ -322,7 +325,9 @@ impl<'a> CrateFiles<'a> {
                 Ok(Search::Found)
             }
             Err(error) => {
-                let text = format!(in self.alloc; "this module's file {path} can't be read: {error}")?;
+                let text = format!(in self.alloc;
+                    "this module's file {path} can't be read: {error}"
+                )?;
                 Ok(Search::Fault(text))
             }
         }

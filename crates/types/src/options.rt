@@ -69,7 +69,9 @@ fn file_argument<'a>(alloc: Global) -> Arg<'a> {
     Arg::new(alloc, "file")
         .value_name("FILE.rs")
         .action(ArgAction::Append)
-        .help("a source or the root of a crate, read apart from the others; standard input where none is named")
+        .help(
+            "a source or the root of a crate, read apart from the others; standard input where none is named",
+        )
 }
 
 /// The command, with what it may be asked for.
