@@ -107,6 +107,7 @@ static X86: [Target; 5] = [
             panic: "unwind",
             atomics: ATOMICS_64,
             features: SSE2,
+            crate_features: &[],
         },
     },
     Target {
@@ -125,6 +126,7 @@ static X86: [Target; 5] = [
             panic: "unwind",
             atomics: ATOMICS_128,
             features: SSE3,
+            crate_features: &[],
         },
     },
     Target {
@@ -143,6 +145,7 @@ static X86: [Target; 5] = [
             panic: "unwind",
             atomics: ATOMICS_128,
             features: SSE4,
+            crate_features: &[],
         },
     },
     Target {
@@ -161,6 +164,7 @@ static X86: [Target; 5] = [
             panic: "unwind",
             atomics: ATOMICS_64,
             features: SSE2,
+            crate_features: &[],
         },
     },
     Target {
@@ -179,6 +183,7 @@ static X86: [Target; 5] = [
             panic: "unwind",
             atomics: ATOMICS_64,
             features: SSE2,
+            crate_features: &[],
         },
     },
 ];
@@ -201,6 +206,7 @@ static ARM: [Target; 7] = [
             panic: "unwind",
             atomics: ATOMICS_128,
             features: NEON,
+            crate_features: &[],
         },
     },
     Target {
@@ -219,6 +225,7 @@ static ARM: [Target; 7] = [
             panic: "unwind",
             atomics: ATOMICS_128,
             features: APPLE_M1,
+            crate_features: &[],
         },
     },
     Target {
@@ -237,6 +244,7 @@ static ARM: [Target; 7] = [
             panic: "unwind",
             atomics: ATOMICS_128,
             features: NEON,
+            crate_features: &[],
         },
     },
     Target {
@@ -255,6 +263,7 @@ static ARM: [Target; 7] = [
             panic: "unwind",
             atomics: ATOMICS_128,
             features: NEON,
+            crate_features: &[],
         },
     },
     Target {
@@ -273,6 +282,7 @@ static ARM: [Target; 7] = [
             panic: "unwind",
             atomics: ATOMICS_64,
             features: &[],
+            crate_features: &[],
         },
     },
     Target {
@@ -291,6 +301,7 @@ static ARM: [Target; 7] = [
             panic: "abort",
             atomics: ATOMICS_32,
             features: &[],
+            crate_features: &[],
         },
     },
     Target {
@@ -309,6 +320,7 @@ static ARM: [Target; 7] = [
             panic: "abort",
             atomics: &[],
             features: &[],
+            crate_features: &[],
         },
     },
 ];
@@ -331,6 +343,7 @@ static RISCV_AND_POWER: [Target; 6] = [
             panic: "abort",
             atomics: ATOMICS_32,
             features: RISCV_IMAC,
+            crate_features: &[],
         },
     },
     Target {
@@ -349,6 +362,7 @@ static RISCV_AND_POWER: [Target; 6] = [
             panic: "unwind",
             atomics: ATOMICS_64,
             features: RISCV_GC,
+            crate_features: &[],
         },
     },
     Target {
@@ -367,6 +381,7 @@ static RISCV_AND_POWER: [Target; 6] = [
             panic: "unwind",
             atomics: ATOMICS_32,
             features: &[],
+            crate_features: &[],
         },
     },
     Target {
@@ -385,6 +400,7 @@ static RISCV_AND_POWER: [Target; 6] = [
             panic: "unwind",
             atomics: ATOMICS_64,
             features: &[],
+            crate_features: &[],
         },
     },
     Target {
@@ -403,6 +419,7 @@ static RISCV_AND_POWER: [Target; 6] = [
             panic: "unwind",
             atomics: ATOMICS_64,
             features: &[],
+            crate_features: &[],
         },
     },
     Target {
@@ -421,6 +438,7 @@ static RISCV_AND_POWER: [Target; 6] = [
             panic: "unwind",
             atomics: ATOMICS_64,
             features: &[],
+            crate_features: &[],
         },
     },
 ];
@@ -443,6 +461,7 @@ static SPARC_AND_MIPS: [Target; 7] = [
             panic: "unwind",
             atomics: ATOMICS_128,
             features: &[],
+            crate_features: &[],
         },
     },
     Target {
@@ -461,6 +480,7 @@ static SPARC_AND_MIPS: [Target; 7] = [
             panic: "unwind",
             atomics: ATOMICS_32,
             features: &[],
+            crate_features: &[],
         },
     },
     Target {
@@ -479,6 +499,7 @@ static SPARC_AND_MIPS: [Target; 7] = [
             panic: "unwind",
             atomics: ATOMICS_64,
             features: &[],
+            crate_features: &[],
         },
     },
     Target {
@@ -497,6 +518,7 @@ static SPARC_AND_MIPS: [Target; 7] = [
             panic: "unwind",
             atomics: ATOMICS_32,
             features: &[],
+            crate_features: &[],
         },
     },
     Target {
@@ -515,6 +537,7 @@ static SPARC_AND_MIPS: [Target; 7] = [
             panic: "unwind",
             atomics: ATOMICS_32,
             features: &[],
+            crate_features: &[],
         },
     },
     Target {
@@ -533,6 +556,7 @@ static SPARC_AND_MIPS: [Target; 7] = [
             panic: "unwind",
             atomics: ATOMICS_64,
             features: &[],
+            crate_features: &[],
         },
     },
     Target {
@@ -551,6 +575,7 @@ static SPARC_AND_MIPS: [Target; 7] = [
             panic: "unwind",
             atomics: ATOMICS_64,
             features: LOONGARCH,
+            crate_features: &[],
         },
     },
 ];
@@ -573,6 +598,7 @@ static WASM_AND_OTHERS: [Target; 5] = [
             panic: "unwind",
             atomics: ATOMICS_32,
             features: &[],
+            crate_features: &[],
         },
     },
     Target {
@@ -591,6 +617,7 @@ static WASM_AND_OTHERS: [Target; 5] = [
             panic: "unwind",
             atomics: ATOMICS_32,
             features: &[],
+            crate_features: &[],
         },
     },
     Target {
@@ -609,6 +636,7 @@ static WASM_AND_OTHERS: [Target; 5] = [
             panic: "unwind",
             atomics: ATOMICS_32,
             features: &[],
+            crate_features: &[],
         },
     },
     Target {
@@ -627,6 +655,7 @@ static WASM_AND_OTHERS: [Target; 5] = [
             panic: "abort",
             atomics: ATOMICS_64,
             features: WASM,
+            crate_features: &[],
         },
     },
     Target {
@@ -645,6 +674,7 @@ static WASM_AND_OTHERS: [Target; 5] = [
             panic: "abort",
             atomics: ATOMICS_64,
             features: WASM,
+            crate_features: &[],
         },
     },
 ];
@@ -667,6 +697,7 @@ static WITHOUT_A_SYSTEM: [Target; 6] = [
             panic: "abort",
             atomics: ATOMICS_64,
             features: &[],
+            crate_features: &[],
         },
     },
     Target {
@@ -685,6 +716,7 @@ static WITHOUT_A_SYSTEM: [Target; 6] = [
             panic: "abort",
             atomics: ATOMICS_64,
             features: &[],
+            crate_features: &[],
         },
     },
     Target {
@@ -703,6 +735,7 @@ static WITHOUT_A_SYSTEM: [Target; 6] = [
             panic: "abort",
             atomics: &[],
             features: &[],
+            crate_features: &[],
         },
     },
     Target {
@@ -721,6 +754,7 @@ static WITHOUT_A_SYSTEM: [Target; 6] = [
             panic: "unwind",
             atomics: &[],
             features: &[],
+            crate_features: &[],
         },
     },
     Target {
@@ -739,6 +773,7 @@ static WITHOUT_A_SYSTEM: [Target; 6] = [
             panic: "abort",
             atomics: &[],
             features: &[],
+            crate_features: &[],
         },
     },
     Target {
@@ -757,6 +792,7 @@ static WITHOUT_A_SYSTEM: [Target; 6] = [
             panic: "abort",
             atomics: ATOMICS_32,
             features: &[],
+            crate_features: &[],
         },
     },
 ];

@@ -122,7 +122,9 @@ is_one_text (t ∷ ts) value = is_text value t.now || is_one_text ts value
 unfoldable pub listed_value : CfgTarget → (name : List ℕ) → ValueRead → Option Bool
 listed_value t name value =
     if bytes_eq name (codes "target_has_atomic") then Some (is_one_text t.atomics.now value)
-    else (if bytes_eq name (codes "target_feature") then Some (is_one_text t.features.now value) else None)
+    else (if bytes_eq name (codes "target_feature") then Some (is_one_text t.features.now value)
+    else (if bytes_eq name (codes "feature") && not (length t.crate_features.now == 0) then Some (is_one_text t.crate_features.now value)
+    else None))
 
 -- whether the target has this value under this name, which is none of those below; none where the name isn't known
 unfoldable pub other_value : CfgTarget → (name : List ℕ) → ValueRead → Option Bool

@@ -34,4 +34,6 @@ pub struct CfgTarget<'a> {
     pub atomics: &'a [&'a str],
     /// The values of `target_feature` that hold without being asked for, as `sse2`.
     pub features: &'a [&'a str],
+    /// The values of `feature` that hold, those of the crate that are asked for; where there is none, the name isn't known.
+    pub crate_features: &'a [&'a str],
 }

@@ -11,9 +11,9 @@ use crate::options::{Form, Options};
 use crate::place::{Spot, write_fault};
 use abi_base::TargetDataLayout;
 use abi_map::map_of;
-use abi_rust::{Fault, Sources, Target, TypeReport, data_layout_of};
+use abi_rust::{Fault, Sources, TypeReport, data_layout_of};
 use abi_tree::Laid;
-use rust_source::Names;
+use rust_source::{CfgTarget, Names};
 use rustc_abi::{LayError, lay_out};
 use serde_json::{Map, Value};
 use std::alloc::{AllocError, Global};
@@ -128,7 +128,7 @@ fn refusal_of(alloc: Global, name: &str, own: Spot, error: LayError) -> SourceFa
 #[derive(Clone, Copy)]
 struct TargetContext<'a> {
     options: &'a Options<'a>,
-    target: &'a Target,
+    cfg: CfgTarget<'a>,
     dl: &'a TargetDataLayout,
     /// The target's name, where several were asked for.
     triple: Option<&'static str>,
@@ -213,7 +213,7 @@ fn put_fault(faults: &mut Vec<ModuleFault>, at: Spot, text: String) -> Result<()
 /// Reads the files of modules, those that they name too, and puts the faults of those that aren't read behind the others.
 fn follow_modules(
     rt: &HostRuntime,
-    target: &Target,
+    cfg: &CfgTarget<'_>,
     sources: &mut Sources,
     files: &mut CrateFiles<'_>,
     faults: &mut Vec<ModuleFault>,
@@ -226,7 +226,7 @@ fn follow_modules(
         match files.find(rt, sources, outline)? {
             Search::Found => {
                 let text = files.last_text();
-                if let Err(fault) = sources.add_module(rt.alloc(), &target.cfg, outline, text) {
+                if let Err(fault) = sources.add_module(rt.alloc(), cfg, outline, text) {
                     return Err(failure_of(rt.alloc(), sources, &fault, Spot::Nowhere));
                 }
             }
@@ -240,22 +240,22 @@ fn follow_modules(
 /// Reads a file into these sources, and those of its modules where it is the root of a crate.
 fn read_files(
     rt: &HostRuntime,
-    target: &Target,
+    cfg: &CfgTarget<'_>,
     sources: &mut Sources,
     files: &mut CrateFiles<'_>,
     faults: &mut Vec<ModuleFault>,
 ) -> Result<(), SourceFailure> {
     let alloc = rt.alloc();
     let root = files.root;
-    if let Err(fault) = sources.begin(alloc, &target.cfg) {
+    if let Err(fault) = sources.begin(alloc, cfg) {
         return Err(failure_of(alloc, sources, &fault, Spot::Nowhere));
     }
-    match sources.add_root(alloc, &target.cfg, root.is_root, root.text) {
+    match sources.add_root(alloc, cfg, root.is_root, root.text) {
         Ok(module) => files.module = module,
         Err(fault) => return Err(failure_of(alloc, sources, &fault, Spot::Nowhere)),
     }
     if root.is_root && root.name.is_some() {
-        follow_modules(rt, target, sources, files, faults)?;
+        follow_modules(rt, cfg, sources, files, faults)?;
     }
     match sources.finish(alloc) {
         Ok(()) => Ok(()),
@@ -513,7 +513,7 @@ impl FileReport {
         files: &mut CrateFiles<'_>,
     ) -> Result<(), SourceFailure> {
         let mut faults = Vec::new(self.alloc);
-        read_files(rt, cx.target, sources, files, &mut faults)?;
+        read_files(rt, &cx.cfg, sources, files, &mut faults)?;
         let cx = ReportContext {
             options: cx.options,
             files: &*files,
@@ -567,9 +567,13 @@ impl FileReport {
         for target in &options.targets {
             match data_layout_of(self.alloc, target) {
                 Ok(dl) => {
+                    let cfg = CfgTarget {
+                        crate_features: options.features.as_slice(),
+                        ..target.cfg
+                    };
                     let cx = TargetContext {
                         options,
-                        target,
+                        cfg,
                         dl: &dl,
                         triple: if is_one { None } else { Some(target.triple) },
                     };

@@ -28,6 +28,8 @@ pub(crate) struct Options<'a> {
     /// The types that are asked for by name; all of the source where there is none.
     pub(crate) types: Vec<&'a str>,
     pub(crate) form: Form,
+    /// The features of the crates, as Cargo names them.
+    pub(crate) features: Vec<&'a str>,
     /// The files, in the order in which they were named; standard input is read where there is none.
     pub(crate) files: Vec<&'a str>,
     /// Whether each file is taken for the root of a crate, whatever it is called.
@@ -54,6 +56,15 @@ fn type_option<'a>(alloc: Global) -> Arg<'a> {
         .value_name("TYPE")
         .action(ArgAction::Append)
         .help("tells of this type alone, as 'Option<Header>'; more than one may be named")
+}
+
+/// The option that names features.
+fn feature_option<'a>(alloc: Global) -> Arg<'a> {
+    Arg::new(alloc, "features")
+        .long("features")
+        .value_name("NAMES")
+        .action(ArgAction::Append)
+        .help("features of the crate that `cfg` asks for, with commas between, as Cargo takes them")
 }
 
 /// An option that picks a form.
@@ -99,6 +110,7 @@ pub(crate) fn command<'a>(alloc: Global) -> Result<Command<'a>, AllocError> {
         .about("Lays out the types that a Rust source defines")
         .arg(target_option(alloc))?
         .arg(type_option(alloc))?
+        .arg(feature_option(alloc))?
         .arg(json)?
         .arg(map)?
         .arg(svg)?
@@ -156,6 +168,19 @@ fn words_of<'a>(alloc: Global, words: &[&'a str]) -> Result<Vec<&'a str>, AllocE
     Ok(all)
 }
 
+/// The features that were named, with commas or spaces between them.
+fn features_of<'a>(alloc: Global, lists: &[&'a str]) -> Result<Vec<&'a str>, AllocError> {
+    let mut all = Vec::new(alloc);
+    for list in lists {
+        for words in list.split(',') {
+            for name in words.split_ascii_whitespace() {
+                all.push(name)?;
+            }
+        }
+    }
+    Ok(all)
+}
+
 /// The form that was picked.
 fn form_of(matches: &ArgMatches<'_>) -> Form {
     if matches.get_flag("json") {
@@ -192,6 +217,7 @@ pub(crate) fn options_of<'a>(
     if matches.get_flag("svg") && files.len() > 1 {
         return Err(OptionFault::ManyFiles);
     }
+    let features = features_of(alloc, matches.get_strs("features").unwrap_or(&[]))?;
     let named = matches.get_strs("target").unwrap_or(&[]);
     let names_target = !named.is_empty();
     let targets = if names_target {
@@ -204,6 +230,7 @@ pub(crate) fn options_of<'a>(
         names_target,
         types,
         form: form_of(matches),
+        features,
         files,
         are_roots: matches.get_flag("root"),
         is_strict: matches.get_flag("strict"),

@@ -187,6 +187,8 @@ fn listed_value(target: &CfgTarget<'_>, name: &str, value: CfgValue<'_>) -> Opti
         Some(is_one_text(target.atomics, value))
     } else if name == "target_feature" {
         Some(is_one_text(target.features, value))
+    } else if name == "feature" && !target.crate_features.is_empty() {
+        Some(is_one_text(target.crate_features, value))
     } else {
         None
     }
