@@ -18,7 +18,9 @@ use Rattle.rust_source.specs.declared.syntax.«Type».{«Type» as Written}
 use Rattle.abi_rust.specs.Resolving.{inner, item_with, resolver, type_with}
 use Rattle.abi_rust.specs.Tails.{Outer, tail_inner, tail_of_item_with, tail_with}
 use Rattle.abi_rust.specs.Types.{GenericArgsRead, TyRead, Where}
-use Rattle.abi_rust.specs.Names.{lookup_of, named_behind, behind_all, first, path_named, root_above, root_within, space_before}
+use Rattle.abi_rust.specs.Names.{behind_all, beside_module, first, found_of, lookup_of, named_behind, names_in_path, path_named, root_above, root_within, space_before, target_in}
+use Rattle.abi_rust.specs.declared.use_targets.UseTarget.{UseTarget}
+use Rattle.rust_source.specs.declared.syntax.Path.{Path, out-Path}
 use Rattle.abi_rust.specs.Visible.{parent}
 
 pub turns : (n i : ℕ) → i < n → n - i ≡ suc (n - (i + 1))
@@ -70,6 +72,18 @@ module _ (items : Items) (scope : Scope) where
     all_named view all rest begin (suc count) begun left is_global space skipped start found names is counted started same past =
         let e : begun ≡ count = omega arith in
         rw (is, ← e) (sym past ∙ (same ∙ ap (λ s. behind_all items scope brought begun m space s (map view rest)) started))
+
+  -- what is found by what the scope's uses are known to bring in
+  pub found_by_uses : (m : ℕ) (p : Path) (count n : ℕ) (space : Space) (targets : List UseTarget) (found result : Option Resolution)
+      → targets ≡ scope.use_targets.items → count ≡ n
+      → found ≡ path_named items scope (target_in targets) count m (out-Path p).is_global space None (names_in_path p)
+      → result ≡ beside_module items scope count space (names_in_path p) found
+      → result ≡ found_of items scope m p n space
+  unfolding found_of
+  found_by_uses m p count n space targets found result known counted named beside =
+      beside ∙ (ap (beside_module items scope count space (names_in_path p))
+      (named ∙ ap (λ ts. path_named items scope (target_in ts) count m (out-Path p).is_global space None (names_in_path p)) known)
+      ∙ ap (λ k. found_of items scope m p k space) counted)
 
 module _ (items : Items) (scope : Scope) (n i : ℕ) where
   pub type_more : (found : Option Resolution) → i < n → type_within items scope (n - i) found ≡ type_step items scope (type_within items scope (n - (i + 1))) found

@@ -158,8 +158,8 @@ limit_named cx kind name =
 
 -- the branch that a condition of this value chooses
 abbrev pub branch_of : ValueRead → (yes no : Expr) → Expr
-branch_of (truth true) yes no = yes
-branch_of _ yes no = no
+branch_of (truth true) l r = l
+branch_of _ l r = r
 
 -- how expressions are evaluated where they stand, of the type that is wanted
 abbrev pub Evaluator : Type 0

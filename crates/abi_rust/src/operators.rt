@@ -3,7 +3,7 @@
 ghost use Rattle.std.specs.Prelude.{◌≡◌, IfNone, IfOk, IfSome, Err, pos, unsigned_abs, ◌%◌};
 ghost use Rattle.std.specs.Option.{option_map};
 ghost use Rattle.abi_rust.specs.Int.{number_of_int};
-ghost use Rattle.abi_rust.specs.Operators.{as_code, binary_of, bits_of_value, cast_of, divided, fitted, is_settled, number_of_kind, number_of_truth, of_numbers, of_truths, order_of, same_integer, is_same_kind, seen, shifted_left, shifted_right, unary_of};
+ghost use Rattle.abi_rust.specs.Operators.{as_code, binary_of, bits_of_value, cast_of, divided, fitted, is_settled, number_of_kind, number_of_truth, of_numbers, of_truths, of_two, order_of, same_integer, is_same_kind, seen, shifted_left, shifted_right, unary_of};
 ghost use Rattle.abi_rust.specs.Values.{IsNumberOfKind, value_as_read};
 
 use crate::fault::FaultKind;
@@ -87,16 +87,7 @@ pub(crate) fn binary(
         }
         (ConstValue::Integer(kind, a), ConstValue::Integer(other, b)) => {
             let width = Width::of(kind, pointer_bits);
-            match operator {
-                Binary::Shl => shifted_left(kind, width, a, b),
-                Binary::Shr => shifted_right(kind, width, a, b),
-                _ => {
-                    if !same_integer(kind, other) {
-                        return Err(FaultKind::WrongType);
-                    }
-                    of_integers(operator, kind, width, a, b)
-                }
-            }
+            of_two(operator, width, (kind, a), (other, b))
         }
         _ => Err(FaultKind::WrongType),
     }
@@ -150,6 +141,29 @@ fn shifted_right(kind: IntegerKind, width: Width, a: Int, b: Int) -> Result<Cons
         ≡ shifted_right kind width.is_signed width.bits (number_of_int a) (number_of_int b) }
 {
     fitting(kind, width, a.shifted_right(width, b))
+}
+
+/// What an operator makes of two numbers, each with its type: of two types for a shift alone.
+fn of_two(
+    operator: Binary,
+    width: Width,
+    left: (IntegerKind, Int),
+    right: (IntegerKind, Int),
+) -> Result<ConstValue, FaultKind>
+    ensures { seen value_as_read result ≡ of_two operator width.is_signed width.bits left.0 right.0
+        (number_of_int left.1) (number_of_int right.1) }
+{
+    let ((kind, a), (other, b)) = (left, right);
+    match operator {
+        Binary::Shl => shifted_left(kind, width, a, b),
+        Binary::Shr => shifted_right(kind, width, a, b),
+        _ => {
+            if !same_integer(kind, other) {
+                return Err(FaultKind::WrongType);
+            }
+            of_integers(operator, kind, width, a, b)
+        }
+    }
 }
 
 /// What an operator makes of two numbers of one type.

@@ -111,7 +111,6 @@ fn crate_above(items: &Items, module: u32) -> Resolution
 }
 
 /// What a path in a module names, if anything.
-#[tactic(auto, unfolding(crate::specs::Names::found_of))]
 pub(crate) fn find(
     items: &Items,
     scope: &Scope,
@@ -121,10 +120,11 @@ pub(crate) fn find(
 ) -> Option<Resolution>
     ensures { result ≡ found items.now scope.now «module» path.now space }
 {
+    let targets = scope.use_targets.as_slice();
     let tables = NameTables {
         items,
         scope,
-        targets: scope.use_targets.as_slice(),
+        targets,
     };
     let count = path.segments.len();
     let found = names_named(tables, module, path, count, space);
@@ -132,7 +132,6 @@ pub(crate) fn find(
 }
 
 /// What the first names of a path name among types and modules, so many of them, if anything.
-#[tactic(auto, unfolding(crate::specs::Names::found_of))]
 pub(crate) fn find_prefix(
     items: &Items,
     scope: &Scope,
@@ -142,10 +141,11 @@ pub(crate) fn find_prefix(
 ) -> Option<Resolution>
     ensures { result ≡ found_of items.now scope.now «module» path.now count Space.Types }
 {
+    let targets = scope.use_targets.as_slice();
     let tables = NameTables {
         items,
         scope,
-        targets: scope.use_targets.as_slice(),
+        targets,
     };
     let found = names_named(tables, module, path, count, Space::Types);
     beside_module(tables, path, count, Space::Types, found)
