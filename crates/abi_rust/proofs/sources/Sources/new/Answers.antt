@@ -1,5 +1,5 @@
 -- The words stand behind the first names.
-use Rattle.std.proofs.Common.{◌∙◌, ap, refl}
+use Rattle.std.proofs.Common.{◌∙◌, ap, refl, rules}
 use Rattle.std.specs.Prelude.{codes}
 use Rattle.rust_source.specs.Names.{added, all_added, first_names, number_of_name}
 use Rattle.abi_rust.specs.Words.{known_words}
