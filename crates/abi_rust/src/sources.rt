@@ -100,7 +100,7 @@ impl Sources {
         ensures { LibraryRead target.now self.old self.new result }
     {
         let library = library_text();
-        self.file = behind(Place(0), library);
+        self.file = place_behind(Place(0), library);
         self.next = self.file;
         let read = self.read_text(alloc, target, library, Place(0), TextKind::Library);
         self.first = self.items.items.len();
@@ -183,7 +183,7 @@ impl Sources {
             ≡ record self.old { names = self.new.names; items = self.new.items; next = self.new.next } }
     {
         let start = self.next;
-        self.next = behind(start, text);
+        self.next = place_behind(start, text);
         self.read_text(alloc, target, text, start, kind)
     }
 
@@ -568,7 +568,7 @@ fn place_in_files(starts: &[Place], at: u32) -> FaultPlace
 }
 
 /// The place behind a text, and one more.
-fn behind(start: Place, text: &str) -> Place
+fn place_behind(start: Place, text: &str) -> Place
     ensures { result.0 ≡ place_behind start.0 text.now }
 {
     let len = u32::try_from(text.len()).unwrap_or(u32::MAX);

@@ -152,7 +152,7 @@ impl<'a> CrateFiles<'a> {
     }
 
     /// What stands between two places of the files, which lie behind one another with a byte between.
-    pub(crate) fn written(&self, start: Place, end: Place) -> &str {
+    pub(crate) fn text_between(&self, start: Place, end: Place) -> &str {
         let mut start = start.0 as usize;
         let mut end = end.0 as usize;
         for index in 0..self.more.len().saturating_add(1) {
@@ -176,7 +176,7 @@ impl<'a> CrateFiles<'a> {
     }
 
     /// The folder of the modules of the file with this index, within its own.
-    fn own(&self, index: usize) -> &str {
+    fn own_folder(&self, index: usize) -> &str {
         match self.module_file(index) {
             Some(file) => file.own.as_str(),
             None => "",
@@ -221,7 +221,7 @@ impl<'a> CrateFiles<'a> {
         };
         let inline = self.inline_around(sources, index, module.parent)?;
         let folder = folder_of(self.name(index));
-        let own = self.own(index);
+        let own = self.own_folder(index);
         let name = module_name(sources, module);
         module_files(self.alloc, folder, own, inline.as_slice(), name)
     }
@@ -297,7 +297,7 @@ impl<'a> CrateFiles<'a> {
     }
 
     /// Reads the file that a module has, which the file with this index names, and puts it behind the others.
-    fn read(
+    fn read_module(
         &mut self,
         rt: &HostRuntime,
         index: usize,
@@ -350,7 +350,7 @@ impl<'a> CrateFiles<'a> {
         };
         let files = self.candidates(sources, index, outline)?;
         match self.choose(rt, name, files)? {
-            Ok(choice) => self.read(rt, index, outline.module, choice),
+            Ok(choice) => self.read_module(rt, index, outline.module, choice),
             Err(text) => Ok(Search::Fault(text)),
         }
     }

@@ -79,7 +79,7 @@ fn field_value(
     let mut name = String::new(cx.alloc);
     write_field_name(&mut name, cx.names, label.name)?;
     put_member(cx.alloc, &mut object, "name", Value::String(name))?;
-    let written = cx.files.written(label.start, label.end);
+    let written = cx.files.text_between(label.start, label.end);
     put_text(cx.alloc, &mut object, "type", written)?;
     put_number(cx.alloc, &mut object, "offset", offset)?;
     put_number(
