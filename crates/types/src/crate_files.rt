@@ -134,7 +134,10 @@ impl<'a> CrateFiles<'a> {
     pub(crate) fn name(&self, index: usize) -> &str {
         match self.module_file(index) {
             Some(file) => file.path.as_str(),
-            None => self.root.name.unwrap_or("<stdin>"),
+            None => match self.root.name {
+                Some(name) => name,
+                None => "<stdin>",
+            },
         }
     }
 
