@@ -50,5 +50,5 @@ invariant-resolve_tuple-loop-part l =
 -- the parameters that are left are given the same behind those that are given so much
 abbrev pub invariant-give-loop-index : goal.invariant-give-loop-index
 invariant-give-loop-index l =
-    give_from l.cx (inner l.cx l.env.depth_left) (where_of l.env) l.named.number l.named.item l.named.last (all_given l.given.items) (drop l.index l.named.item.parameters.items) (drop l.index (out-Segment l.named.last).arguments.items)
-    ≡ give_from l.cx (inner l.cx l.env.depth_left) (where_of l.env) l.named.number l.named.item l.named.last [] l.named.item.parameters.items (out-Segment l.named.last).arguments.items
+    give_from l.cx (inner l.cx l.env.depth_left) (where_of l.env) l.named.number l.named.item.now l.named.last.now (all_given l.given.items) (drop l.index l.named.item.now.parameters.items) (drop l.index (out-Segment l.named.last.now).arguments.items)
+    ≡ give_from l.cx (inner l.cx l.env.depth_left) (where_of l.env) l.named.number l.named.item.now l.named.last.now [] l.named.item.now.parameters.items (out-Segment l.named.last.now).arguments.items

@@ -81,5 +81,5 @@ invariant-trees_of-loop-field l =
 abbrev pub invariant-trees_of_variants-loop-variant : goal.invariant-trees_of_variants-loop-variant
 invariant-trees_of_variants-loop-variant l =
     (m : Measure) → IsMeasure l.cx.dl.now m →
-    behind (map variant_as_tree l.variants.items) (variant_trees l.cx m (tree_inner l.cx m l.nesting.depth_left) (outer_of l.nesting.above) (inside_of l.instance) l.instance.item (option_map number_of_int l.last) (drop l.variant-index l.all))
-    ≡ variant_trees l.cx m (tree_inner l.cx m l.nesting.depth_left) (outer_of l.nesting.above) (inside_of l.instance) l.instance.item None l.all
+    behind (map variant_as_tree l.variants.items) (variant_trees l.cx m (tree_inner l.cx m l.nesting.depth_left) (outer_of l.nesting.above) (inside_of l.instance) l.instance.item.now (option_map number_of_int l.last) (drop l.variant-index l.all))
+    ≡ variant_trees l.cx m (tree_inner l.cx m l.nesting.depth_left) (outer_of l.nesting.above) (inside_of l.instance) l.instance.item.now None l.all
