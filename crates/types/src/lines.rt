@@ -256,7 +256,12 @@ fn write_parts(
 }
 
 /// Writes the largest niche and the padding of a type with named parts.
-fn write_rest(alloc: Global, out: &mut String, shape: &ReportShape, laid: &Laid) -> Result<(), AllocError>
+fn write_rest(
+    alloc: Global,
+    out: &mut String,
+    shape: &ReportShape,
+    laid: &Laid,
+) -> Result<(), AllocError>
     ensures { OnOk result (string_bytes out.new
         ≡ string_bytes out.old ++ rest_lines shape.now (placed_of laid.now)) }
 {

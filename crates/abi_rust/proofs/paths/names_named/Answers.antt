@@ -1,7 +1,7 @@
-use Rattle.std.proofs.Common.{◌≡◌, length, map, ◌+◌, ◌<◌, drop, None, ap, sym, ◌∙◌, arith}
+use Rattle.std.proofs.Common.{◌≡◌, length, map, ◌+◌, ◌<◌, drop, None, sym, ◌∙◌, arith}
 use Rattle.rust_source.specs.declared.syntax.Path.{out-Path}
 use Rattle.rust_source.specs.declared.syntax.Segment.{out-Segment}
-use Rattle.abi_rust.specs.Names.{names_in_path, path_named, target_in}
+use Rattle.abi_rust.specs.Names.{target_in}
 use Rattle.abi_rust.proofs.Rooms.{all_named, names_on, names_past, names_end}
 use Rattle.abi_rust.proofs.paths.names_named.Goals as goal
 

@@ -1,5 +1,4 @@
 use Rattle.std.proofs.Common.{◌≡◌, ◌∙◌, ◌<◌, arith, false, nat_eq, rules, sym}
-use Rattle.abi_rust.specs.Visible.{parent}
 use Rattle.abi_rust.proofs.WayLemmas.{inside_up}
 use Rattle.abi_rust.proofs.visible.is_inside.Goals as goal
 

@@ -1,4 +1,4 @@
-use Rattle.std.proofs.Common.{◌≡◌, ◌∙◌, ◌+◌, ◌<◌, ◌^◌, arith, inl, inr, length, refl, sym}
+use Rattle.std.proofs.Common.{◌≡◌, arith, length}
 use Rattle.abi_rust.specs.Globs.{lists_of}
 use Rattle.abi_rust.proofs.GlobLemmas.{begun, names_on, once_more}
 use Rattle.abi_rust.proofs.scope.Scope.follow_rounds.Goals as goal
