@@ -956,9 +956,7 @@ pub mod ffi {
     pub struct OsString { inner: Buf }
     pub struct OsStr { inner: Slice }
 }
-mod libc {
-    pub use crate::ffi::{c_char, c_schar, c_uchar, c_short, c_ushort, c_int, c_uint, c_long, c_ulong, c_longlong, c_ulonglong, c_float,
-        c_double, c_void};
+mod c_types {
     pub type size_t = usize;
     pub type ssize_t = isize;
     pub type ptrdiff_t = isize;
@@ -972,6 +970,12 @@ mod libc {
     pub type uint16_t = u16;
     pub type uint32_t = u32;
     pub type uint64_t = u64;
+}
+mod libc {
+    pub use crate::ffi::{c_char, c_schar, c_uchar, c_short, c_ushort, c_int, c_uint, c_long, c_ulong, c_longlong, c_ulonglong, c_float,
+        c_double, c_void};
+    pub use crate::c_types::{size_t, ssize_t, ptrdiff_t, intptr_t, uintptr_t, int8_t, int16_t, int32_t, int64_t, uint8_t, uint16_t,
+        uint32_t, uint64_t};
     pub use not_read::*;
 }
 pub mod path {
