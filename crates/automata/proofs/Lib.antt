@@ -1,0 +1,3 @@
+pub mod NodesLemmas
+pub mod ReadsLemmas
+pub mod VisitsLemmas
