@@ -1,0 +1,2 @@
+-- the features that are on
+pub mod EnabledLemmas

@@ -1,0 +1,6 @@
+-- The links so far are copied.
+use Rattle.std.proofs.Common.{◌≡◌, take}
+use Rattle.cargo_manifest.proofs.enabled.copy_links.Given as goal
+
+abbrev pub invariant-loop-link : goal.invariant-loop-link
+invariant-loop-link l = l.copies.items ≡ take l.link-index l.links
