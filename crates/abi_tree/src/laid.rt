@@ -76,13 +76,15 @@ impl Laid {
         Laid { nodes, endian }
     }
 
-    /// Its nodes, of which the last is the type's.
-    pub(crate) fn nodes(&self) -> &Nodes
+    /// Its nodes, of which the last is the type's. Each names earlier ones alone, keeps its layout's laws, and has numbers of at
+    /// most 16 bytes. For what reads types by their nodes, as a walk over all of them; `root` lends the type as a handle.
+    pub fn nodes(&self) -> &Nodes
         ensures same { result.now ≡ self.now.nodes }
         ensures some { 0 < length result.now }
         ensures earlier { are_nodes 0 result.now ≡ true }
         ensures laws { keep_laws [] result.now ≡ true }
         ensures widths { have_widths [] result.now ≡ true }
+        ensures room { has_room (root_of result.now) ≡ true }
     {
         &self.nodes
     }
@@ -202,7 +204,7 @@ impl Laid {
     }
 
     /// The order of the bytes of a number in the type.
-    pub(crate) fn endian(&self) -> Endian
+    pub fn endian(&self) -> Endian
         ensures { result ≡ endian_of self.now }
     {
         self.endian

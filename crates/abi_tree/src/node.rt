@@ -71,13 +71,15 @@ pub struct Node {
 
 /// A node that is lent.
 #[derive(Clone, Copy)]
-pub(crate) struct NodeRef<'a> {
-    pub(crate) layout: &'a LayoutData<FieldIdx, VariantIdx>,
-    pub(crate) shape: &'a Shape,
+pub struct NodeRef<'a> {
+    /// How it is laid out.
+    pub layout: &'a LayoutData<FieldIdx, VariantIdx>,
+    /// What it consists of.
+    pub shape: &'a Shape,
 }
 
-/// The offsets of fields that are listed one by one.
-pub(crate) fn offsets(layout: &LayoutData<FieldIdx, VariantIdx>) -> &[Size]
+/// The offsets of fields that are listed one by one, in source order, and none where the layout lists none.
+pub fn offsets(layout: &LayoutData<FieldIdx, VariantIdx>) -> &[Size]
     ensures { result.now ≡ listed_offsets layout.now.fields }
 {
     match &layout.fields {
@@ -89,8 +91,8 @@ pub(crate) fn offsets(layout: &LayoutData<FieldIdx, VariantIdx>) -> &[Size]
     }
 }
 
-/// Where the tag of several variants lies.
-pub(crate) fn tag_offset(layout: &LayoutData<FieldIdx, VariantIdx>) -> u64
+/// Where the tag of several variants lies, and 0 where the layout has none.
+pub fn tag_offset(layout: &LayoutData<FieldIdx, VariantIdx>) -> u64
     ensures { result ≡ tag_offset layout.now }
 {
     match offsets(layout).first() {
@@ -99,8 +101,8 @@ pub(crate) fn tag_offset(layout: &LayoutData<FieldIdx, VariantIdx>) -> u64
     }
 }
 
-/// Where the tag of states lies, behind `prefix` prefix fields.
-pub(crate) fn state_tag_offset(layout: &LayoutData<FieldIdx, VariantIdx>, prefix: usize) -> u64
+/// Where the tag of a coroutine's states lies, behind `prefix` prefix fields in the list of offsets, and 0 where it has none.
+pub fn state_tag_offset(layout: &LayoutData<FieldIdx, VariantIdx>, prefix: usize) -> u64
     ensures { result ≡ state_tag_offset layout.now prefix }
 {
     match offsets(layout).get(prefix) {

@@ -10,8 +10,8 @@ use abi_index::{FieldIdx, VariantIdx};
 use abi_scalar::LayoutData;
 
 impl Nodes {
-    /// The node at a place, read by a counter of its own.
-    pub(crate) fn node(&self, at: usize) -> NodeRef<'_>
+    /// The node at a place, which is not counted.
+    pub fn node(&self, at: usize) -> NodeRef<'_>
         requires { at < length self.now }
         ensures { lent_node result ≡ get_or self.now at (lent_node result) }
     {

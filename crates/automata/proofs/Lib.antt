@@ -1,3 +1,4 @@
 pub mod NodesLemmas
 pub mod ReadsLemmas
 pub mod VisitsLemmas
+pub mod NumberLemmas

@@ -5,3 +5,4 @@ pub mod Formulas
 pub mod Derivative
 pub mod Visits
 pub mod Inclusion
+pub mod Number

@@ -11,8 +11,10 @@ mod end;
 mod formulas;
 mod inclusion;
 mod node;
+mod numbers;
 mod visits;
 
 pub use cell::LETTERS;
 pub use formulas::Formulas;
 pub use inclusion::{Inclusion, STEPS, compare};
+pub use numbers::Bound;

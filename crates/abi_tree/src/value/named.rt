@@ -12,8 +12,8 @@ use abi_base::Size;
 use abi_index::{FieldIdx, Idx, VariantIdx};
 use abi_scalar::{LayoutData, TagEncoding, Variants};
 
-/// How a layout's tag distinguishes variants.
-pub(crate) fn encoding_of(layout: &LayoutData<FieldIdx, VariantIdx>) -> TagEncoding<VariantIdx>
+/// How a layout's tag distinguishes variants; directly, where it has no tag.
+pub fn encoding_of(layout: &LayoutData<FieldIdx, VariantIdx>) -> TagEncoding<VariantIdx>
     ensures { result ≡ encoding_of layout.now.variants }
 {
     match &layout.variants {
@@ -23,7 +23,7 @@ pub(crate) fn encoding_of(layout: &LayoutData<FieldIdx, VariantIdx>) -> TagEncod
 }
 
 /// The offsets and nodes of the fields of a variant, which has a node of its own.
-pub(crate) fn own_parts(nodes: &Nodes, variant: usize) -> (&[Size], &[usize])
+pub fn own_parts(nodes: &Nodes, variant: usize) -> (&[Size], &[usize])
     requires there { variant < length nodes.now }
     requires well { are_nodes 0 nodes.now ≡ true }
     ensures parts { own_fields (placed_at nodes.now variant)
@@ -137,8 +137,9 @@ fn is_named_by_niche(width: Size, span: NicheSpan, i: usize, tag: u128) -> bool
     }
 }
 
-/// Whether the number of a tag of this width names the variant with this index.
-pub(crate) fn is_named(
+/// Whether the number of a tag of this width, in bytes, names the variant with this index among these, each of which has its
+/// number and its node.
+pub fn is_named(
     nodes: &Nodes,
     encoding: &TagEncoding<VariantIdx>,
     width: Size,

@@ -1,0 +1,3 @@
+pub mod CellsLemmas
+pub mod LawLemmas
+pub mod ManyLemmas

@@ -1,0 +1,34 @@
+-- Numbers in cells.
+use Rattle.std.specs.Prelude.{ℕ, zero, suc, ◌+◌, ◌*◌, ◌<◌, ◌≤◌, ◌↔◌, List, [], ◌∷◌, Some, None, length}
+use Rattle.automata.specs.Cell.{Cell, AreCells}
+use Rattle.automata.specs.Formula.{Formula, Reads}
+use Rattle.automata.specs.Nodes.{formula_in}
+use Rattle.automata.specs.Formulas.{Keeps}
+use Rattle.automata.specs.declared.numbers.Bound.{Bound}
+
+-- the first n cells are bytes, and the number that they make, the least first, is in P
+abbrev pub MakeLittle : (n : ℕ) → (ℕ → Type 0) → List Cell → Type 0
+MakeLittle zero P w = P 0
+MakeLittle (suc n) P [] = ⊥
+MakeLittle (suc n) P (None ∷ w) = ⊥
+MakeLittle (suc n) P (Some b ∷ w) = MakeLittle n (λ r. P (b + 256 * r)) w
+
+-- the formula reads cells whose first n make such a number
+abbrev pub ReadsLittle : Formula → (n : ℕ) → (ℕ → Type 0) → Type 0
+ReadsLittle f n P = (w : List Cell) → AreCells w → (Reads f w ↔ MakeLittle n P w)
+
+-- formulas for the numbers of n bytes below a number, and for these and the number itself
+pub record IsBelow (old new : List Formula) (n t : ℕ) (b : Bound) : Type 0 where
+  pub kept : Keeps old new
+  pub strict_there : b.strict < length new
+  pub loose_there : b.loose < length new
+  pub strict : ReadsLittle (formula_in new b.strict) n (λ m. m < t)
+  pub loose : ReadsLittle (formula_in new b.loose) n (λ m. m ≤ t)
+
+-- the same for the numbers above one
+pub record IsAbove (old new : List Formula) (n t : ℕ) (b : Bound) : Type 0 where
+  pub kept : Keeps old new
+  pub strict_there : b.strict < length new
+  pub loose_there : b.loose < length new
+  pub strict : ReadsLittle (formula_in new b.strict) n (λ m. t < m)
+  pub loose : ReadsLittle (formula_in new b.loose) n (λ m. t ≤ m)
