@@ -144,6 +144,7 @@ names_on a b c ab bc = record {
   types = bc.types ∙ ab.types;
   constants = bc.constants ∙ ab.constants;
   uses = bc.uses ∙ ab.uses;
+  crates = bc.crates ∙ ab.crates;
   prelude = bc.prelude ∙ ab.prelude;
 }
 

@@ -3,6 +3,7 @@ pub mod Bits
 pub mod Copies
 pub mod CopyLists
 pub mod Early
+pub mod ExternLemmas
 pub mod Facts
 pub mod FormedLists
 pub mod GlobLemmas

@@ -14,7 +14,7 @@ use Rattle.abi_rust.specs.Globs.{KeepsGlobs, Leads, led_to, lists_of}
 use Rattle.abi_rust.specs.Kinds.{type_named}
 use Rattle.abi_rust.specs.Names.{named_behind, first, found_of, most_uses, own_name, target_with, targets_on, use_target, use_targets, resolution_in}
 use Rattle.abi_rust.specs.OwnConstants.{is_own, last_known, own_at, own_type, own_type_by, type_owning}
-use Rattle.abi_rust.specs.Scope.{constant_standing, leads_nowhere, module_in, reached_from, same_key, type_standing, use_in}
+use Rattle.abi_rust.specs.Scope.{constant_standing, crate_in, leads_nowhere, module_in, reached_from, same_key, type_standing, use_in}
 use Rattle.abi_rust.specs.ScopeNames.{HasSameNames, KeepsNames, KeepsOwn}
 use Rattle.abi_rust.specs.Standing.{ModuleName, first_so}
 use Rattle.abi_rust.specs.Words.{symbol_of}
@@ -45,14 +45,14 @@ with_own scope other = record scope { owners = other.owners; own_constants = oth
 
 -- that tells nothing of what uses bring in
 same_targets : (items : Items) (scope other : Scope) (most : ℕ) → use_targets items (with_own scope other) most ≡ use_targets items scope most
-unfolding use_targets target_with first named_behind resolution_in own_name use_in module_in type_standing constant_standing reached_from leads_nowhere
+unfolding use_targets target_with first named_behind resolution_in own_name use_in module_in crate_in type_standing constant_standing reached_from leads_nowhere
 same_targets items scope other zero = refl
 same_targets items scope other (suc most) =
     ap (λ known. targets_on (use_target items scope known) 0 items.uses.items) (same_targets items scope other most)
 
 -- nor of what paths name
 same_type : (items : Items) (scope other : Scope) (m : ℕ) (p : Path) (count : ℕ) → type_named items (with_own scope other) m p count ≡ type_named items scope m p count
-unfolding type_named found_of first named_behind resolution_in own_name use_in module_in type_standing constant_standing reached_from leads_nowhere
+unfolding type_named found_of first named_behind resolution_in own_name use_in module_in crate_in type_standing constant_standing reached_from leads_nowhere
 same_type items scope other m p count = refl
 
 same_types : (items : Items) (scope other : Scope) → type_named items (with_own scope other) ≡ type_named items scope
@@ -75,7 +75,7 @@ keeps_own items scope other constants owners = record {
 pub keeps_globs : (items : Items) (scope other : Scope) → KeepsGlobs items scope → KeepsGlobs items (with_own scope other)
 unfolding reached_from
 keeps_globs items scope other keeps =
-    let same : HasSameNames scope (with_own scope other) = record { roots = record { words = refl; root = refl }; modules = refl; types = refl; constants = refl; uses = refl; prelude = refl } in
+    let same : HasSameNames scope (with_own scope other) = record { roots = record { words = refl; root = refl }; modules = refl; types = refl; constants = refl; uses = refl; crates = refl; prelude = refl } in
     record {
       direct = keeps.direct;
       before = keeps.before;
@@ -90,7 +90,7 @@ with_targets scope other = record scope { use_targets = other.use_targets }
 
 -- what uses bring in is found without what is kept of it
 pub found_apart : (items : Items) (scope other : Scope) (most : ℕ) → use_targets items (with_targets scope other) most ≡ use_targets items scope most
-unfolding use_targets target_with first named_behind resolution_in own_name use_in module_in type_standing constant_standing reached_from leads_nowhere
+unfolding use_targets target_with first named_behind resolution_in own_name use_in module_in crate_in type_standing constant_standing reached_from leads_nowhere
 found_apart items scope other zero = refl
 found_apart items scope other (suc most) =
     ap (λ known. targets_on (use_target items scope known) 0 items.uses.items) (found_apart items scope other most)

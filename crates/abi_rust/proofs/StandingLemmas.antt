@@ -7,7 +7,7 @@ use Rattle.std.specs.Option.{option_or}
 use Rattle.rust_source.specs.declared.item.Item.{Item}
 use Rattle.abi_rust.specs.declared.fault.Stop.{Stop}
 use Rattle.abi_rust.specs.Scope.{numbered, several}
-use Rattle.abi_rust.specs.Standing.{ModuleName, constant_at, first_repeated, first_so, key_of, last_so, one_so, repeated_by, type_at}
+use Rattle.abi_rust.specs.Standing.{ModuleName, constant_at, constructor_at, first_repeated, first_so, key_of, last_so, one_so, repeated_by, type_at}
 
 -- the last of one more
 pub last_snoc : {A : Type 0} (is : A → Bool) (i : ℕ) (xs : List A) (x : A)
@@ -70,10 +70,10 @@ ones_more is xs i d within =
     ∙ ap (λ n. if is (get_or xs i d) then Some (if is_some (one_so is 0 (take i xs)) then several else numbered n) else one_so is 0 (take i xs)) (rw long (zero-add i)))
 
 -- an item is told by what its own name is
-pub repeated_same : (types others constants more modules : ModuleName → Option ℕ) (it : Item)
-    → types (key_of it) ≡ others (key_of it) → constants (key_of it) ≡ more (key_of it)
-    → repeated_by types constants modules it ≡ repeated_by others more modules it
-repeated_same types others constants more modules it t c = rw (t, c) refl
+pub repeated_same : (types others structs constructors constants more modules : ModuleName → Option ℕ) (it : Item)
+    → types (key_of it) ≡ others (key_of it) → structs (key_of it) ≡ constructors (key_of it) → constants (key_of it) ≡ more (key_of it)
+    → repeated_by types structs constants modules it ≡ repeated_by others constructors more modules it
+repeated_same types others structs constructors constants more modules it t s c = rw (t, s, c) refl
 
 -- what comes first of those from an index on
 left_at : (items : List Item) (i : ℕ) (d : Item) → i < length items → drop i items ≡ get_or items i d ∷ drop (i + 1) items
@@ -84,13 +84,13 @@ one_more items i d within = rw add-one (take-suc items i d within)
 
 -- the item at the index repeats no name
 pub repeated_later : (modules : ModuleName → Option ℕ) (items : List Item) (i : ℕ) (d : Item) → i < length items
-    → repeated_by (type_at (take i items)) (constant_at (take i items)) modules (get_or items i d) ≡ None
+    → repeated_by (type_at (take i items)) (constructor_at (take i items)) (constant_at (take i items)) modules (get_or items i d) ≡ None
     → first_repeated modules (take i items) (drop i items) ≡ first_repeated modules (take (i + 1) items) (drop (i + 1) items)
 repeated_later modules items i d within none = rw (left_at items i d within, none, one_more items i d within) refl
 
 -- it does
 pub repeated_here : (modules : ModuleName → Option ℕ) (items : List Item) (i : ℕ) (d : Item) (stop : Stop) → i < length items
-    → repeated_by (type_at (take i items)) (constant_at (take i items)) modules (get_or items i d) ≡ Some stop
+    → repeated_by (type_at (take i items)) (constructor_at (take i items)) (constant_at (take i items)) modules (get_or items i d) ≡ Some stop
     → first_repeated modules (take i items) (drop i items) ≡ Some stop
 repeated_here modules items i d stop within some = rw (left_at items i d within, some) refl
 

@@ -1,6 +1,7 @@
 pub mod Aligned
 pub mod CopyTypes
 pub mod Evaluating
+pub mod ExternCrates
 pub mod FaultTexts
 pub mod Formed
 pub mod Globs

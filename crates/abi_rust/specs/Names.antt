@@ -18,7 +18,7 @@ use Rattle.abi_rust.specs.declared.scope.Scope.{Scope}
 use Rattle.abi_rust.specs.declared.use_targets.UseTarget.{UseTarget}
 use Rattle.abi_rust.specs.declared.ways.Way.{Way}
 use Rattle.abi_rust.specs.declared.words.Word.TheVariants as word
-use Rattle.abi_rust.specs.Scope.{constant_standing, leads_nowhere, module_in, numbered, reached_from, several, type_standing, use_in}
+use Rattle.abi_rust.specs.Scope.{constant_standing, crate_in, leads_nowhere, module_in, numbered, reached_from, several, type_standing, use_in}
 use Rattle.abi_rust.specs.Unread.{is_read}
 use Rattle.abi_rust.specs.Visible.{is_visible, most_modules, parent}
 use Rattle.abi_rust.specs.Ways.{all_along, is_way_visible}
@@ -184,17 +184,21 @@ abbrev pub names_in_path : Path → List Symbol
 names_in_path p = map (λ s. (out-Segment s).name) (out-Path p).segments.items
 
 -- the module of a crate that each source may name: the standard library's, or the one of C's names, `libc`
-abbrev pub crate_named : Scope → Symbol → Option ℕ
-crate_named scope name =
+abbrev pub crate_for_all : Scope → Symbol → Option ℕ
+crate_for_all scope name =
     if is_std scope.words name then Some scope.std_root
     else (if is_word scope.words name word.Libc then module_in scope scope.std_root name else None)
+
+-- the root module of the crate that a name is in a module: the one that the module's crate has under it, or one for all
+abbrev pub crate_named : Items → Scope → (inside : ℕ) → Symbol → Option ℕ
+crate_named items scope m name = option_or (crate_in scope (root items m) name) (crate_for_all scope name)
 
 -- a name that a module may have which isn't read, or that a glob may bring into one, if one leads to nothing that is
 -- read: it stands before the names of the prelude and of the language. At the head of a use it is none of the standard
 -- library's own names, since it would be ambiguous there
 abbrev pub perhaps : Items → Scope → (inside : ℕ) → Lookup → Option Resolution
 perhaps items scope m a =
-    if not (is_read items m) || (leads_nowhere items scope m a.from && not (is_some a.skipped && is_some (crate_named scope a.name)))
+    if not (is_read items m) || (leads_nowhere items scope m a.from && not (is_some a.skipped && is_some (crate_named items scope a.from a.name)))
     then Some Unknown
     else None
 
@@ -256,7 +260,7 @@ module _ (items : Items) (scope : Scope) where
     abbrev pub first_named : Lookup → (is_global : Bool) → Option Resolution
     first_named a is_global =
         option_or (if is_global then None else named_near a)
-        (option_or (option_map Module (crate_named scope a.name)) (option_map PrimitiveFound (primitive_named scope.words a.name)))
+        (option_or (option_map Module (crate_named items scope a.from a.name)) (option_map PrimitiveFound (primitive_named scope.words a.name)))
 
     -- what the first name of a path names in the module that asks
     unfoldable pub first : Lookup → (is_global : Bool) → Option Resolution

@@ -11,6 +11,7 @@ use Rattle.rust_source.specs.declared.reader.Source.{Source}
 use Rattle.rust_source.specs.declared.reader.modules.SourceRoot.{SourceRoot}
 use Rattle.rust_source.specs.declared.reader.modules.SourceRoot.TheVariants.{New, Outline}
 use Rattle.rust_source.specs.declared.target.CfgTarget.{CfgTarget}
+use Rattle.abi_rust.specs.ExternCrates.{KeepsCrates}
 use Rattle.abi_rust.specs.Globs.{KeepsGlobs}
 use Rattle.abi_rust.specs.ScopeNames.{KeepsNames, KeepsOwn, repeated_of}
 use Rattle.abi_rust.specs.Words.{known_words}
@@ -36,6 +37,7 @@ pub record IsUnread (s : Sources) : Type 0 where
   pub names : texts s.names ≡ first_names ++ known_words
   pub words : s.words.first ≡ length first_names
   pub items : items_as_read s.items ≡ no_items
+  pub crates : s.crates.items ≡ []
   pub files : s.files.items ≡ []
   pub scope : s.scope ≡ None
 
@@ -87,6 +89,7 @@ pub record LibraryRead (target : CfgTarget) (old new : Sources) (answer : Result
   pub passed_over : new.passed_over ≡ (having new).1.passed_over
   pub words : new.words ≡ old.words
   pub files : new.files ≡ old.files
+  pub crates : new.crates ≡ old.crates
   pub scope : new.scope ≡ old.scope
 
 -- what is known of the standard library's text, and where files begin, is the same
@@ -104,6 +107,7 @@ pub record FileRead (target : CfgTarget) (kind : TextKind) (text : List ℕ) (ol
   pub front : BeginsWith (having new).1.items (having old).1.items
   pub files : new.files.items ≡ old.files.items ++ old.next ∷ []
   pub next : new.next.0 ≡ place_behind old.next.0 text
+  pub crates : new.crates ≡ old.crates
   pub library : HasSameLibrary old new
   pub scope : new.scope ≡ None
 
@@ -117,6 +121,7 @@ pub record HasScope (s : Sources) : Type 0 where
   pub scope : Scope
   pub kept : s.scope ≡ Some scope
   pub names : KeepsNames s.items scope
+  pub crates : KeepsCrates s.crates.items scope
   pub globs : KeepsGlobs s.items scope
   pub own : KeepsOwn s.items scope
   pub words : scope.words ≡ s.words

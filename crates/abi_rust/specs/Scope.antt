@@ -36,6 +36,10 @@ own_constant s t name = get same_key s.own_constants (t, name.0)
 unfoldable pub owner_of : Scope → (constant : ℕ) → Option ℕ
 owner_of s c = get nat_eq s.owners c
 
+-- the root module of the crate that has this name in the crate with this root module
+unfoldable pub crate_in : Scope → (inside : ℕ) → Symbol → Option ℕ
+crate_in s m name = get same_key s.crates (m, name.0)
+
 -- the use that brings a name into a module
 unfoldable pub use_in : Scope → (inside : ℕ) → Symbol → Option ℕ
 use_in s m name = get same_key s.uses (m, name.0)

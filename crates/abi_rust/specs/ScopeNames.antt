@@ -16,6 +16,7 @@ pub record IsEmpty (scope : Scope) : Type 0 where
   pub types : (k : ModuleName) → get same_key scope.types k ≡ None
   pub constants : (k : ModuleName) → get same_key scope.values k ≡ None
   pub uses : (k : ModuleName) → get same_key scope.uses k ≡ None
+  pub crates : (k : ModuleName) → get same_key scope.crates k ≡ None
 
 -- each name in a module is that of the module, the type, the constant and the use that stand there
 pub record KeepsNames (items : Items) (scope : Scope) : Type 0 where
@@ -43,6 +44,7 @@ pub record HasSameNames (old new : Scope) : Type 0 where
   pub types : new.types ≡ old.types
   pub constants : new.values ≡ old.values
   pub uses : new.uses ≡ old.uses
+  pub crates : new.crates ≡ old.crates
   pub prelude : new.prelude ≡ old.prelude
 
 -- the fault of the first item whose name one before it has, or a module

@@ -15,6 +15,7 @@ use Rattle.abi_rust.specs.declared.report.TypeReport.{TypeReport}
 use Rattle.abi_rust.specs.declared.budget.Context.{Context}
 use Rattle.abi_rust.specs.Meaning.{Means}
 use Rattle.abi_rust.specs.Measure.{Measure}
+use Rattle.abi_rust.specs.Names.{root}
 use Rattle.abi_rust.specs.Resolving.{inside_item, most_deep}
 use Rattle.abi_rust.specs.Sizes.{IsReported}
 use Rattle.abi_rust.specs.TypeReport.{report_read, report_under}
@@ -41,14 +42,18 @@ abbrev pub is_type : ItemKind → Bool
 is_type (ConstItem c) = false
 is_type _ = true
 
--- an item that is a type by itself: no constant, and without parameters
-abbrev pub is_type_alone : Option Item → Bool
-is_type_alone None = false
-is_type_alone (Some it) = is_type it.kind && nat_eq (length it.parameters.items) 0
+-- the root module of an item is that of the first file
+abbrev pub is_of_first_crate : Sources → Item → Bool
+is_of_first_crate s it = nat_eq (root s.items it.«module») s.root
+
+-- an item of the first crate that is a type by itself: no constant, and without parameters
+abbrev pub is_type_alone : Sources → Option Item → Bool
+is_type_alone s None = false
+is_type_alone s (Some it) = is_type it.kind && nat_eq (length it.parameters.items) 0 && is_of_first_crate s it
 
 -- an item that is reported on by itself: one of the files, which stands behind the standard library's, that is a type by itself
 abbrev pub is_reported : Sources → (item : ℕ) → Bool
-is_reported s item = nat_le s.first item && is_type_alone (slice_get (items_read s) item)
+is_reported s item = nat_le s.first item && is_type_alone s (slice_get (items_read s) item)
 
 -- where a place is in files that begin at these, the first of which has this index: in the last that begins there or before it, and where
 -- none does, where it was before
@@ -131,11 +136,11 @@ abbrev pub Reports : Sources → TargetDataLayout → Measure → Subject → Re
 Reports s dl m subject result =
     ((s.scope ≡ None) × (result ≡ Ok None)) ⊎ ((cx : Context) × IsContextOver s dl cx × IsMeantBy s cx m subject result)
 
--- the names of an item of the files; those of the standard library's aren't checked
+-- the names of an item of the first crate; those of the standard library and of other crates aren't checked
 abbrev pub names_checked : Sources → Context → ℕ → Option Item → Checked
 names_checked s cx item None = Ok tt
 names_checked s cx item (Some it) =
-    if nat_le s.first item then item_named cx (inside_item item it []) (type_named cx (inside_item item it []) most_deep false) it else Ok tt
+    if nat_le s.first item && is_of_first_crate s it then item_named cx (inside_item item it []) (type_named cx (inside_item item it []) most_deep false) it else Ok tt
 
 -- no fault, or one as it is reported
 abbrev pub reported_check : Sources → Checked → Result (Unit {0}) FaultReported

@@ -14,6 +14,7 @@ mod targets;
 mod std_source;
 
 // Names.
+mod extern_crates;
 mod own_constants;
 mod paths;
 mod scope;

@@ -4,7 +4,7 @@ ghost use Rattle.std.specs.Prelude.{◌≡◌, None, slice_get};
 ghost use Rattle.std.specs.Option.{option_copied};
 ghost use Rattle.rust_source.specs.declared.syntax.Path.{out-Path};
 ghost use Rattle.abi_rust.specs.Kinds.{found_by, most_aliases, type_named};
-ghost use Rattle.abi_rust.specs.Names.{agreed, along, ambiguous, among, lookup_of, behind_module, beside_module, crate_above, crate_named, declared, first, found, found_of, imported, is_open, is_usable, named_behind, names_in_path, one_of, other_space, own_name, own_item, own_module, path_named, perhaps, root, seen_own, unless_hidden, space_before, standing_or_import, target_in, target_with, used_by, visibility_of_item, visibility_of_module, visibility_of_use, resolution_in};
+ghost use Rattle.abi_rust.specs.Names.{agreed, along, ambiguous, among, lookup_of, behind_module, beside_module, crate_above, crate_for_all, crate_named, declared, first, found, found_of, imported, is_open, is_usable, named_behind, names_in_path, one_of, other_space, own_name, own_item, own_module, path_named, perhaps, root, seen_own, unless_hidden, space_before, standing_or_import, target_in, target_with, used_by, visibility_of_item, visibility_of_module, visibility_of_use, resolution_in};
 
 use crate::scope::Scope;
 use crate::standing::SEVERAL;
@@ -300,8 +300,8 @@ fn lookup_of(from: u32, name: Symbol, space: Space, skipped: Option<u32>) -> Loo
 }
 
 /// The module of a crate that each source may name: the standard library's, or the one of C's names, `libc`.
-fn crate_named(scope: &Scope, name: Symbol) -> Option<u32>
-    ensures { result ≡ crate_named scope.now name }
+fn crate_for_all(scope: &Scope, name: Symbol) -> Option<u32>
+    ensures { result ≡ crate_for_all scope.now name }
 {
     if scope.words.is_std(name) {
         return Some(scope.std_root);
@@ -310,6 +310,16 @@ fn crate_named(scope: &Scope, name: Symbol) -> Option<u32>
         return scope.module(scope.std_root, name);
     }
     None
+}
+
+/// The root module of the crate that a name is in a module: the one that the module's crate has under it, or one for all.
+fn crate_named(items: &Items, scope: &Scope, module: u32, name: Symbol) -> Option<u32>
+    ensures { result ≡ crate_named items.now scope.now «module» name }
+{
+    match scope.extern_crate(root_of(items, module), name) {
+        Some(root) => Some(root),
+        None => crate_for_all(scope, name),
+    }
 }
 
 /// What a path's first name names in the module that asks.
@@ -340,7 +350,7 @@ fn first(tables: NameTables<'_>, lookup: Lookup, is_global: bool) -> Option<Reso
             }
         }
     }
-    if let Some(root) = crate_named(tables.scope, lookup.name) {
+    if let Some(root) = crate_named(tables.items, tables.scope, lookup.from, lookup.name) {
         return Some(Resolution::Module(root));
     }
     Some(Resolution::Primitive(tables.scope.words.primitive(lookup.name)?))
@@ -386,7 +396,8 @@ fn behind_module(tables: NameTables<'_>, module: u32, lookup: Lookup) -> Option<
 fn perhaps(items: &Items, scope: &Scope, module: u32, lookup: Lookup) -> Option<Resolution>
     ensures { result ≡ perhaps items.now scope.now «module» lookup }
 {
-    let is_at_head = lookup.skipped.is_some() && crate_named(scope, lookup.name).is_some();
+    let is_at_head = lookup.skipped.is_some()
+        && crate_named(items, scope, lookup.from, lookup.name).is_some();
     if !is_read(items, module) || scope.leads_nowhere(items, module, lookup.from) && !is_at_head {
         Some(Resolution::Unknown)
     } else {

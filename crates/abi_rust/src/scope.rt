@@ -2,10 +2,12 @@
 
 ghost use Rattle.std.specs.Prelude.{◌≡◌, ◌⊎◌, [], IfErr, IfOk, None, Some, false, map, not, replicate, slice_get};
 ghost use Rattle.abi_rust.specs.Globs.{AreFollowed, KeepsGlobs, Leads, glob_target, glob_to, globs_added, if_all, is_in, led_from, led_to, list_at, lists_of, lost_added, lost_target, lost_way, most_ways, with_glob, with_target, with_way, with_ways};
-ghost use Rattle.abi_rust.specs.Scope.{constant_standing, leads_nowhere, module_in, own_constant, owner_of, reached_from, type_standing, use_in};
+ghost use Rattle.abi_rust.specs.ExternCrates.{KeepsCrates};
+ghost use Rattle.abi_rust.specs.Scope.{constant_standing, crate_in, leads_nowhere, module_in, own_constant, owner_of, reached_from, type_standing, use_in};
 ghost use Rattle.abi_rust.specs.ScopeNames.{HasSameNames, HasSameRoots, IsEmpty, KeepsNames, KeepsOwn, repeated_of};
 ghost use Rattle.abi_rust.specs.Standing.{IsMemory};
 
+use crate::extern_crates::{ExternCrate, add_extern_crates};
 use crate::fault::{FaultKind, Stop, stop_at};
 use crate::own_constants::add_own_constants;
 use crate::paths::{Resolution, Space};
@@ -44,6 +46,8 @@ pub(crate) struct Scope {
     owners: IndexMap<u32, u32>,
     /// Uses that bring in a name.
     uses: IndexMap<Key, u32>,
+    /// The root modules of other crates, by the root modules of those that name them, and the names.
+    crates: IndexMap<Key, u32>,
     /// For each module the ways of its globs, and of the globs of the modules that these lead to, to `NOWHERE` where one
     /// of them leads to nothing that is read.
     reached: Vec<Vec<Way>>,
@@ -58,9 +62,11 @@ impl Scope {
         alloc: Global,
         words: Words,
         items: &Items,
+        crates: &Vec<ExternCrate>,
         std_root: u32,
     ) -> Result<Scope, Stop>
         ensures names { IfOk result (KeepsNames items.now) }
+        ensures crates { IfOk result (KeepsCrates crates.now.items) }
         ensures globs { IfOk result (KeepsGlobs items.now) }
         ensures own { IfOk result (KeepsOwn items.now) }
         ensures roots { IfOk result (λ scope. (scope.words ≡ words) × (scope.std_root ≡ std_root)) }
@@ -77,26 +83,28 @@ impl Scope {
             own_constants: IndexMap::new(alloc),
             owners: IndexMap::new(alloc),
             uses: IndexMap::new(alloc),
+            crates: IndexMap::new(alloc),
             reached: Vec::new(alloc),
             use_targets: Vec::new(alloc),
         };
-        match scope.fill(alloc, items) {
+        match scope.fill(alloc, items, crates) {
             Ok(()) => Ok(scope),
             Err(stop) => Err(stop),
         }
     }
 
     /// Adds the names of modules.
-    fn fill(&mut self, alloc: Global, items: &Items) -> Result<(), Stop>
+    fn fill(&mut self, alloc: Global, items: &Items, crates: &Vec<ExternCrate>) -> Result<(), Stop>
         requires { IsEmpty self.old }
         ensures names { IfOk result (λ _. KeepsNames items.now self.new) }
+        ensures crates { IfOk result (λ _. KeepsCrates crates.now.items self.new) }
         ensures globs { IfOk result (λ _. KeepsGlobs items.now self.new) }
         ensures own { IfOk result (λ _. KeepsOwn items.now self.new) }
         ensures roots { IfOk result (λ _. HasSameRoots self.old self.new) }
         ensures once { IfOk result (λ _. repeated_of items.now ≡ None) }
         ensures err { IfErr result (λ stop. (repeated_of items.now ≡ Some stop) ⊎ IsMemory stop) }
     {
-        self.declare(items)?;
+        self.declare(items, crates)?;
         self.follow_globs(alloc, items)?;
         let mut owners = IndexMap::new(alloc);
         let mut own = IndexMap::new(alloc);
@@ -106,10 +114,11 @@ impl Scope {
         Ok(())
     }
 
-    /// Adds the names that stand in modules, or that uses bring in.
-    fn declare(&mut self, items: &Items) -> Result<(), Stop>
+    /// Adds the names that stand in modules, or that uses bring in, and those of other crates.
+    fn declare(&mut self, items: &Items, crates: &Vec<ExternCrate>) -> Result<(), Stop>
         requires { IsEmpty self.old }
         ensures names { IfOk result (λ _. KeepsNames items.now self.new) }
+        ensures crates { IfOk result (λ _. KeepsCrates crates.now.items self.new) }
         ensures same { IfOk result (λ _. HasSameRoots self.old self.new) }
         ensures once { IfOk result (λ _. repeated_of items.now ≡ None) }
         ensures err { IfErr result (λ stop. (repeated_of items.now ≡ Some stop) ⊎ IsMemory stop) }
@@ -120,6 +129,7 @@ impl Scope {
             return Err(stop);
         }
         add_uses(&mut self.uses, &items.uses)?;
+        add_extern_crates(&mut self.crates, crates)?;
         self.prelude = self.module(self.std_root, self.words.symbol(Word::Prelude));
         Ok(())
     }
@@ -273,6 +283,14 @@ impl Scope {
         ensures { result ≡ owner_of self.now constant }
     {
         self.owners.get(&constant).copied()
+    }
+
+    /// The root module of the crate that has this name in the crate with this root module.
+    #[tactic(auto, unfolding(crate::specs::Scope::crate_in))]
+    pub(crate) fn extern_crate(&self, root: u32, name: Symbol) -> Option<u32>
+        ensures { result ≡ crate_in self.now root name }
+    {
+        self.crates.get(&key(root, name)).copied()
     }
 
     /// The use that brings a name into a module.

@@ -1,15 +1,18 @@
 //! Files of Rust source, and what their types are.
 
-ghost use Rattle.std.specs.Prelude.{◌≡◌, ◌⊎◌, ◌-◌, ◌<◌, ◌^◌, ◌++◌, Err, IfErr, IfOk, Ok, OnOk, Some, [], length, slice_get, string_bytes};
+ghost use Rattle.std.specs.Prelude.{◌≡◌, ◌⊎◌, ◌-◌, ◌<◌, ◌^◌, ◌++◌, ◌∷◌, Err, IfErr, IfOk, Ok, OnOk, Some, [], length, slice_get, string_bytes};
 ghost use Rattle.rust_source.specs.Growth.{BeginsWith};
+ghost use Rattle.rust_source.specs.Names.{text_of};
 ghost use Rattle.abi_rust.specs.Measure.{IsMeasure, Measure};
 ghost use Rattle.abi_rust.specs.Reading.{FileRead, FileReads, HasScope, IsSourceOf, IsUnread, LibraryRead, ReadsText, Stops, file_kind, having, is_library, library_text, place_behind, root_of};
 ghost use Rattle.abi_rust.specs.ScopeNames.{repeated_of};
-ghost use Rattle.abi_rust.specs.Sources.{ChecksNames, IsContextOver, Reports, ReportsWritten, names_checked, reported_fault, is_reported, items_read, module_path, qualified_name, place_in_files, place_of_attribute, place_of_item, reported_place, pointer_bits};
+ghost use Rattle.abi_rust.specs.Sources.{ChecksNames, IsContextOver, Reports, ReportsWritten, names_checked, reported_fault, is_of_first_crate, is_reported, items_read, module_path, qualified_name, place_in_files, place_of_attribute, place_of_item, reported_place, pointer_bits};
 ghost use Rattle.abi_rust.specs.Standing.{IsMemory};
 
 use crate::budget::Context;
+use crate::extern_crates::ExternCrate;
 use crate::fault::{Fault, FaultKind, FaultPlace, Stop, stop_at};
+use crate::paths::root_of as root_module_of;
 use crate::report::{Subject, TypeReport, report_on};
 use crate::scope::Scope;
 use crate::std_source::STD_SOURCES;
@@ -17,7 +20,7 @@ use crate::words::Words;
 use crate::written_names::check_item;
 use abi_base::TargetDataLayout;
 use rust_source::{
-    CfgTarget, ItemKind, Items, Module, Names, Outline, Place, Source, SourceRoot, Symbol,
+    CfgTarget, Item, ItemKind, Items, Module, Names, Outline, Place, Source, SourceRoot, Symbol,
     read_items, read_type,
 };
 use std::alloc::{AllocError, Global};
@@ -41,6 +44,8 @@ pub struct Sources {
     names: Names,
     words: Words,
     items: Items,
+    /// The names that crates have for others.
+    crates: Vec<ExternCrate>,
     scope: Option<Scope>,
     /// How many bytes of sources stand before each of the files.
     files: Vec<Place>,
@@ -69,6 +74,7 @@ impl Sources {
             names,
             words,
             items: Items::new(alloc),
+            crates: Vec::new(alloc),
             scope: None,
             files: Vec::new(alloc),
             file: Place(0),
@@ -151,6 +157,37 @@ impl Sources {
         }
     }
 
+    /// Adds the root of another crate, and answers the number of its root module; its modules' files are added as those of
+    /// the first crate are, and its items aren't reported on. After a fault there are no types.
+    pub fn add_crate(
+        &mut self,
+        alloc: Global,
+        target: &CfgTarget<'_>,
+        text: &str,
+    ) -> Result<u32, Fault>
+        ensures ok { IfOk result (λ root. FileRead target.now TextKind.CrateRoot text.now self.old self.new (Ok root)) }
+        ensures err { IfErr result (λ fault. (stop : Stop) × (fault ≡ reported_fault self.new stop) ×
+            FileReads target.now TextKind.CrateRoot text.now self.old self.new (Err stop)) }
+        ensures root { self.new.root ≡ self.old.root }
+    {
+        match self.read_file(alloc, target, TextKind::CrateRoot, text) {
+            Ok(root) => Ok(root),
+            Err(stop) => Err(self.fault(stop)),
+        }
+    }
+
+    /// Lets the crate with one root module name the one with another so, as a dependency of its manifest (Rust Reference,
+    /// "Extern prelude"); of two of one name the last counts. An error comes where a growth of memory was refused.
+    pub fn name_crate(&mut self, inside: u32, name: &str, root: u32) -> Result<(), AllocError>
+        ensures named { IfOk result (λ _. (s : Symbol) × (text_of self.new.names s.0 ≡ name.now)
+            × (self.new.crates.items ≡ self.old.crates.items ++ record { inside = inside; name = s; root = root } ∷ [])) }
+        ensures same { self.new ≡ record self.old { names = self.new.names; crates = self.new.crates } }
+    {
+        let name = self.names.add(name)?;
+        self.crates.push(ExternCrate { inside, name, root })?;
+        Ok(())
+    }
+
     /// Reads a file behind the texts that were read, and answers the number of the module that its items are in.
     fn read_file(
         &mut self,
@@ -195,7 +232,7 @@ impl Sources {
             ((repeated_of self.new.items ≡ Some stop) ⊎ IsMemory stop)) }
         ensures same { self.new ≡ record self.old { scope = self.new.scope } }
     {
-        match Scope::new(alloc, self.words, &self.items, self.std_root) {
+        match Scope::new(alloc, self.words, &self.items, &self.crates, self.std_root) {
             Ok(scope) => {
                 self.scope = Some(scope);
                 Ok(())
@@ -284,8 +321,8 @@ impl Sources {
         self.items.items.len()
     }
 
-    /// Whether the item is reported on by itself: a struct, an enum, a union or an alias of the files that has no type
-    /// and no constant as a parameter.
+    /// Whether the item is reported on by itself: a struct, an enum, a union or an alias of the first crate's files that has
+    /// no type and no constant as a parameter.
     pub fn is_reported(&self, item: usize) -> bool
         ensures { result ≡ is_reported self.now item }
     {
@@ -298,10 +335,17 @@ impl Sources {
                     ItemKind::Const(_) => false,
                     _ => true,
                 };
-                is_type && found.parameters.is_empty()
+                is_type && found.parameters.is_empty() && self.is_of_first_crate(found)
             }
             None => false,
         }
+    }
+
+    /// Whether an item's root module is that of the first file.
+    fn is_of_first_crate(&self, item: &Item) -> bool
+        ensures { result ≡ is_of_first_crate self.now item.now }
+    {
+        root_module_of(&self.items, item.module) == self.root
     }
 
     /// Where the item's name stands.
@@ -404,7 +448,7 @@ impl Sources {
         self.report(alloc, dl, Subject::Item(number))
     }
 
-    /// The first fault of the names that stand in an item of the file and have to be types', whatever its parameters are
+    /// The first fault of the names that stand in an item of the first crate and have to be types', whatever its parameters are
     /// given: those of its fields, of what it names another name of, and of its parameters' defaults. A name that leads
     /// to what isn't read is none. Other items have no such fault, and before a source was read none has one.
     pub fn check_names(
@@ -434,7 +478,9 @@ impl Sources {
             return Ok(());
         };
         match self.items.items.get(item) {
-            Some(found) if item >= self.first => check_item(cx, number, found),
+            Some(found) if item >= self.first && self.is_of_first_crate(found) => {
+                check_item(cx, number, found)
+            }
             _ => Ok(()),
         }
     }

@@ -41,11 +41,17 @@ dependency_features d = strings_at (codes "features") d.value
 abbrev pub dependency_at : (target : Option Text) → Text × Data → Dependency
 dependency_at target e = record { name = e.0; value = e.1; target = target }
 
--- those of a table, for a target
-abbrev pub dependencies_in : (target : Option Text) → Data → List Dependency
-dependencies_in target d = map (dependency_at target) (entries_at (codes "dependencies") d)
+-- those at a key of a table, for a target
+abbrev pub dependencies_in : (key : Text) → (target : Option Text) → Data → List Dependency
+dependencies_in key target d = map (dependency_at target) (entries_at key d)
 
--- those of a package: for all targets, and for each that is named
+-- those at a key of a manifest: for all targets, and for each that is named
+abbrev pub dependencies_of : (key : Text) → Data → List Dependency
+dependencies_of key m = dependencies_in key None m ++ flat_map (λ e. dependencies_in key (Some e.0) e.1) (entries_at (codes "target") m)
+
+-- those of a package, and those of its build script
 abbrev pub package_dependencies : Data → List Dependency
-package_dependencies d =
-    dependencies_in None d ++ flat_map (λ e. dependencies_in (Some e.0) e.1) (entries_at (codes "target") d)
+package_dependencies m = dependencies_of (codes "dependencies") m
+
+abbrev pub build_dependencies : Data → List Dependency
+build_dependencies m = dependencies_of (codes "build-dependencies") m

@@ -2,7 +2,7 @@
 use Rattle.std.specs.Prelude.{⊤, ◌≡◌, ◌++◌, ◌&&◌, Bool, false, true, not, List, [], ◌∷◌, Option, None, Some, bytes_eq, codes, filter, filter_map, flat_map, map, if◌then◌else◌}
 use Rattle.std.specs.List.{list_any}
 use Rattle.toml.specs.Data.{Data}
-use Rattle.cargo_manifest.specs.Dependencies.{Dependency, is_optional, package_dependencies}
+use Rattle.cargo_manifest.specs.Dependencies.{Dependency, build_dependencies, is_optional, package_dependencies}
 use Rattle.cargo_manifest.specs.Enabled.{IsEnabled, IsIn, Link}
 use Rattle.cargo_manifest.specs.Switches.{TurnsOn, feature, dependency, dependency_feature, weak_feature, switch_said}
 use Rattle.cargo_manifest.specs.Values.{Text, entries_at, is_one_of, strings_in, texts}
@@ -50,12 +50,16 @@ with_dependency optional names l = elim l.1 [
   | weak_feature name of ↦ l ∷ []
 ]
 
+-- the optional dependencies of a package, and of its build script
+abbrev pub optional_of : Data → List Text
+optional_of m = optional_names (package_dependencies m) ++ optional_names (build_dependencies m)
+
 -- of a package: its features that are written, the optional dependencies that are features, too, and the names of all
 abbrev pub explicit_features : Data → List Text
 explicit_features m = map (λ e. e.0) (entries_at (codes "features") m)
 
 abbrev pub implicit_of : Data → List Text
-implicit_of m = implicit_features (optional_names (package_dependencies m)) (explicit_features m) (listed_links (entries_at (codes "features") m))
+implicit_of m = implicit_features (optional_of m) (explicit_features m) (listed_links (entries_at (codes "features") m))
 
 unfoldable pub feature_names : Data → List Text
 feature_names m = explicit_features m ++ implicit_of m
@@ -63,7 +67,7 @@ feature_names m = explicit_features m ++ implicit_of m
 -- and what each turns on
 unfoldable pub feature_links : Data → List Link
 feature_links m =
-    flat_map (with_dependency (optional_names (package_dependencies m)) (explicit_features m ++ implicit_of m)) (listed_links (entries_at (codes "features") m))
+    flat_map (with_dependency (optional_of m) (explicit_features m ++ implicit_of m)) (listed_links (entries_at (codes "features") m))
     ++ map implicit_link (implicit_of m)
 
 -- the features that are asked for: those named, and all, or `default`, where it's there

@@ -9,3 +9,5 @@ pub mod Manifests
 pub mod Switches
 pub mod Enabled
 pub mod Features
+-- which version is chosen
+pub mod Choice

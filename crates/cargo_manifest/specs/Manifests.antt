@@ -65,7 +65,7 @@ bins m = unwrap_or (option_map (λ d. map bin_said (items_in d)) (get (codes "bi
 
 -- the dependencies and the members of a workspace
 abbrev pub workspace_dependencies : Data → List Dependency
-workspace_dependencies m = unwrap_or (option_map (dependencies_in None) (get (codes "workspace") m)) []
+workspace_dependencies m = unwrap_or (option_map (dependencies_in (codes "dependencies") None) (get (codes "workspace") m)) []
 
 abbrev pub workspace_members : Data → List Text
 workspace_members m = unwrap_or (option_map (strings_at (codes "members")) (get (codes "workspace") m)) []

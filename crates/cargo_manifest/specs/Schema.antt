@@ -89,6 +89,14 @@ dependency_rules =
     ∷ (key (codes "dependencies") ∷ each_key ∷ key (codes "features") ∷ each_item ∷ [], String)
     ∷ []
 
+-- of those of the build script, which may be optional, too
+abbrev pub build_rules : List Rule
+build_rules =
+    (key (codes "build-dependencies") ∷ [], Table)
+    ∷ (key (codes "build-dependencies") ∷ each_key ∷ [], StringOrTable)
+    ∷ (key (codes "build-dependencies") ∷ each_key ∷ key (codes "optional") ∷ [], Boolean)
+    ∷ []
+
 -- of those of a target, and of a workspace
 abbrev pub rules_of_targets : List Rule
 rules_of_targets =
@@ -113,8 +121,8 @@ behind way rs = map (λ r. (way ++ r.0, r.1)) rs
 
 unfoldable pub rules : List Rule
 rules =
-    package_rules ++ target_rules ++ feature_rules ++ dependency_rules
-    ++ rules_of_targets ++ behind (key (codes "target") ∷ each_key ∷ []) dependency_rules
+    package_rules ++ target_rules ++ feature_rules ++ dependency_rules ++ build_rules
+    ++ rules_of_targets ++ behind (key (codes "target") ∷ each_key ∷ []) (dependency_rules ++ build_rules)
     ++ workspace_rules ++ behind (key (codes "workspace") ∷ []) dependency_rules
 
 -- each key has what it has to have

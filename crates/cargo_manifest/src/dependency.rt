@@ -89,17 +89,18 @@ impl<'a> Dependency<'a> {
     }
 }
 
-/// Puts the dependencies of a table behind others.
+/// Puts the dependencies at a key of a table behind others.
 pub(crate) fn put_dependencies<'a>(
     alloc: Global,
     all: &mut Vec<Dependency<'a>>,
     table: &'a Value,
+    key: &str,
     target: Option<&'a str>,
 ) -> Result<(), AllocError>
     ensures { OnOk result (map dependency_view all.new.items ≡ map dependency_view all.old.items
-        ++ dependencies_in (option_map (λ t. t.now) target.entry) (view table.now)) }
+        ++ dependencies_in key.now (option_map (λ t. t.now) target.entry) (view table.now)) }
 {
-    let entries = entries_at(alloc, table, "dependencies")?;
+    let entries = entries_at(alloc, table, key)?;
     for (name, value) in &entries {
         all.push(Dependency {
             name: *name,

@@ -3,7 +3,7 @@
 ghost use Rattle.std.specs.Prelude.{◌≡◌, ◌↔◌, ◌++◌, IfErr, IfOk, OnOk, flat_map, map, option_map};
 ghost use Rattle.cargo_manifest.specs.Dependencies.{dependency_view};
 ghost use Rattle.cargo_manifest.specs.Enabled.{IsEnabled, IsIn, link_view};
-ghost use Rattle.cargo_manifest.specs.Features.{IsUnknown, asked_features, asked_of, feature_links, feature_names, feature_of, first_other, implicit_features, implicit_link, is_switched, is_to, listed_links, named, optional_names, turns_on, with_dependency};
+ghost use Rattle.cargo_manifest.specs.Features.{IsUnknown, asked_features, asked_of, feature_links, feature_names, feature_of, first_other, implicit_features, implicit_link, is_switched, is_to, listed_links, named, optional_names, optional_of, turns_on, with_dependency};
 ghost use Rattle.cargo_manifest.specs.Manifests.{data_of};
 ghost use Rattle.cargo_manifest.specs.Switches.{switch_view};
 ghost use Rattle.cargo_manifest.specs.Values.{Text, entry_view, texts};
@@ -68,6 +68,17 @@ fn optional_names<'a>(
         }
     }
     Ok(all)
+}
+
+/// The names of the optional dependencies of a package, and of its build script.
+fn optional_of(alloc: Global, manifest: &Manifest) -> Result<Vec<&str>, AllocError>
+    ensures { IfOk result (λ all. texts all.items ≡ optional_of (data_of manifest.now)) }
+{
+    let dependencies = manifest.dependencies(alloc)?;
+    let own = optional_names(alloc, &dependencies)?;
+    let dependencies = manifest.build_dependencies(alloc)?;
+    let of_build = optional_names(alloc, &dependencies)?;
+    joined(alloc, &own, &of_build)
 }
 
 /// Puts what the strings of an entry say that a feature turns on behind other links.
@@ -218,7 +229,7 @@ impl<'a> Features<'a> {
         ensures names { IfOk result (λ features. texts features.names.items ≡ feature_names (data_of manifest.now)) }
         ensures links { IfOk result (λ features. map link_view features.links.items ≡ feature_links (data_of manifest.now)) }
     {
-        let optional = optional_names(alloc, &manifest.dependencies(alloc)?)?;
+        let optional = optional_of(alloc, manifest)?;
         let entries = manifest.feature_entries(alloc)?;
         let explicit = entry_names(alloc, &entries)?;
         let listed = listed_links(alloc, &entries)?;

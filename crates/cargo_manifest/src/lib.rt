@@ -11,11 +11,15 @@ mod edition;
 mod manifest;
 mod schema;
 
+// Which version of a package is chosen.
+mod choice;
+
 // Features: what each turns on, and which are on.
 mod enabled;
 mod entry;
 mod features;
 
+pub use choice::greatest_match;
 pub use dependency::Dependency;
 pub use edition::Edition;
 pub use enabled::Link;

@@ -5,7 +5,7 @@ ghost use Rattle.std.specs.Option.{is_some};
 ghost use Rattle.toml.specs.Data.{get};
 ghost use Rattle.toml.specs.Parse.{parse_document};
 ghost use Rattle.toml.specs.View.{view};
-ghost use Rattle.cargo_manifest.specs.Dependencies.{dependency_view, package_dependencies};
+ghost use Rattle.cargo_manifest.specs.Dependencies.{build_dependencies, dependencies_of, dependency_view, package_dependencies};
 ghost use Rattle.cargo_manifest.specs.Manifests.{IsPlaceOf, IsReadAs, IsRefused, bin_said, bin_view, bins, data_of, edition_in, has_build_script, string_in, workspace_dependencies, workspace_edition, workspace_members};
 ghost use Rattle.cargo_manifest.specs.Schema.{is_manifest};
 ghost use Rattle.cargo_manifest.specs.Values.{entries_at, entry_view, texts};
@@ -207,13 +207,17 @@ impl Manifest {
     pub fn dependencies(&self, alloc: Global) -> Result<Vec<Dependency<'_>>, AllocError>
         ensures { IfOk result (λ all. map dependency_view all.items ≡ package_dependencies (data_of self.now)) }
     {
-        let mut all = Vec::new(alloc);
-        put_dependencies(alloc, &mut all, &self.value, None)?;
-        let targets = entries_at(alloc, &self.value, "target")?;
-        for (target, table) in &targets {
-            put_dependencies(alloc, &mut all, *table, Some(*target))?;
-        }
-        Ok(all)
+        dependencies_of(alloc, &self.value, "dependencies")
+    }
+
+    /// The dependencies of the package's build script, which may be optional, too.
+    pub(crate) fn build_dependencies(
+        &self,
+        alloc: Global,
+    ) -> Result<Vec<Dependency<'_>>, AllocError>
+        ensures { IfOk result (λ all. map dependency_view all.items ≡ build_dependencies (data_of self.now)) }
+    {
+        dependencies_of(alloc, &self.value, "build-dependencies")
     }
 
     /// The dependencies of a workspace, which its packages may ask for. An error comes where a growth of memory was refused.
@@ -222,7 +226,7 @@ impl Manifest {
     {
         let mut all = Vec::new(alloc);
         if let Some(workspace) = self.value.get("workspace") {
-            put_dependencies(alloc, &mut all, workspace, None)?;
+            put_dependencies(alloc, &mut all, workspace, "dependencies", None)?;
         }
         Ok(all)
     }
@@ -243,6 +247,23 @@ impl Manifest {
     {
         entries_at(alloc, &self.value, "features")
     }
+}
+
+/// The dependencies at a key of a manifest: those for all targets, and those for each that is named.
+fn dependencies_of<'a>(
+    alloc: Global,
+    value: &'a Value,
+    key: &str,
+) -> Result<Vec<Dependency<'a>>, AllocError>
+    ensures { IfOk result (λ all. map dependency_view all.items ≡ dependencies_of key.now (view value.now)) }
+{
+    let mut all = Vec::new(alloc);
+    put_dependencies(alloc, &mut all, value, key, None)?;
+    let targets = entries_at(alloc, value, "target")?;
+    for (target, table) in &targets {
+        put_dependencies(alloc, &mut all, *table, key, Some(*target))?;
+    }
+    Ok(all)
 }
 
 /// The edition of the `package` in a table.

@@ -62,7 +62,7 @@ struct Rule {
 }
 
 /// What is asked of a manifest. A key that no rule names may have anything (Cargo warns of some).
-static RULES: [Rule; 58] = [
+static RULES: [Rule; 64] = [
     Rule {
         way: &[Step::Key("package")],
         kind: ValueKind::Table,
@@ -205,6 +205,22 @@ static RULES: [Rule; 58] = [
         kind: ValueKind::String,
     },
     Rule {
+        way: &[Step::Key("build-dependencies")],
+        kind: ValueKind::Table,
+    },
+    Rule {
+        way: &[Step::Key("build-dependencies"), Step::EachKey],
+        kind: ValueKind::StringOrTable,
+    },
+    Rule {
+        way: &[
+            Step::Key("build-dependencies"),
+            Step::EachKey,
+            Step::Key("optional"),
+        ],
+        kind: ValueKind::Boolean,
+    },
+    Rule {
         way: &[Step::Key("target")],
         kind: ValueKind::Table,
     },
@@ -319,6 +335,33 @@ static RULES: [Rule; 58] = [
             Step::EachItem,
         ],
         kind: ValueKind::String,
+    },
+    Rule {
+        way: &[
+            Step::Key("target"),
+            Step::EachKey,
+            Step::Key("build-dependencies"),
+        ],
+        kind: ValueKind::Table,
+    },
+    Rule {
+        way: &[
+            Step::Key("target"),
+            Step::EachKey,
+            Step::Key("build-dependencies"),
+            Step::EachKey,
+        ],
+        kind: ValueKind::StringOrTable,
+    },
+    Rule {
+        way: &[
+            Step::Key("target"),
+            Step::EachKey,
+            Step::Key("build-dependencies"),
+            Step::EachKey,
+            Step::Key("optional"),
+        ],
+        kind: ValueKind::Boolean,
     },
     Rule {
         way: &[Step::Key("workspace")],

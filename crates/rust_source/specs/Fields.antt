@@ -1,7 +1,7 @@
 -- Fields of structs, unions and variants, and variants of enums.
-use Rattle.std.specs.Prelude.{ℕ, zero, suc, ◌-◌, ◌^◌, Bool, true, false, List, [], ◌∷◌, ◌++◌, length, min, Option, None, Some, Result, if◌then◌else◌}
+use Rattle.std.specs.Prelude.{ℕ, zero, suc, ◌-◌, ◌^◌, Bool, true, false, List, [], ◌∷◌, ◌++◌, length, min, ◌&&◌, not, Option, None, Some, Result, Ok, Err, if◌then◌else◌}
 use Rattle.rust_source.specs.declared.fault.SourceFault.{SourceFault}
-use Rattle.rust_source.specs.declared.fault.SourceFaultKind.TheVariants.{ExpectedColon}
+use Rattle.rust_source.specs.declared.fault.SourceFaultKind.TheVariants.{ExpectedColon, VisibilityOfVariant, VisibilityOutside}
 use Rattle.rust_source.specs.declared.item.FieldName.{FieldName}
 use Rattle.rust_source.specs.declared.item.FieldName.TheVariants.{Named, Numbered}
 use Rattle.rust_source.specs.declared.place.Place.{Place}
@@ -17,7 +17,7 @@ use Rattle.rust_source.specs.declared.tokens.token.TokenKind.{TokenKind}
 use Rattle.rust_source.specs.declared.tokens.token.TokenKind.TheVariants as kind
 use Rattle.rust_source.specs.Attributes.{part_attributes}
 use Rattle.rust_source.specs.Cfg.{Noted, Noting}
-use Rattle.rust_source.specs.Cursor.{behind_group, comma_passed, expected, inside, is_done, is_next, is_none, is_keyword_next, next_kind, nth, passed, place, place_behind}
+use Rattle.rust_source.specs.Cursor.{behind_group, comma_passed, expected, fault, inside, is_done, is_next, is_none, is_keyword_next, next_kind, nth, passed, place, place_behind}
 use Rattle.rust_source.specs.Items.{FieldRead, FieldsRead, VariantRead}
 use Rattle.rust_source.specs.Reading.{Reading, read_on, name, read_as}
 use Rattle.rust_source.specs.Repeated.{field_names, none_twice, variant_names}
@@ -79,13 +79,27 @@ next_field_number is_tuple before = if is_tuple then Some (min (length before) (
 abbrev pub with_one : {A : Type 0} → List A → (is_there : Bool) → A → List A
 with_one all is_there one = if is_there then all ++ one ∷ [] else all
 
+-- what is next is seen in the module around this one
+abbrev pub asks_outer_by : Option Cursor → Bool
+asks_outer_by None = false
+asks_outer_by (Some i) = is_keyword_next i keyword.Super && is_restriction i
+
+abbrev pub asks_outer : Cursor → Bool
+asks_outer c = is_keyword_next c keyword.Pub && asks_outer_by (inside (passed c 1) bracket.Round)
+
 module _ (rules : Rules) where
+  -- a field is seen in a module around its own where there may be one, unless a `cfg` takes it out
+  abbrev pub field_judged : (is_there : Bool) → Cursor → Result (Unit {0}) SourceFault
+  field_judged is_there c = if asks_outer c && is_there && not rules.has_outer then Err (fault c VisibilityOutside) else Ok tt
+
   -- the fields with the one that is next, which a `cfg` may take out
   unfoldable pub field_more : (is_tuple : Bool) → List FieldRead → Noting (List FieldRead)
   field_more is_tuple all c known =
       read_on (λ (a : Attributes × Cursor) ns.
+      read_on (λ _ ks.
       read_on (λ (f : FieldRead × Cursor) ms. read_on (λ d ls. done (with_one all a.0.holds f.0, d) ls) (comma_passed f.1, ms))
-      (by_names ns.1 (field_read (next_field_number is_tuple all) a.1 ns.0)))
+      (by_names ks.1 (field_read (next_field_number is_tuple all) a.1 ks.0)))
+      (field_judged a.0.holds a.1, ns))
       (part_attributes rules c known)
 
   -- the fields behind these, at most so many
@@ -120,6 +134,10 @@ value_read end c names =
     then read_on (λ (e : ExprRead × Cursor) ns. done (Some e.0, until end (passed c 1)) ns) (whole (readers most_nested) (up_to end (passed c 1)) names)
     else done (None, c) names
 
+-- a variant has no `pub`, unless a `cfg` takes it out
+abbrev pub variant_judged : (is_there : Bool) → Cursor → Result (Unit {0}) SourceFault
+variant_judged is_there c = if is_there && is_keyword_next c keyword.Pub then Err (fault c VisibilityOfVariant) else Ok tt
+
 module _ (rules : Rules) where
   -- a variant, behind its attributes
   unfoldable pub variant_read : Noting VariantRead
@@ -135,8 +153,10 @@ module _ (rules : Rules) where
   unfoldable pub variant_more : List VariantRead → Noting (List VariantRead)
   variant_more all c known =
       read_on (λ (a : Attributes × Cursor) ns.
+      read_on (λ _ ks.
       read_on (λ (v : VariantRead × Cursor) ms. read_on (λ d ls. done (with_one all a.0.holds v.0, d) ls) (comma_passed v.1, ms))
-      (variant_read a.1 ns))
+      (variant_read a.1 ks))
+      (variant_judged a.0.holds a.1, ns))
       (part_attributes rules c known)
 
   -- the variants behind these, at most so many

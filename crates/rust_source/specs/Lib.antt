@@ -32,6 +32,7 @@ pub mod Definition
 pub mod Having
 pub mod Constants
 pub mod Functions
+pub mod Traits
 pub mod Outlines
 pub mod Modules
 pub mod Sources

@@ -99,10 +99,15 @@ number_of_digits base text =
     let n = digits_length base text in
     suffixed (digits_value base (take n text)) (integer_kind (drop n text)) (length (drop n text) == 0)
 
--- what follows a decimal number's digits makes it a float: a point, an exponent, `f32` or `f64`
+-- the name of a float's type
+abbrev pub is_float_type : List ℕ → Bool
+is_float_type name =
+    bytes_eq (codes "f32") name || bytes_eq (codes "f64") name || bytes_eq (codes "f16") name || bytes_eq (codes "f128") name
+
+-- what follows a decimal number's digits makes it a float: a point, an exponent, or the name of a float's type
 abbrev pub is_float_tail : List ℕ → Bool
 is_float_tail [] = false
-is_float_tail (b ∷ bs) = (b == 46) || (b == 101) || (b == 69) || (b == 102)
+is_float_tail (b ∷ bs) = (b == 46) || (b == 101) || (b == 69) || is_float_type (b ∷ bs)
 
 -- the base that the letter behind a `0` names: `x`, `o` or `b`
 abbrev pub base_of : List ℕ → ℕ

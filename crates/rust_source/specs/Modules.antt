@@ -28,8 +28,9 @@ use Rattle.rust_source.specs.Reading.{read_on, is_named, is_path_name, name, wor
 use Rattle.rust_source.specs.Repr.{misplaced}
 use Rattle.rust_source.specs.Simple.{most_nested}
 use Rattle.rust_source.specs.Terms.{done, fault_next}
+use Rattle.rust_source.specs.Traits.{trait_read}
 use Rattle.rust_source.specs.Uses.{tree_read}
-use Rattle.rust_source.specs.Visibility.{visibility_read}
+use Rattle.rust_source.specs.Visibility.{rules_in, visibility_read}
 use Rattle.rust_source.specs.Definition.{DefinitionRead, is_union, definition_read}
 
 -- what follows names and `:`, of at most so many
@@ -104,7 +105,7 @@ module _ (rules : Rules) where
   unfoldable pub other_read : Standing → Attributes → Cursor → Having → Result Cursor SourceFault × Having
   other_read standing said c known =
       if is_keyword_next c keyword.Use then use_read standing (passed c 1) known
-      else read_on (λ _ ns. read_on (λ _ ms. over_passed c ms) (function_read standing said c ns)) (own_constants rules standing.«module» c known)
+      else read_on (λ _ ns. read_on (λ _ ms. read_on (λ _ ls. over_passed c ls) (trait_read standing c ms)) (function_read standing said c ns)) (own_constants rules standing.«module» c known)
 
   -- the item that is next, which this was or another one is
   abbrev pub next_item_by : Standing → Attributes → Option DefinitionRead → Cursor → Having → Result Cursor SourceFault × Having
@@ -114,7 +115,7 @@ module _ (rules : Rules) where
   -- the item that is next, which is no module, behind its attributes and its `pub`
   unfoldable pub item_read : Standing → Attributes → Cursor → Having → Result Cursor SourceFault × Having
   item_read standing said c known =
-      read_on (λ (w : Option DefinitionRead × Cursor) ns. next_item_by standing said w.0 w.1 ns) (noted_within known.1 (definition_read rules c (noted known)))
+      read_on (λ (w : Option DefinitionRead × Cursor) ns. next_item_by standing said w.0 w.1 ns) (noted_within known.1 (definition_read (rules_in rules known.1.modules standing.«module») c (noted known)))
 
   module _ (M : ModuleReader) where
     -- the items of a module, which is begun: those within its braces

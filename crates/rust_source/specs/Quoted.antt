@@ -1,12 +1,15 @@
 -- Where strings, characters and lifetimes end.
-use Rattle.std.specs.Prelude.{ℕ, ◌+◌, ◌==◌, ◌&&◌, ◌||◌, Bool, true, false, not, List, [], ◌∷◌, drop, Option, None, Some, option_map, Result, Ok, Err, if◌then◌else◌}
+use Rattle.std.specs.Prelude.{ℕ, ◌+◌, ◌==◌, ◌&&◌, ◌||◌, Bool, true, false, not, List, [], ◌∷◌, drop, take, Option, None, Some, option_map, Result, Ok, Err, if◌then◌else◌}
 use Rattle.rust_source.specs.declared.fault.SourceFaultKind.{SourceFaultKind}
-use Rattle.rust_source.specs.declared.fault.SourceFaultKind.TheVariants.{BadCharacter, UnclosedText}
+use Rattle.rust_source.specs.declared.fault.SourceFaultKind.TheVariants.{BadCharacter, BadRawName, UnclosedText}
+use Rattle.rust_source.specs.declared.tokens.keyword.Keyword.{Keyword}
+use Rattle.rust_source.specs.declared.tokens.keyword.Keyword.TheVariants as keyword
 use Rattle.rust_source.specs.declared.tokens.runs.Run.TheVariants as run
 use Rattle.rust_source.specs.declared.tokens.token.TokenKind.{TokenKind}
 use Rattle.rust_source.specs.declared.tokens.token.TokenKind.TheVariants as kind
 use Rattle.rust_source.specs.Characters.{byte_at, first_char, name_length}
 use Rattle.rust_source.specs.Blanks.{run_length}
+use Rattle.rust_source.specs.Keywords.{keyword_of}
 
 -- the byte is the quote that ends a text
 abbrev pub is_end : (is_escaped : Bool) → (b quote : ℕ) → Bool
@@ -84,9 +87,20 @@ byte_of (Err k) = Err k
 unfoldable pub byte_token : List ℕ → Lexed
 byte_token bytes = byte_of (quote_token (drop 1 bytes))
 
--- the raw name that the bytes begin with by `r#`, where a name of this length follows
-abbrev pub raw_name : (name : ℕ) → Option Lexed
-raw_name name = if name == 0 then None else Some (Ok (kind.RawName, name + 2))
+-- a word that can't be a raw name: one that a path may begin with, or `_` (Rust Reference, "Identifiers")
+abbrev pub is_never_raw : Option Keyword → Bool
+is_never_raw (Some keyword.Crate) = true
+is_never_raw (Some keyword.SelfValue) = true
+is_never_raw (Some keyword.SelfType) = true
+is_never_raw (Some keyword.Super) = true
+is_never_raw (Some keyword.Underscore) = true
+is_never_raw _ = false
+
+-- the raw name that stands behind `r#`; none where no word does
+unfoldable pub raw_name : List ℕ → Option Lexed
+raw_name bytes =
+    let n = name_length bytes in
+    if n == 0 then None else Some (if is_never_raw (keyword_of (take n bytes)) then Err BadRawName else Ok (kind.RawName, n + 2))
 
 -- the raw string that the bytes begin with, or the raw name, behind so many letters; none where they begin with neither
 unfoldable pub raw_token : List ℕ → (letters : ℕ) → Option Lexed
@@ -94,7 +108,7 @@ raw_token bytes letters =
     let hashes = run_length run.Hashes (drop letters bytes) in
     let before = letters + hashes in
     if byte_at bytes before == 34 then Some (token_closed kind.Text (before + 1) (raw_end (drop (before + 1) bytes) hashes))
-    else (if (letters == 1) && (hashes == 1) && (byte_at bytes 0 == 114) then raw_name (name_length (drop 2 bytes)) else None)
+    else (if (letters == 1) && (hashes == 1) && (byte_at bytes 0 == 114) then raw_name (drop 2 bytes) else None)
 
 -- the literal or the raw name that the bytes begin with by a letter; none where they begin with neither
 unfoldable pub prefixed_token : List ℕ → Option Lexed

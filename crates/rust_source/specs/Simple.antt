@@ -104,6 +104,10 @@ before_function c =
     let safe = word_passed keyword.Unsafe bound in
     if is_keyword_next safe keyword.Extern then text_passed (passed safe 1) (next_kind (passed safe 1)) else safe
 
+-- `extern` stands before the `fn` of a pointer
+unfoldable pub is_extern : Cursor → Bool
+is_extern c = is_keyword_next (word_passed keyword.Unsafe (if is_keyword_next c keyword.For then angles_passed (passed c 1) else c)) keyword.Extern
+
 -- a keyword that a function pointer's type may begin with
 abbrev pub begins_pointer : Keyword → Bool
 begins_pointer keyword.Fn = true
@@ -132,6 +136,11 @@ parameter_begun c = let d = hashes_passed c in if names_parameter d then passed 
 -- the parameters that a function pointer leaves open (`...`)
 abbrev pub is_variadic : Cursor → Bool
 is_variadic c = is_pair c 46 46 && is_nth c 2 46
+
+-- the last of these parameters are left open
+abbrev pub ends_variadic : Option Cursor → Bool
+ends_variadic None = false
+ends_variadic (Some i) = is_variadic (record i { at = i.end - 3 })
 
 -- the type that begins with this keyword, and is no path and no function pointer
 abbrev pub worded : Cursor → Keyword → Result (TypeRead × Cursor) SourceFault

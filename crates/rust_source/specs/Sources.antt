@@ -1,5 +1,5 @@
 -- What a text means that is all one type, or a source of items.
-use Rattle.std.specs.Prelude.{◌≡◌, ◌⊎◌, ℕ, ◌+◌, ◌-◌, ◌^◌, List, length, min, Result, Ok, Err, if◌then◌else◌}
+use Rattle.std.specs.Prelude.{◌≡◌, ◌⊎◌, ℕ, ◌+◌, ◌-◌, ◌^◌, true, List, length, min, Result, Ok, Err, if◌then◌else◌}
 use Rattle.rust_source.specs.declared.fault.SourceFault.{SourceFault}
 use Rattle.rust_source.specs.declared.fault.SourceFaultKind.TheVariants.{ExpectedType, OutOfMemory}
 use Rattle.rust_source.specs.declared.reader.cursor.Cursor.{Cursor}
@@ -55,7 +55,7 @@ MeansType text start old new answer = WantsMemory answer ⊎ MeansBy text start 
 
 -- how a source is read for a target
 abbrev pub rules_of : CfgTarget → Source → Rules
-rules_of target source = record { target = target; is_trusted = source.is_trusted }
+rules_of target source = record { target = target; is_trusted = source.is_trusted; has_outer = true }
 
 -- the answer and what sources have then are what these tokens mean, or their first fault, or this one
 abbrev pub MeansItemsBy : CfgTarget → Source → (old new : Having) → Result ℕ SourceFault → Result (List Token) SourceFault → Type 0

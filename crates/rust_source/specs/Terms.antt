@@ -1,8 +1,8 @@
 -- Types, paths and expressions: what the tokens mean that are next, or their first fault.
-use Rattle.std.specs.Prelude.{ℕ, zero, suc, ◌-◌, ◌||◌, Bool, true, false, List, [], ◌∷◌, ◌++◌, Option, None, Some, Result, Ok, Err, if◌then◌else◌}
+use Rattle.std.specs.Prelude.{ℕ, zero, suc, ◌-◌, ◌||◌, ◌&&◌, Bool, true, false, not, List, [], ◌∷◌, ◌++◌, Option, None, Some, Result, Ok, Err, if◌then◌else◌}
 use Rattle.rust_source.specs.declared.fault.SourceFault.{SourceFault}
 use Rattle.rust_source.specs.declared.fault.SourceFaultKind.{SourceFaultKind}
-use Rattle.rust_source.specs.declared.fault.SourceFaultKind.TheVariants.{BadNumber, ExpectedAngle, ExpectedExpression, ExpectedName, ExpectedSemicolon, ExpectedType, OutOfMemory, TooDeep}
+use Rattle.rust_source.specs.declared.fault.SourceFaultKind.TheVariants.{BadNumber, ExpectedAngle, ExpectedExpression, ExpectedName, ExpectedSemicolon, ExpectedType, OutOfMemory, TooDeep, VariadicPointer}
 use Rattle.rust_source.specs.declared.place.Place.{Place}
 use Rattle.rust_source.specs.declared.place.Symbol.{Symbol}
 use Rattle.rust_source.specs.declared.reader.cursor.Cursor.{Cursor}
@@ -19,7 +19,7 @@ use Rattle.rust_source.specs.Operators.{all_joined, next_operator, operator_put,
 use Rattle.rust_source.specs.Lifetimes.{lifetimes_given}
 use Rattle.rust_source.specs.Passing.{bounds}
 use Rattle.rust_source.specs.Reading.{Reading, read_on, path_name, read_as}
-use Rattle.rust_source.specs.Simple.{after_path, before_function, begins_function, begins_path, is_literal, is_variadic, literal_read, most_nested, parameter_begun, pointed, pointings, signed_literal, signs, simple}
+use Rattle.rust_source.specs.Simple.{after_path, before_function, begins_function, begins_path, ends_variadic, is_extern, is_literal, is_variadic, literal_read, most_nested, parameter_begun, pointed, pointings, signed_literal, signs, simple}
 use Rattle.rust_source.specs.Syntax.{ArgumentRead, ExprRead, PathRead, SegmentRead, TypeRead, arguments, array, binding, call, cast, choice, constant, dyn, exprs, function, of_const, of_type, other_expr, path, segment, segments, slice, tuple, type_list}
 
 -- names that have numbers
@@ -222,12 +222,17 @@ module _ (R : Readers) where
   unfoldable pub signature_read : Reader (List TypeRead)
   signature_read c names = signature_in c (inside c bracket.Round) names
 
+  -- the types of a function pointer whose `fn` stands before; without `extern` it leaves no parameters open
+  abbrev pub pointer_read : (is_extern : Bool) → Reader (List TypeRead)
+  pointer_read is_extern c names =
+      if not is_extern && ends_variadic (inside c bracket.Round) then fault_next VariadicPointer c names else signature_read c names
+
   -- a pointer to a function, or a trait behind `for<'a>`
   unfoldable pub function_read : Reader TypeRead
   function_read c names =
       let d = before_function c in
       if is_keyword_next d keyword.Fn
-      then read_on (λ (s : List TypeRead × Cursor) ns. done (function (type_list s.0), s.1) ns) (signature_read (passed d 1) names)
+      then read_on (λ (s : List TypeRead × Cursor) ns. done (function (type_list s.0), s.1) ns) (pointer_read (is_extern c) (passed d 1) names)
       else done (dyn, (bounds d).1) names
 
   -- a type that no `&` or `*` stands before, which stands in these brackets, or in none

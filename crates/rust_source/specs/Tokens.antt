@@ -1,20 +1,21 @@
 -- The tokens of a source: the longest that its bytes begin with, and so on behind it, and each bracket with its partner.
-use Rattle.std.specs.Prelude.{◌≡◌, ◌⊎◌, ℕ, zero, suc, ◌+◌, ◌-◌, ◌^◌, ◌==◌, ◌&&◌, Bool, true, false, not, List, [], ◌∷◌, ◌++◌, drop, take, length, nat_lt, slice_get, Option, None, Some, Result, Ok, Err, if◌then◌else◌}
+use Rattle.std.specs.Prelude.{◌≡◌, ◌⊎◌, ℕ, zero, suc, ◌+◌, ◌-◌, ◌^◌, ◌==◌, ◌&&◌, ◌||◌, Bool, true, false, not, List, [], ◌∷◌, ◌++◌, drop, take, length, nat_lt, slice_get, Option, None, Some, Result, Ok, Err, if◌then◌else◌}
 use Rattle.std.specs.Char.{is_ascii_digit, is_ascii_punctuation}
 use Rattle.rust_source.specs.declared.fault.SourceFault.{SourceFault}
 use Rattle.rust_source.specs.declared.fault.SourceFaultKind.{SourceFaultKind}
-use Rattle.rust_source.specs.declared.fault.SourceFaultKind.TheVariants.{OutOfMemory, TooDeep, TooLong, UnclosedComment, UnknownCharacter, UnmatchedBracket}
+use Rattle.rust_source.specs.declared.fault.SourceFaultKind.TheVariants.{BadNumber, OutOfMemory, TooDeep, TooLong, UnclosedComment, UnknownCharacter, UnknownPrefix, UnmatchedBracket}
 use Rattle.rust_source.specs.declared.tokens.keyword.Keyword.{Keyword}
 use Rattle.rust_source.specs.declared.tokens.brackets.Opened.{Opened}
+use Rattle.rust_source.specs.declared.tokens.runs.Run.TheVariants as run
 use Rattle.rust_source.specs.declared.tokens.token.Bracket.{Bracket}
 use Rattle.rust_source.specs.declared.tokens.token.Bracket.TheVariants as bracket
 use Rattle.rust_source.specs.declared.tokens.token.Token.{Token}
 use Rattle.rust_source.specs.declared.tokens.token.TokenKind.{TokenKind}
 use Rattle.rust_source.specs.declared.tokens.token.TokenKind.TheVariants as kind
 use Rattle.rust_source.specs.Characters.{byte_at, name_length}
-use Rattle.rust_source.specs.Blanks.{blank_length, head_length}
+use Rattle.rust_source.specs.Blanks.{blank_length, head_length, run_length}
 use Rattle.rust_source.specs.Keywords.{keyword_of}
-use Rattle.rust_source.specs.Numerals.{number_length}
+use Rattle.rust_source.specs.Numerals.{begins_fraction, has_base, number_length}
 use Rattle.rust_source.specs.Quoted.{Lexed, prefixed_token, quote_token, string_token}
 
 -- a character of punctuation: those of ASCII but quotes, brackets, `_` and the grave accent
@@ -37,11 +38,21 @@ abbrev pub word_kind : Option Keyword → TokenKind
 word_kind None = kind.Name
 word_kind (Some k) = kind.Keyword k
 
--- the name or the keyword that the bytes begin with
+-- a quote or a `#`, which makes the word right before it a prefix
+abbrev pub follows_prefix : ℕ → Bool
+follows_prefix b = (b == 34) || (b == 35) || (b == 39)
+
+-- the name or the keyword that the bytes begin with, which is no prefix (Rust Reference, "Reserved prefixes")
 unfoldable pub word_token : List ℕ → Lexed
 word_token bytes =
     let n = name_length bytes in
-    if n == 0 then Err UnknownCharacter else Ok (word_kind (keyword_of (take n bytes)), n)
+    if n == 0 then Err UnknownCharacter
+    else (if follows_prefix (byte_at bytes n) then Err UnknownPrefix else Ok (word_kind (keyword_of (take n bytes)), n))
+
+-- the number that the bytes begin with by a digit; one in another base than ten has no fraction
+unfoldable pub number_token : List ℕ → Lexed
+number_token bytes =
+    if has_base bytes && begins_fraction (drop (run_length run.Word bytes) bytes) then Err BadNumber else Ok (kind.Number, number_length bytes)
 
 -- a byte by itself, or else the other token
 abbrev pub single_or : Option TokenKind → (other : Lexed) → Lexed
@@ -57,7 +68,7 @@ prefixed_or (Some token) other = token
 unfoldable pub first_token : List ℕ → Lexed
 first_token bytes =
     let b = byte_at bytes 0 in
-    if is_ascii_digit b then Ok (kind.Number, number_length bytes)
+    if is_ascii_digit b then number_token bytes
     else (if b == 34 then string_token bytes 0
     else (if b == 39 then quote_token bytes
     else single_or (kind_of_byte b) (prefixed_or (prefixed_token bytes) (word_token bytes))))

@@ -1,10 +1,11 @@
 -- Where a name may be used: in the module that its item stands in, everywhere, or in one around it (Rust Reference, "Visibility and privacy").
-use Rattle.std.specs.Prelude.{ℕ, zero, suc, ◌==◌, ◌&&◌, Bool, true, false, List, [], ◌∷◌, length, slice_get, Option, None, Some, Result, Ok, Err, if◌then◌else◌}
+use Rattle.std.specs.Prelude.{ℕ, zero, suc, ◌==◌, ◌&&◌, ◌||◌, not, is_some, Bool, true, false, List, [], ◌∷◌, length, slice_get, Option, None, Some, Result, Ok, Err, if◌then◌else◌}
 use Rattle.rust_source.specs.declared.fault.SourceFault.{SourceFault}
 use Rattle.rust_source.specs.declared.fault.SourceFaultKind.TheVariants.{VisibilityOutside}
 use Rattle.rust_source.specs.declared.item.Module.{Module}
 use Rattle.rust_source.specs.declared.item.UsedName.{UsedName}
 use Rattle.rust_source.specs.declared.place.Symbol.{Symbol}
+use Rattle.rust_source.specs.declared.reader.attributes.Rules.{Rules}
 use Rattle.rust_source.specs.declared.reader.cursor.Cursor.{Cursor}
 use Rattle.rust_source.specs.declared.tokens.keyword.Keyword.TheVariants as keyword
 use Rattle.rust_source.specs.declared.tokens.token.Bracket.TheVariants as bracket
@@ -80,6 +81,10 @@ module _ (modules : List Module) where
   abbrev pub is_in_crate : (number : ℕ) → Bool
   is_in_crate number = has_name (record { 0 = 0 }) (slice_get modules (root_around number))
 
+  -- a module may stand around the one with this number: around the root of a crate none does
+  abbrev pub has_outer : (number : ℕ) → Bool
+  has_outer number = is_some (around modules number) || not (is_in_crate number)
+
   -- the module around the item, or its own one, that a path names, which begins with `crate`, `self` or `super`
   abbrev pub module_named : (number : ℕ) → List UsedName → Option ℕ
   module_named number [] = None
@@ -118,3 +123,7 @@ module _ (modules : List Module) where
   unfoldable pub visibility_read : (number : ℕ) → Reader (Option ℕ)
   visibility_read number c names =
       if is_keyword_next c keyword.Pub then public_by number (passed c 1) (inside (passed c 1) bracket.Round) names else done (Some number, c) names
+
+-- how the items are read of the module with this number
+abbrev pub rules_in : Rules → List Module → (number : ℕ) → Rules
+rules_in rules modules number = record rules { has_outer = has_outer modules number }

@@ -24,6 +24,10 @@ pub enum SourceFaultKind {
     BadNumber,
     /// A character that no token begins with.
     UnknownCharacter,
+    /// A word right before a quote or a `#` that is no prefix of a literal.
+    UnknownPrefix,
+    /// `r#` before a word that can't be a raw name.
+    BadRawName,
     /// A bracket whose partner is missing, or is of another kind.
     UnmatchedBracket,
     /// No item begins here.
@@ -32,6 +36,8 @@ pub enum SourceFaultKind {
     ExpectedName,
     /// No type begins here.
     ExpectedType,
+    /// Parameters that a function pointer leaves open without `extern`.
+    VariadicPointer,
     /// No expression begins here.
     ExpectedExpression,
     /// The fields of a struct or a union, or the variants of an enum, are missing.
@@ -50,6 +56,8 @@ pub enum SourceFaultKind {
     ExpectedUse,
     /// A restriction behind `pub` that names no module around the item.
     VisibilityOutside,
+    /// `pub` before a variant, which is seen wherever its enum is.
+    VisibilityOfVariant,
     /// `repr` asks for what there isn't, or stands where none may.
     BadRepr,
     /// `repr` asks for two integer types.
@@ -76,10 +84,13 @@ impl SourceFaultKind {
             SourceFaultKind::BadCharacter => "no character that Rust knows",
             SourceFaultKind::BadNumber => "no number that Rust knows",
             SourceFaultKind::UnknownCharacter => "unexpected character",
+            SourceFaultKind::UnknownPrefix => "no prefix that Rust knows",
+            SourceFaultKind::BadRawName => "this name can't be raw",
             SourceFaultKind::UnmatchedBracket => "bracket without its partner",
             SourceFaultKind::ExpectedItem => "expected an item",
             SourceFaultKind::ExpectedName => "expected a name",
             SourceFaultKind::ExpectedType => "expected a type",
+            SourceFaultKind::VariadicPointer => "`...` wants `extern` before `fn`",
             SourceFaultKind::ExpectedExpression => "expected an expression",
             SourceFaultKind::ExpectedFields => "expected fields",
             SourceFaultKind::ExpectedComma => "expected `,` or the end of the list",
@@ -89,6 +100,7 @@ impl SourceFaultKind {
             SourceFaultKind::ExpectedAngle => "expected `>`",
             SourceFaultKind::ExpectedUse => "expected a path to use",
             SourceFaultKind::VisibilityOutside => "expected a module around this one",
+            SourceFaultKind::VisibilityOfVariant => "a variant has no visibility of its own",
             SourceFaultKind::BadRepr => "no repr that may stand here",
             SourceFaultKind::RepeatedInteger => "repr with two integer types",
             SourceFaultKind::RepeatedName => "this name stands twice",

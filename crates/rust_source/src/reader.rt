@@ -22,6 +22,7 @@ mod paths;
 mod repeated;
 mod repr;
 mod signatures;
+mod traits;
 mod types;
 mod uses;
 mod visibility;
@@ -136,6 +137,7 @@ pub fn read_items(
     let rules = Rules {
         target: *target,
         is_trusted: source.is_trusted,
+        has_outer: true,
     };
     read_root(&rules, names, items, source.root, &mut cursor)
 }

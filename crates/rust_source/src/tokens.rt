@@ -12,7 +12,7 @@ pub(crate) mod token;
 ghost use Rattle.std.specs.Prelude.{◌≡◌, ◌+◌, ◌-◌, ◌<◌, ◌≤◌, ◌^◌, IfOk, IfSome, length, min};
 ghost use Rattle.rust_source.specs.Characters.{byte_at};
 ghost use Rattle.rust_source.specs.Quoted.{prefixed_token};
-ghost use Rattle.rust_source.specs.Tokens.{Yields, fault_behind, first_token, is_punctuation, next_token, prefixed_or, kind_of_byte, single_or, token_at, tokens, word_kind, word_token};
+ghost use Rattle.rust_source.specs.Tokens.{Yields, fault_behind, first_token, follows_prefix, is_punctuation, next_token, number_token, prefixed_or, kind_of_byte, single_or, token_at, tokens, word_kind, word_token};
 
 use crate::fault::{SourceFault, SourceFaultKind};
 use crate::place::Place;
@@ -22,7 +22,7 @@ use crate::tokens::characters::name_length;
 pub(crate) use crate::tokens::characters::{byte_at, bytes_after, first_char};
 use crate::tokens::keyword::{Keyword, keyword_of};
 pub(crate) use crate::tokens::number::has_base;
-use crate::tokens::number::number_length;
+use crate::tokens::number::{begins_fraction, number_length};
 pub(crate) use crate::tokens::quoted::escaped_length;
 use crate::tokens::quoted::{Lexed, prefixed_token, quote_token, string_token};
 pub(crate) use crate::tokens::runs::{Run, run_length};
@@ -52,7 +52,14 @@ fn word_kind(keyword: Option<Keyword>) -> TokenKind
     }
 }
 
-/// The token that a name or a keyword is.
+/// Whether a byte is a quote or a `#`, which makes the word right before it a prefix.
+fn follows_prefix(byte: u8) -> bool
+    ensures { result ≡ follows_prefix byte }
+{
+    byte == b'"' || byte == b'#' || byte == b'\''
+}
+
+/// The token that a name or a keyword is, which is no prefix of a literal.
 #[tactic(auto, unfolding(crate::specs::Tokens::word_token))]
 fn word_token(rest: &[u8]) -> Lexed
     ensures same { result ≡ word_token rest.now }
@@ -61,6 +68,9 @@ fn word_token(rest: &[u8]) -> Lexed
     let length = name_length(rest);
     if length == 0 {
         return Err(SourceFaultKind::UnknownCharacter);
+    }
+    if follows_prefix(byte_at(rest, length)) {
+        return Err(SourceFaultKind::UnknownPrefix);
     }
     Ok((word_kind(keyword_of(&rest[..length])), length))
 }
@@ -108,6 +118,18 @@ fn other_token(rest: &[u8]) -> Lexed
     }
 }
 
+/// The number that the bytes begin with by a digit. One in another base than ten has no fraction.
+#[tactic(auto, unfolding(crate::specs::Tokens::number_token))]
+fn number_token(rest: &[u8]) -> Lexed
+    ensures same { result ≡ number_token rest.now }
+    ensures bounded { IfOk result (λ token. token.1 ≤ length rest.now + 4) }
+{
+    if has_base(rest) && begins_fraction(bytes_after(rest, run_length(rest, Run::Word))) {
+        return Err(SourceFaultKind::BadNumber);
+    }
+    Ok((TokenKind::Number, number_length(rest)))
+}
+
 /// The token that the bytes begin with, which is no space, and how many bytes it has.
 #[tactic(auto, unfolding(crate::specs::Tokens::first_token))]
 fn first_token(rest: &[u8]) -> Lexed
@@ -115,7 +137,7 @@ fn first_token(rest: &[u8]) -> Lexed
     ensures bounded { IfOk result (λ token. token.1 ≤ length rest.now + 4) }
 {
     match byte_at(rest, 0) {
-        b'0'..=b'9' => Ok((TokenKind::Number, number_length(rest))),
+        b'0'..=b'9' => number_token(rest),
         b'"' => string_token(rest, 0),
         b'\'' => quote_token(rest),
         _ => other_token(rest),

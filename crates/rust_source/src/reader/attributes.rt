@@ -28,6 +28,8 @@ use crate::tokens::token::{Bracket, Token, TokenKind};
 pub(crate) struct Rules<'a> {
     pub target: CfgTarget<'a>,
     pub is_trusted: bool,
+    /// Whether a module may stand around the one that is read: around the root of a crate none does.
+    pub has_outer: bool,
 }
 
 /// What attributes say.

@@ -2,7 +2,7 @@
 
 ghost use Rattle.std.specs.Prelude.{◌≡◌, ◌∷◌, ◌++◌, [], IfErr, IfOk, map};
 ghost use Rattle.std.specs.Option.{option_map};
-ghost use Rattle.rust_source.specs.Fields.{field_more, field_read, field_typed, fields_all, fields_in, fields_read, is_restriction, next_field_number, value_read, variant_more, variant_read, variants_all, variants_in_braces, visibility_passed, with_one};
+ghost use Rattle.rust_source.specs.Fields.{asks_outer, field_judged, field_more, field_read, field_typed, fields_all, fields_in, fields_read, is_restriction, next_field_number, value_read, variant_judged, variant_more, variant_read, variants_all, variants_in_braces, visibility_passed, with_one};
 ghost use Rattle.rust_source.specs.Items.{field_of, fields_as_read, variant_as_read};
 ghost use Rattle.rust_source.specs.Names.{texts};
 ghost use Rattle.rust_source.specs.Reading.{Reads};
@@ -14,8 +14,8 @@ use crate::names::Names;
 use crate::place::{Place, Symbol};
 use crate::reader::attributes::{Rules, read_part_attributes};
 use crate::reader::cursor::{
-    Cursor, expect, expect_comma, is_done, next_kind, nth, pass, place, place_behind, take,
-    take_group, take_until, take_word,
+    Cursor, expect, expect_comma, fault, is_done, is_word, next_kind, nth, pass, place,
+    place_behind, take, take_group, take_until, take_word,
 };
 use crate::reader::depth::most_nested;
 use crate::reader::expressions::read_whole;
@@ -135,6 +135,30 @@ fn push_field(all: &mut Vec<Field>, is_there: bool, one: Field) -> Result<(), So
     Ok(())
 }
 
+/// Whether what is next is seen in the module around this one, as `pub(super)` says.
+fn asks_outer(cursor: &Cursor<'_>) -> bool
+    ensures { result ≡ asks_outer cursor.now }
+{
+    let mut ahead = *cursor;
+    if !take_word(&mut ahead, Keyword::Pub) {
+        return false;
+    }
+    match take_group(&mut ahead, Bracket::Round) {
+        Some(inside) => is_word(&inside, Keyword::Super) && is_restriction(&inside),
+        None => false,
+    }
+}
+
+/// A fault where a field is seen in a module around its own and there is none, unless a `cfg` takes it out.
+fn refuse_outside(rules: &Rules<'_>, is_there: bool, cursor: &Cursor<'_>) -> Result<(), SourceFault>
+    ensures { result ≡ field_judged rules.now is_there cursor.now }
+{
+    if asks_outer(cursor) && is_there && !rules.has_outer {
+        return Err(fault(cursor, SourceFaultKind::VisibilityOutside));
+    }
+    Ok(())
+}
+
 /// Puts the field that is next behind the others, unless a `cfg` takes it out.
 #[tactic(auto, unfolding(crate::specs::Fields::field_more))]
 fn add_field(
@@ -150,6 +174,7 @@ fn add_field(
         (texts names.new, unknown.new.items) result }
 {
     let said = read_part_attributes(names, unknown, rules, inside)?;
+    refuse_outside(rules, said.holds, inside)?;
     let number = next_number(fields.is_tuple, &fields.all);
     let field = read_field(names, inside, number)?;
     push_field(&mut fields.all, said.holds, field)?;
@@ -278,6 +303,16 @@ fn push_variant(all: &mut Vec<Variant>, is_there: bool, one: Variant) -> Result<
     Ok(())
 }
 
+/// A fault where `pub` stands before a variant, unless a `cfg` takes it out.
+fn refuse_visibility(is_there: bool, cursor: &Cursor<'_>) -> Result<(), SourceFault>
+    ensures { result ≡ variant_judged is_there cursor.now }
+{
+    if is_there && is_word(cursor, Keyword::Pub) {
+        return Err(fault(cursor, SourceFaultKind::VisibilityOfVariant));
+    }
+    Ok(())
+}
+
 /// Puts the variant that is next behind the others, unless a `cfg` takes it out.
 #[tactic(auto, unfolding(crate::specs::Fields::variant_more))]
 fn add_variant(
@@ -292,6 +327,7 @@ fn add_variant(
         (texts names.new, unknown.new.items) result }
 {
     let said = read_part_attributes(names, unknown, rules, inside)?;
+    refuse_visibility(said.holds, inside)?;
     let variant = read_variant(names, unknown, rules, inside)?;
     push_variant(all, said.holds, variant)?;
     expect_comma(inside)

@@ -30,8 +30,9 @@ use crate::reader::modules::{
 use crate::reader::naming::{is_named, is_path_name, take_name, word_text};
 use crate::reader::passing::pass_item;
 use crate::reader::repr::refuse_repr;
+use crate::reader::traits::read_trait;
 use crate::reader::uses::{UseContext, UsePlace, read_tree};
-use crate::reader::visibility::{Standing, read_visibility};
+use crate::reader::visibility::{Standing, read_visibility, rules_in};
 use crate::tokens::as_place;
 use crate::tokens::keyword::Keyword;
 use crate::tokens::token::{Bracket, TokenKind};
@@ -214,6 +215,7 @@ fn read_other(
     }
     read_own_constants(rules, names, items, standing.module, cursor)?;
     read_function(names, items, standing, &context.said, cursor)?;
+    read_trait(names, items, standing, cursor)?;
     pass_over(names, items, cursor)
 }
 
@@ -230,7 +232,8 @@ fn read_item(
     ensures read { Reads (λ _. cursor.new) (item_read rules.now context.now.standing context.now.said cursor.old (texts names.old, items_as_read items.old))
         (texts names.new, items_as_read items.new) result }
 {
-    match read_definition(names, &mut items.unknown_cfgs, rules, cursor)? {
+    let within = rules_in(rules, &items.modules, context.standing.module);
+    match read_definition(names, &mut items.unknown_cfgs, &within, cursor)? {
         Some(one) => put_item(items, context.standing, &context.said, one),
         None => read_other(rules, names, items, context, cursor),
     }

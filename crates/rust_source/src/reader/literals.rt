@@ -1,7 +1,7 @@
 //! The values of numbers and characters.
 
 ghost use Rattle.std.specs.Prelude.{◌≡◌, ◌≤◌, length, map};
-ghost use Rattle.rust_source.specs.Literals.{code_from, base_of, char_code, code_by, code_within, digit_value, digits_length, digits_value, kind_entry, escape_by, escaped_code, hex_code, integer_kind, integer_kind_in, is_digit_in, is_float_tail, letter_code, number_of_digits, number_written, suffixed, with_digit, bytes_between};
+ghost use Rattle.rust_source.specs.Literals.{code_from, base_of, char_code, code_by, code_within, digit_value, digits_length, digits_value, kind_entry, escape_by, escaped_code, hex_code, integer_kind, integer_kind_in, is_digit_in, is_float_tail, is_float_type, letter_code, number_of_digits, number_written, suffixed, with_digit, bytes_between};
 ghost use Rattle.rust_source.specs.Characters.{first_char};
 ghost use Rattle.rust_source.specs.Slices.{now_of};
 
@@ -147,12 +147,22 @@ fn number_in(text: &[u8], base: u8) -> Number
     )
 }
 
+/// Whether it is the name of a float's type.
+fn is_float_type(name: &[u8]) -> bool
+    ensures { result ≡ is_float_type name.now }
+{
+    "f32".as_bytes() == name
+        || "f64".as_bytes() == name
+        || "f16".as_bytes() == name
+        || "f128".as_bytes() == name
+}
+
 /// Whether what follows a decimal number's digits makes it a float.
 fn is_float_tail(tail: &[u8]) -> bool
     ensures { result ≡ is_float_tail tail.now }
 {
     match tail.first() {
-        Some(first) => *first == b'.' || *first == b'e' || *first == b'E' || *first == b'f',
+        Some(first) => { *first == b'.' || *first == b'e' || *first == b'E' || is_float_type(tail) }
         None => false,
     }
 }

@@ -1,10 +1,10 @@
 //! Types of function pointers.
 
 ghost use Rattle.std.specs.Prelude.{◌≡◌, map, if◌then◌else◌};
-ghost use Rattle.rust_source.specs.Cursor.{passed};
+ghost use Rattle.rust_source.specs.Cursor.{inside, passed};
 ghost use Rattle.rust_source.specs.Names.{texts};
 ghost use Rattle.rust_source.specs.Reading.{Reads};
-ghost use Rattle.rust_source.specs.Simple.{before_function, begins_function, begins_pointer, is_variadic, names_parameter, parameter_begun};
+ghost use Rattle.rust_source.specs.Simple.{before_function, begins_function, begins_pointer, ends_variadic, is_extern, is_variadic, names_parameter, parameter_begun};
 ghost use Rattle.rust_source.specs.Syntax.{type_of};
 ghost use Rattle.rust_source.specs.Terms.{function_read, parameter_type, parameter_types, readers, result_read, signature_read};
 
@@ -41,21 +41,24 @@ pub(crate) fn begins_function(cursor: &Cursor<'_>) -> bool
     }
 }
 
-/// Passes over what may stand before a function pointer's `fn`.
-#[tactic(auto, unfolding(crate::specs::Simple::before_function))]
-fn pass_before_function(cursor: &mut Cursor<'_>)
-    ensures { cursor.new ≡ before_function cursor.old }
+/// Passes over what may stand before a function pointer's `fn`, and says whether `extern` does.
+#[tactic(auto, unfolding(crate::specs::Simple::before_function, crate::specs::Simple::is_extern))]
+fn pass_before_function(cursor: &mut Cursor<'_>) -> bool
+    ensures is { result ≡ is_extern cursor.old }
+    ensures passed { cursor.new ≡ before_function cursor.old }
 {
     if take_word(cursor, Keyword::For) {
         pass_angles(cursor);
     }
     let _ = take_word(cursor, Keyword::Unsafe);
-    if take_word(cursor, Keyword::Extern) {
+    let is_extern = take_word(cursor, Keyword::Extern);
+    if is_extern {
         match next_kind(cursor) {
             Some(TokenKind::Text) => pass(cursor, 1),
             _ => {}
         }
     }
+    is_extern
 }
 
 /// Whether a parameter of a function pointer begins with its name: a word or `_`, and a `:`.
@@ -80,17 +83,36 @@ fn pass_to_type(cursor: &mut Cursor<'_>)
     }
 }
 
+/// Whether `...` is next.
+fn is_variadic(cursor: &Cursor<'_>) -> bool
+    ensures { result ≡ is_variadic cursor.now }
+{
+    is_pair(cursor, b'.', b'.') && is_nth(cursor, 2, b'.')
+}
+
 /// Passes over `...`, where it is next, and says whether it is.
 fn take_variadic(cursor: &mut Cursor<'_>) -> bool
     ensures is { result ≡ is_variadic cursor.old }
     ensures passed { cursor.new ≡
         (if is_variadic cursor.old then passed cursor.old 3 else cursor.old) }
 {
-    let is = is_pair(cursor, b'.', b'.') && is_nth(cursor, 2, b'.');
+    let is = is_variadic(cursor);
     if is {
         pass(cursor, 3);
     }
     is
+}
+
+/// Whether the parameters of a function pointer that are next end in `...`.
+fn ends_variadic(cursor: &Cursor<'_>) -> bool
+    ensures { result ≡ ends_variadic (inside cursor.now Bracket.Round) }
+{
+    let mut behind = *cursor;
+    let Some(mut last) = take_group(&mut behind, Bracket::Round) else {
+        return false;
+    };
+    last.at = last.end.saturating_sub(3);
+    is_variadic(&last)
 }
 
 /// Puts the type of the parameter that is next behind the others. What is left open by `...` has none.
@@ -184,10 +206,13 @@ pub(crate) fn read_function_pointer(
     ensures { Reads (λ ty. (type_of ty, cursor.new))
         (function_read (readers depth_left) cursor.old (texts names.old)) (texts names.new) result }
 {
-    pass_before_function(cursor);
+    let is_extern = pass_before_function(cursor);
     if !take_word(cursor, Keyword::Fn) {
         let _ = pass_bounds(cursor);
         return Ok(Type::Dyn);
+    }
+    if !is_extern && ends_variadic(cursor) {
+        return Err(fault(cursor, SourceFaultKind::VariadicPointer));
     }
     Ok(Type::Function(read_signature(names, cursor, depth_left)?))
 }

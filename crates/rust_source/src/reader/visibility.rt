@@ -3,12 +3,13 @@
 ghost use Rattle.std.specs.Prelude.{◌≡◌, false, None, slice_get, if◌then◌else◌};
 ghost use Rattle.rust_source.specs.Names.{texts};
 ghost use Rattle.rust_source.specs.Reading.{Reads};
-ghost use Rattle.rust_source.specs.Visibility.{around, child_towards, has_name, is_in_crate, module_named, path_restricts, restricted_by, restriction_read, root_around, step, steps, visibility_read};
+ghost use Rattle.rust_source.specs.Visibility.{around, child_towards, has_name, has_outer, is_in_crate, module_named, path_restricts, restricted_by, restriction_read, root_around, rules_in, step, steps, visibility_read};
 
 use crate::fault::{SourceFault, SourceFaultKind};
 use crate::item::{Module, UsedName};
 use crate::names::Names;
 use crate::place::Symbol;
+use crate::reader::attributes::Rules;
 use crate::reader::cursor::{Cursor, fault, is_done, take_group, take_word};
 use crate::reader::fields::is_restriction;
 use crate::reader::uses::read_names;
@@ -117,6 +118,24 @@ fn is_in_crate(modules: &[Module], number: u32) -> bool
     ensures { result ≡ is_in_crate modules.now number }
 {
     has_name(modules, root_around(modules, number), Symbol::CRATE)
+}
+
+/// Whether a module may stand around the one with this number: around the root of a crate none does.
+fn has_outer(modules: &[Module], number: u32) -> bool
+    ensures { result ≡ has_outer modules.now number }
+{
+    around(modules, number).is_some() || !is_in_crate(modules, number)
+}
+
+/// How the items are read of the module with this number.
+pub(crate) fn rules_in<'a>(rules: &Rules<'a>, modules: &[Module], number: u32) -> Rules<'a>
+    ensures { result ≡ rules_in rules.now modules.now number }
+{
+    Rules {
+        target: rules.target,
+        is_trusted: rules.is_trusted,
+        has_outer: has_outer(modules, number),
+    }
 }
 
 /// The module that a path names that begins with `crate`, behind that.

@@ -8,7 +8,7 @@ use crate::tokens::runs::{Run, run_length};
 
 /// Whether the bytes behind a number's digits begin with the point of a fraction: `1.` and `1.5`, but neither `1..2` nor
 /// `1.max(2)`.
-fn begins_fraction(rest: &[u8]) -> bool
+pub(crate) fn begins_fraction(rest: &[u8]) -> bool
     ensures { result ≡ begins_fraction rest.now }
 {
     let next = byte_at(rest, 1);

@@ -1,10 +1,11 @@
 //! Strings, characters and lifetimes.
 
 ghost use Rattle.std.specs.Prelude.{◌≡◌, ◌+◌, ◌<◌, ◌≤◌, ◌^◌, IfOk, IfSome, length};
-ghost use Rattle.rust_source.specs.Quoted.{byte_token, token_closed, escaped_length, escapes, is_end, hashes_with, lifetime, prefixed_token, quote_token, raw_end, raw_name, raw_token, string_token};
+ghost use Rattle.rust_source.specs.Quoted.{byte_token, token_closed, escaped_length, escapes, is_end, hashes_with, is_never_raw, lifetime, prefixed_token, quote_token, raw_end, raw_name, raw_token, string_token};
 
 use crate::fault::SourceFaultKind;
 use crate::tokens::characters::{byte_at, bytes_after, first_char, name_length};
+use crate::tokens::keyword::{Keyword, keyword_of};
 use crate::tokens::runs::{Run, run_length};
 use crate::tokens::token::TokenKind;
 
@@ -139,15 +140,36 @@ fn byte_token(rest: &[u8]) -> Lexed
     }
 }
 
-/// The raw name that the bytes begin with by `r#`, where a name of this length follows.
-fn raw_name(length: usize) -> Option<Lexed>
-    requires { length < 2 ^ 63 }
-    ensures { result ≡ raw_name length }
+/// Whether a word can't be a raw name: one that a path may begin with, or `_`.
+fn is_never_raw(word: Option<Keyword>) -> bool
+    ensures { result ≡ is_never_raw word }
 {
-    match length {
-        0 => None,
-        length => Some(Ok((TokenKind::RawName, length + 2))),
+    match word {
+        Some(
+            Keyword::Crate
+            | Keyword::SelfValue
+            | Keyword::SelfType
+            | Keyword::Super
+            | Keyword::Underscore,
+        ) => true,
+        _ => false,
     }
+}
+
+/// The raw name that stands behind `r#`. None where no word does.
+#[tactic(auto, unfolding(crate::specs::Quoted::raw_name))]
+fn raw_name(rest: &[u8]) -> Option<Lexed>
+    ensures same { result ≡ raw_name rest.now }
+    ensures bounded { IfSome result (λ lexed. IfOk lexed (λ token. token.1 ≤ length rest.now + 2)) }
+{
+    let length = name_length(rest);
+    if length == 0 {
+        return None;
+    }
+    if is_never_raw(keyword_of(&rest[..length])) {
+        return Some(Err(SourceFaultKind::BadRawName));
+    }
+    Some(Ok((TokenKind::RawName, length + 2)))
 }
 
 /// The raw string or the raw name that the bytes begin with, where `letters` bytes stand before its first `#` or quote.
@@ -165,7 +187,7 @@ fn raw_token(rest: &[u8], letters: usize) -> Option<Lexed>
         return Some(closed(TokenKind::Text, before + 1, length));
     }
     if letters == 1 && hashes == 1 && byte_at(rest, 0) == b'r' {
-        raw_name(name_length(bytes_after(rest, 2)))
+        raw_name(bytes_after(rest, 2))
     } else {
         None
     }

@@ -2,10 +2,14 @@
 use Rattle.std.proofs.Common.{◌≡◌, ◌∙◌, [], ap, inl, inr, sym}
 use Rattle.indexmap.specs.IndexMap.{get}
 use Rattle.rust_source.specs.declared.place.Symbol.{Symbol}
+use Rattle.abi_rust.specs.ExternCrates.{crate_at}
 use Rattle.abi_rust.specs.Scope.{module_in, same_key}
 use Rattle.abi_rust.specs.Standing.{ModuleName, constant_at, first_repeated, module_at, type_at, use_at}
 use Rattle.abi_rust.proofs.StandingLemmas.{repeated_told}
 use Rattle.abi_rust.proofs.scope.Scope.declare.Goals as goal
+
+pub returns-clause-crates : goal.returns-clause-crates
+returns-clause-crates c = λ k. c.in_ok-add_extern_crates.ensures.ok k ∙ ap (λ cs. crate_at cs k) c.deref-4.ensures.value
 
 pub returns-clause-names : goal.returns-clause-names
 unfolding module_in

@@ -1,6 +1,8 @@
 -- The names that are kept first stay, and an error is passed on.
-use Rattle.std.proofs.Common.{◌≡◌, ◌⊎◌, Some, inr, refl}
+use Rattle.std.proofs.Common.{◌≡◌, ◌∙◌, ◌⊎◌, Some, ap, inr, refl}
+use Rattle.indexmap.specs.IndexMap.{get}
 use Rattle.abi_rust.specs.declared.fault.Stop.{Stop}
+use Rattle.abi_rust.specs.Scope.{same_key}
 use Rattle.abi_rust.specs.ScopeNames.{repeated_of}
 use Rattle.abi_rust.specs.Standing.{IsMemory}
 use Rattle.abi_rust.proofs.ScopeLemmas.{keeps_globs, keeps_own, keeps_same, passed_on}
@@ -21,7 +23,10 @@ returns-in_err-add_own_constants-clause-err c =
 pub returns-clause-names : goal.returns-clause-names
 returns-clause-names c =
     keeps_same _ _ _ (keeps_same _ _ _ c.in_ok-declare.ensures.names c.in_ok-follow_globs.ensures.same)
-    (record { roots = record { words = refl; root = refl }; modules = refl; types = refl; constants = refl; uses = refl; prelude = refl })
+    (record { roots = record { words = refl; root = refl }; modules = refl; types = refl; constants = refl; uses = refl; crates = refl; prelude = refl })
+
+pub returns-clause-crates : goal.returns-clause-crates
+returns-clause-crates c = λ k. ap (λ m. get same_key m k) c.in_ok-follow_globs.ensures.same.crates ∙ c.in_ok-declare.ensures.crates k
 
 pub returns-clause-own : goal.returns-clause-own
 returns-clause-own c =

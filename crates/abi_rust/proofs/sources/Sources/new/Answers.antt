@@ -12,5 +12,6 @@ returns c = record {
   words = c.in_ok-words.ensures.first ∙ ap (λ ns. number_of_name ns (codes "bool")) c.in_ok-names.ensures;
   items = c.new-3.ensures.nothing;
   files = search rules;
+  crates = search rules;
   scope = refl;
 }
