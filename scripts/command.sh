@@ -75,6 +75,14 @@ add_sources_below() {
   done < <(cd "$folder" && find . -name '*.rs' -type f -printf '%P\0')
 }
 
+# Adds the sources and the manifests below a package's folder, which the run knows by this name, to those that are copied; not what cargo built.
+add_package() {
+  local folder=$1 known=${2%/}/ file
+  while IFS= read -r -d '' file; do
+    data+=(--data "${known#./}$file=$(realpath "$folder/$file")")
+  done < <(cd "$folder" && find . -path ./target -prune -o \( -name '*.rs' -o -name Cargo.toml \) -type f -printf '%P\0')
+}
+
 # Runs a program with these words: proved, where it is, and else the same sources unproved. The status is the program's.
 run_program() {
   local program=$1 status=0 word name words=() data=()
@@ -83,14 +91,20 @@ run_program() {
     "$here/crates/$program/out/$program" "$@" || status=$?
     return "$status"
   fi
-  # (it runs in a folder of its own, into which a file that is named is copied, by a path that doesn't lead out of it)
+  # (it runs in a folder of its own, into which a file or a folder that is named is copied, by a path that doesn't lead out of it)
   for word; do
     name=$word
-    if [ -f "$word" ]; then
+    if [ -f "$word" ] || { [ -n "${follows:-}" ] && [ -d "$word" ]; }; then
       if [[ /$word/ == */../* || $word == /* ]]; then
-        name=$(realpath -ms --relative-to=. "$word" | sed -E 's|^(\.\./)*||')
+        name=$(realpath -ms --relative-to=. "$word" | sed -E 's|^(\.\./)*||; s|^\.\.$|package|')
       fi
-      data+=(--data "$name=$(realpath "$word")")
+      if [ -d "$word" ]; then
+        add_package "$word" "$name"
+      elif [ -n "${follows:-}" ] && [[ "/$word" == */Cargo.toml ]]; then
+        add_package "$(dirname "$word")" "$(dirname "$name")"
+      else
+        data+=(--data "$name=$(realpath "$word")")
+      fi
       if [ -n "${follows:-}" ] && [[ "/$word" == */lib.rs || "/$word" == */main.rs || " $* " == *" --root "* ]]; then
         add_sources_below "$word" "$name"
       fi

@@ -3,17 +3,19 @@
 ghost use Rattle.abi_text.specs.LaidOut.{IsLaidOut};
 
 use crate::crate_files::{CrateFiles, Search, SourceFile};
-use crate::json::{JsonContext, fault_value, put_text, type_value};
+use crate::json::{TypeContext, fault_value, put_text, type_value};
 use crate::lines::write_lines;
 use crate::mapped::by_name;
-use crate::notes::write_notes;
+use crate::notes::{FirstCrate, write_notes};
 use crate::options::{Form, Options};
+use crate::packages::PackageCrate;
 use crate::place::{Spot, write_fault};
+use crate::pretty::{DeclaredType, write_pretty};
 use abi_base::TargetDataLayout;
 use abi_map::map_of;
 use abi_rust::{Fault, Sources, TypeReport, data_layout_of};
 use abi_tree::Laid;
-use rust_source::{CfgTarget, Names};
+use rust_source::{CfgTarget, Names, Outline};
 use rustc_abi::{LayError, lay_out};
 use serde_json::{Map, Value};
 use std::alloc::{AllocError, Global};
@@ -204,62 +206,174 @@ fn written_failure(
     }
 }
 
-/// Puts the fault of a module behind the others.
-fn put_fault(faults: &mut Vec<ModuleFault>, at: Spot, text: String) -> Result<(), AllocError> {
-    faults.push(ModuleFault { at, text })?;
-    Ok(())
+/// By what files are read.
+#[derive(Clone, Copy)]
+struct ReadContext<'a> {
+    rt: &'a HostRuntime,
+    cfg: &'a CfgTarget<'a>,
 }
 
-/// Reads the files of modules, those that they name too, and puts the faults of those that aren't read behind the others.
-fn follow_modules(
-    rt: &HostRuntime,
-    cfg: &CfgTarget<'_>,
-    sources: &mut Sources,
-    files: &mut CrateFiles<'_>,
-    faults: &mut Vec<ModuleFault>,
-) -> Result<(), SourceFailure> {
-    for number in 0..usize::MAX {
-        let Some(outline) = sources.outlines().get(number).copied() else {
+/// The files that are read, what they hold, and why others aren't read.
+#[derive(Drop)]
+struct SourceSet<'a> {
+    sources: Sources,
+    files: CrateFiles<'a>,
+    faults: Vec<ModuleFault>,
+    /// How many modules in other files were looked for.
+    searched: usize,
+    /// How much of it is of the first crate, which is reported on, where others are read.
+    first: Option<FirstCrate>,
+}
+
+impl SourceSet<'_> {
+    /// A fault as it is reported.
+    fn failure(&self, alloc: Global, fault: &Fault) -> SourceFailure {
+        failure_of(alloc, &self.sources, fault, Spot::Nowhere)
+    }
+
+    /// Puts why a module's file isn't read behind the other faults; of another crate its names aren't known then, without a
+    /// fault.
+    fn put_fault(&mut self, outline: Outline, text: String) -> Result<(), AllocError> {
+        if self.first.is_some() {
             return Ok(());
-        };
-        let at = Spot::Nowhere.of(sources.place_of_outline(outline));
-        match files.find(rt, sources, outline)? {
+        }
+        let at = Spot::Nowhere.of(self.sources.place_of_outline(outline));
+        self.faults.push(ModuleFault { at, text })?;
+        Ok(())
+    }
+
+    /// Reads the file of a module, and answers whether others may be read behind it.
+    fn read_module(
+        &mut self,
+        cx: ReadContext<'_>,
+        outline: Outline,
+    ) -> Result<bool, SourceFailure> {
+        let alloc = cx.rt.alloc();
+        match self.files.find(cx.rt, &self.sources, outline)? {
             Search::Found => {
-                let text = files.last_text();
-                if let Err(fault) = sources.add_module(rt.alloc(), cfg, outline, text) {
-                    return Err(failure_of(rt.alloc(), sources, &fault, Spot::Nowhere));
+                let text = self.files.last_text();
+                match self.sources.add_module(alloc, cx.cfg, outline, text) {
+                    Ok(_) => Ok(true),
+                    Err(fault) => Err(self.failure(alloc, &fault)),
                 }
             }
-            Search::Fault(text) => put_fault(faults, at, text)?,
-            Search::Full(text) => return Ok(put_fault(faults, at, text)?),
+            Search::Fault(text) => {
+                self.put_fault(outline, text)?;
+                Ok(true)
+            }
+            Search::Full(text) => {
+                self.put_fault(outline, text)?;
+                Ok(false)
+            }
         }
     }
-    Ok(())
-}
 
-/// Reads a file into these sources, and those of its modules where it is the root of a crate.
-fn read_files(
-    rt: &HostRuntime,
-    cfg: &CfgTarget<'_>,
-    sources: &mut Sources,
-    files: &mut CrateFiles<'_>,
-    faults: &mut Vec<ModuleFault>,
-) -> Result<(), SourceFailure> {
-    let alloc = rt.alloc();
-    let root = files.root;
-    if let Err(fault) = sources.begin(alloc, cfg) {
-        return Err(failure_of(alloc, sources, &fault, Spot::Nowhere));
+    /// Reads the files of modules, those that they name too.
+    fn follow_modules(&mut self, cx: ReadContext<'_>) -> Result<(), SourceFailure> {
+        for _module in 0..usize::MAX {
+            let Some(outline) = self.sources.outlines().get(self.searched).copied() else {
+                return Ok(());
+            };
+            self.searched = self.searched.saturating_add(1);
+            if !self.read_module(cx, outline)? {
+                return Ok(());
+            }
+        }
+        Ok(())
     }
-    match sources.add_root(alloc, cfg, root.is_root, root.text) {
-        Ok(module) => files.module = module,
-        Err(fault) => return Err(failure_of(alloc, sources, &fault, Spot::Nowhere)),
+
+    /// Reads the standard library, and the file that is named.
+    fn read_root(&mut self, cx: ReadContext<'_>) -> Result<(), Fault> {
+        let alloc = cx.rt.alloc();
+        let root = self.files.root;
+        self.sources.begin(alloc, cx.cfg)?;
+        let module = self
+            .sources
+            .add_root(alloc, cx.cfg, root.is_root, root.text)?;
+        self.files.module = module;
+        Ok(())
     }
-    if root.is_root && root.name.is_some() {
-        follow_modules(rt, cfg, sources, files, faults)?;
+
+    /// Reads the root of another crate and the files of its modules, and answers the number of its root module; none where
+    /// that can't be read.
+    fn read_crate(
+        &mut self,
+        cx: ReadContext<'_>,
+        package: &PackageCrate,
+    ) -> Result<Option<u32>, SourceFailure> {
+        let alloc = cx.rt.alloc();
+        if !self.files.read_root(cx.rt, package.root.as_str())? {
+            return Ok(None);
+        }
+        let features = package.features_on(alloc)?;
+        let cfg = CfgTarget {
+            crate_features: features.as_slice(),
+            ..*cx.cfg
+        };
+        let cx = ReadContext {
+            rt: cx.rt,
+            cfg: &cfg,
+        };
+        let text = self.files.last_text();
+        match self.sources.add_crate(alloc, cx.cfg, text) {
+            Ok(module) => {
+                self.files.put_module(module);
+                self.follow_modules(cx)?;
+                Ok(Some(module))
+            }
+            Err(fault) => Err(self.failure(alloc, &fault)),
+        }
     }
-    match sources.finish(alloc) {
-        Ok(()) => Ok(()),
-        Err(fault) => Err(failure_of(alloc, sources, &fault, Spot::Nowhere)),
+
+    /// Lets crates name others, each by the number of its root module; one that isn't read has no name.
+    fn name_crates(
+        &mut self,
+        crates: &[PackageCrate],
+        roots: &[Option<u32>],
+    ) -> Result<(), AllocError> {
+        for (package, inside) in crates.iter().zip(roots) {
+            if let Some(inside) = inside {
+                for (name, number) in &package.crates {
+                    if let Some(Some(root)) = roots.get(*number) {
+                        self.sources.name_crate(*inside, name.as_str(), *root)?;
+                    }
+                }
+            }
+        }
+        Ok(())
+    }
+
+    /// Reads the crates that the first one depends on, and lets each name those that it depends on.
+    fn read_crates(&mut self, cx: ReadContext<'_>) -> Result<(), SourceFailure> {
+        let crates = self.files.root.crates;
+        let mut roots = Vec::new(cx.rt.alloc());
+        self.first = Some(FirstCrate::of(&self.sources, &self.files));
+        for (number, package) in crates.iter().enumerate() {
+            let root = if number == 0 {
+                Some(self.files.module)
+            } else {
+                self.read_crate(cx, package)?
+            };
+            roots.push(root).map_err(AllocError::from)?;
+        }
+        Ok(self.name_crates(crates, &roots)?)
+    }
+
+    /// Reads the file that is named, and those of its modules where it is the root of a crate.
+    fn read_files(&mut self, cx: ReadContext<'_>) -> Result<(), SourceFailure> {
+        let alloc = cx.rt.alloc();
+        if let Err(fault) = self.read_root(cx) {
+            return Err(self.failure(alloc, &fault));
+        }
+        let root = self.files.root;
+        if root.is_root && root.name.is_some() {
+            self.follow_modules(cx)?;
+            self.read_crates(cx)?;
+        }
+        match self.sources.finish(alloc) {
+            Ok(()) => Ok(()),
+            Err(fault) => Err(self.failure(alloc, &fault)),
+        }
     }
 }
 
@@ -293,6 +407,18 @@ struct NamePlace<'a> {
     own: Spot,
 }
 
+impl<'a> ReportContext<'a> {
+    /// What types are written with, by these names.
+    fn type_context(self, alloc: Global, names: &'a Names) -> TypeContext<'a> {
+        TypeContext {
+            alloc,
+            dl: self.dl,
+            names,
+            files: self.files,
+        }
+    }
+}
+
 /// A laid-out type as a JSON object, with its target where several are asked for.
 fn object_of(
     alloc: Global,
@@ -302,13 +428,8 @@ fn object_of(
 ) -> Result<Value, LayError>
     requires { IsLaidOut cx.dl.now laid.now }
 {
-    let json = JsonContext {
-        alloc,
-        dl: cx.dl,
-        names: ty.names,
-        files: cx.files,
-    };
-    let mut object = type_value(json, ty.name, &ty.report.shape, &ty.report.tree, laid)?;
+    let with = cx.type_context(alloc, ty.names);
+    let mut object = type_value(with, ty.name, &ty.report.shape, &ty.report.tree, laid)?;
     put_context(alloc, cx, &mut object)?;
     Ok(Value::Object(object))
 }
@@ -328,6 +449,18 @@ impl FileReport {
             Form::Lines => {
                 write!(self.text, "type {name}\n")?;
                 write_lines(self.alloc, &mut self.text, ty.names, &ty.report.shape, laid)?;
+            }
+            Form::Pretty => {
+                if !self.text.is_empty() {
+                    self.text.push_str("\n")?;
+                }
+                let with = cx.type_context(self.alloc, ty.names);
+                let declared = DeclaredType {
+                    name,
+                    shape: &ty.report.shape,
+                    tree: &ty.report.tree,
+                };
+                write_pretty(&mut self.text, with, declared, laid)?;
             }
             Form::Map => {
                 let called = by_name(ty.names, &ty.report.shape, laid);
@@ -474,15 +607,16 @@ impl FileReport {
     fn add_faults(
         &mut self,
         cx: ReportContext<'_>,
-        faults: Vec<ModuleFault>,
+        faults: &[ModuleFault],
     ) -> Result<(), SourceFailure> {
         for fault in faults {
-            let ModuleFault { at, text } = fault;
+            let text = fault.text.as_str();
             if cx.options.is_strict {
-                return Err(SourceFailure::Fault(at, text));
+                let text = String::from_str(self.alloc, text)?;
+                return Err(SourceFailure::Fault(fault.at, text));
             }
             self.outcome = self.outcome.worse_of(Outcome::Faulty);
-            write_failure(&mut self.notes, cx.options, cx.files, at, text.as_str())?;
+            write_failure(&mut self.notes, cx.options, cx.files, fault.at, text)?;
             self.notes.push_str("note: so its names aren't known\n")?;
         }
         Ok(())
@@ -493,10 +627,9 @@ impl FileReport {
         &mut self,
         cx: ReportContext<'_>,
         sources: &mut Sources,
-        faults: Vec<ModuleFault>,
+        first: FirstCrate,
     ) -> Result<(), SourceFailure> {
-        self.add_faults(cx, faults)?;
-        write_notes(self.alloc, &mut self.notes, sources, cx.files)?;
+        write_notes(self.alloc, &mut self.notes, sources, cx.files, first)?;
         if cx.options.types.is_empty() {
             self.add_all(cx, sources)
         } else {
@@ -509,18 +642,21 @@ impl FileReport {
         &mut self,
         rt: &HostRuntime,
         cx: TargetContext<'_>,
-        sources: &mut Sources,
-        files: &mut CrateFiles<'_>,
+        set: &mut SourceSet<'_>,
     ) -> Result<(), SourceFailure> {
-        let mut faults = Vec::new(self.alloc);
-        read_files(rt, &cx.cfg, sources, files, &mut faults)?;
+        set.read_files(ReadContext { rt, cfg: &cx.cfg })?;
         let cx = ReportContext {
             options: cx.options,
-            files: &*files,
+            files: &set.files,
             dl: cx.dl,
             triple: cx.triple,
         };
-        self.add_types(cx, sources, faults)
+        self.add_faults(cx, &set.faults)?;
+        let first = match set.first {
+            Some(first) => first,
+            None => FirstCrate::of(&set.sources, &set.files),
+        };
+        self.add_types(cx, &mut set.sources, first)
     }
 
     /// Reports on the types of the source. (What is read is made here alone: a function that makes it drops it at each way
@@ -531,11 +667,16 @@ impl FileReport {
         cx: TargetContext<'_>,
         file: SourceFile<'_>,
     ) -> Result<(), FileFailure> {
-        let mut sources = Sources::new(self.alloc)?;
-        let mut files = CrateFiles::new(self.alloc, file);
-        match self.add_files(rt, cx, &mut sources, &mut files) {
+        let mut set = SourceSet {
+            sources: Sources::new(self.alloc)?,
+            files: CrateFiles::new(self.alloc, file),
+            faults: Vec::new(self.alloc),
+            searched: 0,
+            first: None,
+        };
+        match self.add_files(rt, cx, &mut set) {
             Ok(()) => Ok(()),
-            Err(failure) => Err(written_failure(self.alloc, cx.options, &files, failure)),
+            Err(failure) => Err(written_failure(self.alloc, cx.options, &set.files, failure)),
         }
     }
 
@@ -568,7 +709,7 @@ impl FileReport {
             match data_layout_of(self.alloc, target) {
                 Ok(dl) => {
                     let cfg = CfgTarget {
-                        crate_features: options.features.as_slice(),
+                        crate_features: file.features,
                         ..target.cfg
                     };
                     let cx = TargetContext {

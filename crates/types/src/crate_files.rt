@@ -1,6 +1,7 @@
 //! The files of a crate: the one that is named, and those of its modules.
 
 use crate::module_files::{ModuleName, file_name, module_files};
+use crate::packages::PackageCrate;
 use abi_rust::{FaultPlace, Sources};
 use rust_source::{Outline, Place};
 use std::alloc::{AllocError, Global};
@@ -20,23 +21,27 @@ pub(crate) struct SourceFile<'a> {
     pub(crate) text: &'a str,
     /// Whether it is the root of a crate, which `crate` names in it.
     pub(crate) is_root: bool,
+    /// The features of its crate that are on.
+    pub(crate) features: &'a [&'a str],
+    /// Its crate, and behind it those that it depends on, where that is known.
+    pub(crate) crates: &'a [PackageCrate],
 }
 
-/// A file of a module.
+/// A file of a module, or the root of another crate.
 #[derive(Drop)]
 pub(crate) struct ModuleFile {
     /// Its path.
     path: String,
     text: String,
-    /// The module, by its number.
+    /// The module that its items are in, by its number.
     module: u32,
     /// The folder of its modules within its own, with `/` at its end; nothing where that is the same.
     own: String,
-    /// The file that names it, by its index.
-    outer: usize,
+    /// The file that names it, by its index; none where it is the root of a crate.
+    outer: Option<usize>,
 }
 
-/// The files of a crate that are read, in their order.
+/// The files that are read of a crate, and of the crates that it depends on, in their order.
 #[derive(Drop)]
 pub(crate) struct CrateFiles<'a> {
     alloc: Global,
@@ -44,7 +49,7 @@ pub(crate) struct CrateFiles<'a> {
     pub(crate) root: SourceFile<'a>,
     /// The module of its items, by its number.
     pub(crate) module: u32,
-    /// Those of its modules.
+    /// Those of its modules, and of other crates.
     pub(crate) more: Vec<ModuleFile>,
     /// How many bytes these have together.
     bytes: u64,
@@ -69,7 +74,7 @@ struct Choice {
 }
 
 /// The folder of a file, with `/` at its end; nothing where its path names none.
-fn folder_of(path: &str) -> &str {
+pub(crate) fn folder_of(path: &str) -> &str {
     match path.rfind('/') {
         Some(at) => path.get(..at.saturating_add(1)).unwrap_or(""),
         None => "",
@@ -91,7 +96,7 @@ fn path_names<'a>(alloc: Global, path: &'a str) -> Result<Vec<&'a str>, AllocErr
 }
 
 /// Whether two paths name one file, as far as their names tell.
-fn is_same_path(alloc: Global, a: &str, b: &str) -> Result<bool, AllocError> {
+pub(crate) fn is_same_path(alloc: Global, a: &str, b: &str) -> Result<bool, AllocError> {
     if a.starts_with('/') != b.starts_with('/') {
         return Ok(false);
     }
@@ -101,7 +106,7 @@ fn is_same_path(alloc: Global, a: &str, b: &str) -> Result<bool, AllocError> {
 }
 
 /// Whether there is such a file.
-fn is_there(rt: &HostRuntime, path: &str) -> bool {
+pub(crate) fn is_there(rt: &HostRuntime, path: &str) -> bool {
     fs::exists(rt, path).unwrap_or(false)
 }
 
@@ -237,8 +242,13 @@ impl<'a> CrateFiles<'a> {
                 return Ok(true);
             }
             match self.module_file(at) {
-                Some(file) => at = file.outer,
-                None => break,
+                Some(
+                    ModuleFile {
+                        outer: Some(outer),
+                        ..
+                    },
+                ) => at = *outer,
+                _ => break,
             }
         }
         Ok(false)
@@ -299,6 +309,18 @@ impl<'a> CrateFiles<'a> {
         Ok(None)
     }
 
+    /// How many files there are.
+    pub(crate) fn count(&self) -> usize {
+        self.more.len().saturating_add(1)
+    }
+
+    /// Puts a file that was read behind the others.
+    fn put_file(&mut self, file: ModuleFile) -> Result<(), AllocError> {
+        self.bytes = self.bytes.saturating_add(file.text.len() as u64);
+        self.more.push(file)?;
+        Ok(())
+    }
+
     /// Reads the file that a module has, which the file with this index names, and puts it behind the others.
     fn read_module(
         &mut self,
@@ -317,13 +339,12 @@ impl<'a> CrateFiles<'a> {
         }
         match fs::read_to_string(rt, path.as_str()) {
             Ok(text) => {
-                self.bytes = self.bytes.saturating_add(text.len() as u64);
-                self.more.push(ModuleFile {
+                self.put_file(ModuleFile {
                     path,
                     text,
                     module,
                     own,
-                    outer: index,
+                    outer: Some(index),
                 })?;
                 Ok(Search::Found)
             }
@@ -333,6 +354,31 @@ impl<'a> CrateFiles<'a> {
                 )?;
                 Ok(Search::Fault(text))
             }
+        }
+    }
+
+    /// Reads the root file of another crate, puts it behind the others, and answers whether it could be read.
+    pub(crate) fn read_root(&mut self, rt: &HostRuntime, path: &str) -> Result<bool, AllocError> {
+        if self.fullness(size_of_file(rt, path))?.is_some() {
+            return Ok(false);
+        }
+        let Ok(text) = fs::read_to_string(rt, path) else {
+            return Ok(false);
+        };
+        self.put_file(ModuleFile {
+            path: String::from_str(self.alloc, path)?,
+            text,
+            module: 0,
+            own: String::new(self.alloc),
+            outer: None,
+        })?;
+        Ok(true)
+    }
+
+    /// Says in which module the items of the file are that was found last.
+    pub(crate) fn put_module(&mut self, module: u32) {
+        if let Some(last) = self.more.last_mut() {
+            last.module = module;
         }
     }
 

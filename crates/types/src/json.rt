@@ -18,11 +18,11 @@ use serde_json::{Map, Value};
 use std::alloc::{AllocError, Global};
 
 /// The bytes of a larger type aren't listed. In bytes.
-const MOST_LISTED: u64 = 65_536;
+pub(crate) const MOST_LISTED: u64 = 65_536;
 
-/// What types are written as JSON with.
+/// What types are written with, by the names and the texts of their parts.
 #[derive(Clone, Copy)]
-pub(crate) struct JsonContext<'a> {
+pub(crate) struct TypeContext<'a> {
     pub(crate) alloc: Global,
     pub(crate) dl: &'a TargetDataLayout,
     pub(crate) names: &'a Names,
@@ -63,14 +63,18 @@ fn put_number(
 }
 
 /// The size of a type, in bytes.
-fn size_of_tree(alloc: Global, dl: &TargetDataLayout, tree: &TypeTree) -> Result<u64, LayError> {
+pub(crate) fn size_of_tree(
+    alloc: Global,
+    dl: &TargetDataLayout,
+    tree: &TypeTree,
+) -> Result<u64, LayError> {
     let laid = lay_out(alloc, dl, tree)?;
     Ok(laid.layout().size.bytes())
 }
 
 /// A field: its name, its type as it is written, its offset and its size.
 fn field_value(
-    cx: JsonContext<'_>,
+    cx: TypeContext<'_>,
     label: &Label,
     offset: u64,
     tree: &TypeTree,
@@ -93,7 +97,7 @@ fn field_value(
 
 /// Fields, in source order.
 fn fields_value(
-    cx: JsonContext<'_>,
+    cx: TypeContext<'_>,
     labels: &[Label],
     offsets: &[Size],
     trees: &[TypeTree],
@@ -109,7 +113,7 @@ fn fields_value(
 }
 
 /// The offsets of the fields of the variant with this index; none where they all lie at 0.
-fn variant_offsets(laid: &Laid, variant: usize) -> &[Size] {
+pub(crate) fn variant_offsets(laid: &Laid, variant: usize) -> &[Size] {
     let layout = laid.layout();
     match &layout.variants {
         Variants::Empty => &[],
@@ -134,7 +138,7 @@ fn variant_offsets(laid: &Laid, variant: usize) -> &[Size] {
 
 /// The variants of an enum, each with its name and its fields.
 fn variants_value(
-    cx: JsonContext<'_>,
+    cx: TypeContext<'_>,
     labels: &[VariantLabels],
     laid: &Laid,
     trees: &[(u128, Vec<TypeTree>)],
@@ -171,7 +175,7 @@ fn put_scalar(
 }
 
 /// The name of the variant with this index.
-fn variant_name<'a>(cx: JsonContext<'a>, labels: &[VariantLabels], variant: usize) -> &'a str {
+fn variant_name<'a>(cx: TypeContext<'a>, labels: &[VariantLabels], variant: usize) -> &'a str {
     match labels.get(variant) {
         Some(label) => cx.names.text(label.name),
         None => "",
@@ -180,7 +184,7 @@ fn variant_name<'a>(cx: JsonContext<'a>, labels: &[VariantLabels], variant: usiz
 
 /// The tag of an enum: where it lies, what it holds, and how it names a variant; null where it has none.
 fn tag_value(
-    cx: JsonContext<'_>,
+    cx: TypeContext<'_>,
     labels: &[VariantLabels],
     laid: &Laid,
 ) -> Result<Value, AllocError> {
@@ -259,7 +263,7 @@ fn padding_value(alloc: Global, laid: &Laid) -> Result<Value, AllocError> {
 /// Puts the fields of a struct, a union or an enum's variants, as its shape has them.
 fn put_parts(
     object: &mut Map<String, Value>,
-    cx: JsonContext<'_>,
+    cx: TypeContext<'_>,
     shape: &ReportShape,
     tree: &TypeTree,
     laid: &Laid,
@@ -315,7 +319,7 @@ pub(crate) fn fault_value(
 /// A type as a JSON object: its name, size and alignment in bytes; and of a type with fields or variants these, the tag,
 /// the largest niche and the padding.
 pub(crate) fn type_value(
-    cx: JsonContext<'_>,
+    cx: TypeContext<'_>,
     name: &str,
     shape: &ReportShape,
     tree: &TypeTree,

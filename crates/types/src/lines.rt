@@ -196,6 +196,28 @@ fn write_tag(
     }
 }
 
+/// Writes the tag of an enum, where one distinguishes its variants.
+pub(crate) fn write_tag_of(
+    out: &mut String,
+    names: &Names,
+    labels: &[VariantLabels],
+    laid: &Laid,
+) -> Result<(), AllocError> {
+    let layout = laid.layout();
+    let Variants::Multiple {
+        tag,
+        tag_encoding,
+        tag_field,
+        variants: _,
+    } = &layout.variants
+    else {
+        return Ok(());
+    };
+    let all = NamedVariants { names, labels };
+    let offset = offset_at(offsets_of(layout), tag_field.as_usize());
+    write_tag(out, all, offset, *tag, *tag_encoding)
+}
+
 /// Writes the variants of an enum, and the tag where it has one.
 fn write_variants(
     alloc: Global,

@@ -5,9 +5,11 @@
 mod options;
 mod place;
 
-// The files of a crate.
+// The files of a crate, and what its manifest says of it.
+mod cargo;
 mod crate_files;
 mod module_files;
+mod packages;
 
 // Types as lines, as maps and as JSON, and the answer to a source.
 mod answer;
@@ -16,8 +18,10 @@ mod labels;
 mod lines;
 mod mapped;
 mod notes;
+mod pretty;
 
 use crate::answer::{FileFailure, FileReport, Outcome, answer_source};
+use crate::cargo::{CargoFailure, ManifestFile, manifest_path, read_manifest};
 use crate::crate_files::SourceFile;
 use crate::options::{Form, OptionFault, Options, command, is_root, options_of};
 use serde_json::Value;
@@ -60,6 +64,9 @@ fn report_option(rt: &HostRuntime, fault: OptionFault<'_>) -> Outcome {
             eprintln!(rt; "types: a picture shows one type, which --type names")
         }
         OptionFault::ManyFiles => { eprintln!(rt; "types: a picture shows a type of one file") }
+        OptionFault::NoManifest(path) => {
+            eprintln!(rt; "types: a manifest is called Cargo.toml, and not {path}")
+        }
     };
     Outcome::Faulty
 }
@@ -156,13 +163,25 @@ fn read_source(rt: &HostRuntime, name: Option<&str>) -> io::Result<String> {
     }
 }
 
-/// Reports on the types of a file, or of standard input.
-fn report_file(
+/// A source that is to be read.
+#[derive(Clone, Copy)]
+struct SourceName<'a> {
+    /// Its name, where it isn't standard input.
+    name: Option<&'a str>,
+    /// Whether it is the root of a crate.
+    is_root: bool,
+    /// The features of its crate that are on.
+    features: &'a [&'a str],
+}
+
+/// Reports on the types of a source.
+fn report_source(
     rt: &HostRuntime,
     options: &Options<'_>,
     progress: &mut Progress,
-    name: Option<&str>,
+    root: SourceName<'_>,
 ) -> Outcome {
+    let name = root.name;
     let source = match read_source(rt, name) {
         Ok(source) => source,
         Err(error) => {
@@ -174,12 +193,89 @@ fn report_file(
     let file = SourceFile {
         name,
         text: source.as_str(),
-        is_root: options.are_roots || is_root(name),
+        is_root: root.is_root,
+        features: root.features,
+        crates: &[],
     };
     match answer_source(rt, options, file) {
         Ok(answer) => print_answer(rt, options, progress, name, answer),
         Err(failure) => report_failure(rt, &failure),
     }
+}
+
+/// Reports on the types of a manifest's package.
+fn report_package<'a>(
+    rt: &HostRuntime,
+    options: &'a Options<'a>,
+    progress: &mut Progress,
+    manifest: &'a ManifestFile,
+) -> Result<Outcome, CargoFailure> {
+    let root = manifest.package_root(rt)?;
+    let features = manifest.features(rt.alloc())?;
+    let mut on = manifest.enabled(rt.alloc(), &features, options)?;
+    if on.is_empty() {
+        // (no feature has that name: it says that those that are on are known)
+        on.push("").map_err(AllocError::from)?;
+    }
+    if manifest.has_build_script(rt)? {
+        let _ = rt.eprintln("types: what the package's build script sets isn't known");
+    }
+    let root = SourceName {
+        name: Some(root.as_str()),
+        is_root: true,
+        features: on.as_slice(),
+    };
+    Ok(report_source(rt, options, progress, root))
+}
+
+/// Writes on standard error why there is no report on a package.
+fn report_cargo(rt: &HostRuntime, failure: &CargoFailure) -> Outcome {
+    match failure {
+        CargoFailure::OutOfMemory => report_memory(rt),
+        CargoFailure::Stopped(outcome, text) => {
+            let _ = rt.eprint(text.as_str());
+            *outcome
+        }
+    }
+}
+
+/// Reports on the types of the package whose manifest is at this path.
+fn report_manifest(
+    rt: &HostRuntime,
+    options: &Options<'_>,
+    progress: &mut Progress,
+    path: String,
+) -> Outcome {
+    let manifest = match read_manifest(rt, path) {
+        Ok(manifest) => manifest,
+        Err(failure) => return report_cargo(rt, &failure),
+    };
+    match report_package(rt, options, progress, &manifest) {
+        Ok(outcome) => outcome,
+        Err(failure) => report_cargo(rt, &failure),
+    }
+}
+
+/// Reports on the types of a file, of a package's folder or manifest, or of standard input.
+fn report_file(
+    rt: &HostRuntime,
+    options: &Options<'_>,
+    progress: &mut Progress,
+    name: Option<&str>,
+) -> Outcome {
+    if let Some(named) = name {
+        match manifest_path(rt, named) {
+            Ok(Some(path)) => return report_manifest(rt, options, progress, path),
+            Ok(None) => {}
+            Err(_) => return report_memory(rt),
+        }
+    }
+    let root = SourceName {
+        name,
+        is_root: options.are_roots || is_root(name),
+        features: options.features.as_slice(),
+    };
+    report_source(rt, options, progress, root)
 }
 
 /// Carries out what the command line asks for, and answers what came of all files.

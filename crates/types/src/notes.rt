@@ -5,20 +5,41 @@ use crate::place::write_fault;
 use abi_rust::{FaultPlace, Sources};
 use std::alloc::{AllocError, Global};
 
-/// Notes what was passed over, which names of `cfg` count as false, and which attributes may rewrite their items.
+/// How much of what was read is of the first crate, which stands before the others.
+#[derive(Clone, Copy)]
+pub(crate) struct FirstCrate {
+    files: usize,
+    passed_over: u64,
+    unknown_cfgs: usize,
+}
+
+impl FirstCrate {
+    /// All that was read so far.
+    pub(crate) fn of(sources: &Sources, files: &CrateFiles<'_>) -> FirstCrate {
+        FirstCrate {
+            files: files.count(),
+            passed_over: sources.passed_over(),
+            unknown_cfgs: sources.unknown_cfgs().len(),
+        }
+    }
+}
+
+/// Notes of the first crate what was passed over, which names of `cfg` count as false, and which attributes may rewrite
+/// their items.
 pub(crate) fn write_notes(
     alloc: Global,
     notes: &mut String,
     sources: &Sources,
     files: &CrateFiles<'_>,
+    first: FirstCrate,
 ) -> Result<(), AllocError> {
-    write_counts(notes, sources)?;
+    write_counts(notes, sources, first)?;
     let mut known = Vec::new(alloc);
     for item in 0..sources.item_count() {
         if let FaultPlace::File(index, at) = sources.unknown_attribute(item) {
             let source = files.text(index);
             let name = attribute_at(source, at);
-            if !known.contains(&name) {
+            if index < first.files && !known.contains(&name) {
                 known.push(name)?;
                 write_attribute(alloc, notes, files.name(index), source, (at, name))?;
             }
@@ -28,8 +49,12 @@ pub(crate) fn write_notes(
 }
 
 /// Notes what was passed over, and which names of `cfg` count as false.
-fn write_counts(notes: &mut String, sources: &Sources) -> Result<(), AllocError> {
-    let count = sources.passed_over();
+fn write_counts(
+    notes: &mut String,
+    sources: &Sources,
+    first: FirstCrate,
+) -> Result<(), AllocError> {
+    let count = first.passed_over;
     if count > 0 {
         write!(
             notes,
@@ -37,6 +62,7 @@ fn write_counts(notes: &mut String, sources: &Sources) -> Result<(), AllocError>
         )?;
     }
     let unknown = sources.unknown_cfgs();
+    let unknown = unknown.get(..first.unknown_cfgs).unwrap_or(unknown);
     if !unknown.is_empty() {
         notes.push_str("types: of cfg these names count as false:")?;
         for name in unknown {

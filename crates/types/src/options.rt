@@ -14,6 +14,8 @@ pub(crate) enum Form {
     Lines,
     /// One JSON document.
     Json,
+    /// A declaration of Rust for each type, with comments.
+    Pretty,
     /// A line for each run of bytes that the same parts have.
     Map,
 }
@@ -30,7 +32,12 @@ pub(crate) struct Options<'a> {
     pub(crate) form: Form,
     /// The features of the crates, as Cargo names them.
     pub(crate) features: Vec<&'a str>,
-    /// The files, in the order in which they were named; standard input is read where there is none.
+    /// Whether the default features of packages are on, too.
+    pub(crate) with_default_features: bool,
+    /// Whether all features of packages are on.
+    pub(crate) with_all_features: bool,
+    /// The files, and the folders or manifests of packages, in the order in which they were named; standard input is read
+    /// where there is none.
     pub(crate) files: Vec<&'a str>,
     /// Whether each file is taken for the root of a crate, whatever it is called.
     pub(crate) are_roots: bool,
@@ -67,6 +74,35 @@ fn feature_option<'a>(alloc: Global) -> Arg<'a> {
         .help("features of the crate that `cfg` asks for, with commas between, as Cargo takes them")
 }
 
+/// The option that names a manifest.
+fn manifest_option<'a>(alloc: Global) -> Arg<'a> {
+    Arg::new(alloc, "manifest-path")
+        .long("manifest-path")
+        .value_name("FILE")
+        .action(ArgAction::Append)
+        .help(
+            "tells of the package of this Cargo.toml, as of a folder that is named: of its library, or else of its binary",
+        )
+}
+
+/// The options that say which features of packages are on.
+fn with_feature_options<'a>(
+    alloc: Global,
+    command: Command<'a>,
+) -> Result<Command<'a>, AllocError> {
+    let no_default = form_option(
+        alloc,
+        "no-default-features",
+        "leaves out the default features of packages",
+    );
+    let all = form_option(alloc, "all-features", "turns on all features of packages");
+    let command = command
+        .arg(feature_option(alloc))?
+        .arg(no_default)?
+        .arg(all)?;
+    Ok(command)
+}
+
 /// An option that picks a form.
 fn form_option<'a>(alloc: Global, name: &'a str, help: &'a str) -> Arg<'a> {
     Arg::new(alloc, name)
@@ -78,10 +114,10 @@ fn form_option<'a>(alloc: Global, name: &'a str, help: &'a str) -> Arg<'a> {
 /// The files.
 fn file_argument<'a>(alloc: Global) -> Arg<'a> {
     Arg::new(alloc, "file")
-        .value_name("FILE.rs")
+        .value_name("FILE")
         .action(ArgAction::Append)
         .help(
-            "a source or the root of a crate, read apart from the others; standard input where none is named",
+            "a source, the root of a crate or the folder of a package, read apart from the others; standard input where none is named",
         )
 }
 
@@ -90,6 +126,14 @@ pub(crate) fn command<'a>(alloc: Global) -> Result<Command<'a>, AllocError> {
     let json = form_option(alloc, "json", "tells them as one JSON document")
         .conflicts_with("map")?
         .conflicts_with("svg")?;
+    let pretty = form_option(
+        alloc,
+        "pretty",
+        "writes each as a declaration of Rust, with comments that say where its parts lie",
+    )
+    .conflicts_with("json")?
+    .conflicts_with("map")?
+    .conflicts_with("svg")?;
     let map = form_option(alloc, "map", "tells which parts have each byte").conflicts_with("svg")?;
     let svg = form_option(
         alloc,
@@ -110,14 +154,15 @@ pub(crate) fn command<'a>(alloc: Global) -> Result<Command<'a>, AllocError> {
         .about("Lays out the types that a Rust source defines")
         .arg(target_option(alloc))?
         .arg(type_option(alloc))?
-        .arg(feature_option(alloc))?
+        .arg(manifest_option(alloc))?
         .arg(json)?
+        .arg(pretty)?
         .arg(map)?
         .arg(svg)?
         .arg(root)?
         .arg(strict)?
         .arg(file_argument(alloc))?;
-    Ok(command)
+    with_feature_options(alloc, command)
 }
 
 /// Why a command line can't be carried out.
@@ -130,6 +175,8 @@ pub(crate) enum OptionFault<'a> {
     ManyTypes,
     /// A picture shows a type of one file, and more than one was named.
     ManyFiles,
+    /// A manifest has another name.
+    NoManifest(&'a str),
 }
 
 impl From<AllocError> for OptionFault<'_> {
@@ -187,9 +234,24 @@ fn form_of(matches: &ArgMatches<'_>) -> Form {
         Form::Json
     } else if matches.get_flag("map") | matches.get_flag("svg") {
         Form::Map
+    } else if matches.get_flag("pretty") {
+        Form::Pretty
     } else {
         Form::Lines
     }
+}
+
+/// The name of a file, without its folder.
+fn name_of(path: &str) -> &str {
+    match path.rsplit_once('/') {
+        Some((_, name)) => name,
+        None => path,
+    }
+}
+
+/// Whether a file is a manifest by its name.
+pub(crate) fn is_manifest(path: &str) -> bool {
+    name_of(path) == "Cargo.toml"
 }
 
 /// Whether a file is the root of a crate by its name; standard input is one.
@@ -197,11 +259,24 @@ pub(crate) fn is_root(file: Option<&str>) -> bool {
     let Some(path) = file else {
         return true;
     };
-    let name = match path.rsplit_once('/') {
-        Some((_, name)) => name,
-        None => path,
-    };
+    let name = name_of(path);
     name == "lib.rs" || name == "main.rs"
+}
+
+/// The files that are named, and the manifests behind them.
+fn files_of<'a>(
+    alloc: Global,
+    named: &[&'a str],
+    manifests: &[&'a str],
+) -> Result<Vec<&'a str>, OptionFault<'a>> {
+    let mut files = words_of(alloc, named)?;
+    for path in manifests {
+        if !is_manifest(path) {
+            return Err(OptionFault::NoManifest(path));
+        }
+        files.push(*path).map_err(AllocError::from)?;
+    }
+    Ok(files)
 }
 
 /// What the matches ask for.
@@ -210,7 +285,12 @@ pub(crate) fn options_of<'a>(
     matches: &ArgMatches<'a>,
 ) -> Result<Options<'a>, OptionFault<'a>> {
     let types = words_of(alloc, matches.get_strs("type").unwrap_or(&[]))?;
-    let files = words_of(alloc, matches.get_strs("file").unwrap_or(&[]))?;
+    let named = matches.get_strs("file").unwrap_or(&[]);
+    let files = files_of(
+        alloc,
+        named,
+        matches.get_strs("manifest-path").unwrap_or(&[]),
+    )?;
     if matches.get_flag("svg") && types.len() != 1 {
         return Err(OptionFault::ManyTypes);
     }
@@ -231,6 +311,8 @@ pub(crate) fn options_of<'a>(
         types,
         form: form_of(matches),
         features,
+        with_default_features: !matches.get_flag("no-default-features"),
+        with_all_features: matches.get_flag("all-features"),
         files,
         are_roots: matches.get_flag("root"),
         is_strict: matches.get_flag("strict"),

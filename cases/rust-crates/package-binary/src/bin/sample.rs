@@ -1,0 +1,3 @@
+struct Config(u8, u32);
+
+fn main() {}

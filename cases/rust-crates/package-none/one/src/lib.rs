@@ -1,0 +1,1 @@
+pub struct Unread(u8);

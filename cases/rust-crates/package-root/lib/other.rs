@@ -1,0 +1,5 @@
+mod wire;
+
+pub struct Outer {
+    pub inner: wire::Inner,
+}

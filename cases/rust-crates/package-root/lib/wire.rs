@@ -1,0 +1,3 @@
+pub struct Inner {
+    pub at: u16,
+}
