@@ -123,7 +123,7 @@ impl Formulas {
     }
 
     /// Puts a node behind the others, in no chain yet.
-    fn put(&mut self, node: Node) -> Result<usize, AllocError>
+    fn put_node(&mut self, node: Node) -> Result<usize, AllocError>
         requires { IsNode (length (formulas_in self.old)) node }
         ensures { IfOk result (IsMade (formulas_in self.old) (formulas_in self.new) (meaning (formulas_in self.old) node)) }
     {
@@ -144,7 +144,7 @@ impl Formulas {
         if self.nodes.len() >= self.newest.len() {
             self.double_chains(alloc)?;
         }
-        let place = self.put(node)?;
+        let place = self.put_node(node)?;
         self.link(place);
         Ok(place)
     }

@@ -137,7 +137,7 @@ impl Visits {
     }
 
     /// Puts a visit behind the others, in no chain yet.
-    fn put(&mut self, visit: Visit) -> Result<(), AllocError>
+    fn put_visit(&mut self, visit: Visit) -> Result<(), AllocError>
         ensures { OnOk result (self.new ≡ self.old ++ visit ∷ []) }
     {
         self.before.push(0)?;
@@ -153,7 +153,7 @@ impl Visits {
         if at >= self.newest.len() {
             self.double_chains(alloc)?;
         }
-        self.put(visit)?;
+        self.put_visit(visit)?;
         self.link(at);
         Ok(())
     }

@@ -1,6 +1,6 @@
 use Rattle.std.proofs.Common.{arith, ap, length, length-append, ◌∷◌, []}
 use Rattle.automata.proofs.NodesLemmas.{node_put, nodes_put}
-use Rattle.automata.proofs.formulas.Formulas.put.Goals as goal
+use Rattle.automata.proofs.formulas.Formulas.put_node.Goals as goal
 
 pub invariant_of-self-2 : goal.invariant_of-self-2
 invariant_of-self-2 c = (
