@@ -57,4 +57,4 @@ mod tree;
 pub use fault::{Fault, FaultKind, FaultPlace};
 pub use report::{Label, ReportShape, TypeReport, VariantLabels};
 pub use sources::Sources;
-pub use targets::{Target, data_layout_of, target_named};
+pub use targets::{Target, data_layout_of, known_triples, nearest_triple, target_named};

@@ -364,23 +364,23 @@ pub mod sync {
     #[cfg(any(unix, windows, target_family = "wasm"))]
     pub mod poison {
         use crate::{cell::{Cell, UnsafeCell}, sync::atomic::{AtomicBool, AtomicPtr, AtomicU32, AtomicU8, AtomicUsize}};
-        #[cfg(target_os = "linux")]
+        #[cfg(any(target_os = "linux", target_os = "android", target_os = "freebsd", target_os = "openbsd"))]
         type Lock = AtomicU32;
         #[cfg(windows)]
         type Lock = AtomicU8;
-        #[cfg(any(target_os = "linux", windows))]
+        #[cfg(any(target_os = "linux", target_os = "android", target_os = "freebsd", target_os = "openbsd", windows))]
         struct Shared { state: AtomicU32, writer_notify: AtomicU32 }
-        #[cfg(any(target_os = "linux", windows))]
+        #[cfg(any(target_os = "linux", target_os = "android", target_os = "freebsd", target_os = "openbsd", windows))]
         pub struct Condvar { futex: AtomicU32 }
-        #[cfg(any(target_os = "linux", windows))]
+        #[cfg(any(target_os = "linux", target_os = "android", target_os = "freebsd", target_os = "openbsd", windows))]
         pub(crate) struct Once { state_and_queued: AtomicU32 }
-        #[cfg(all(unix, not(target_os = "linux")))]
+        #[cfg(all(unix, not(any(target_os = "linux", target_os = "android", target_os = "freebsd", target_os = "openbsd", target_os = "fuchsia"))))]
         type Lock = AtomicPtr<()>;
-        #[cfg(all(unix, not(target_os = "linux")))]
+        #[cfg(all(unix, not(any(target_os = "linux", target_os = "android", target_os = "freebsd", target_os = "openbsd", target_os = "fuchsia"))))]
         struct Shared { state: AtomicPtr<()> }
-        #[cfg(all(unix, not(target_os = "linux")))]
+        #[cfg(all(unix, not(any(target_os = "linux", target_os = "android", target_os = "freebsd", target_os = "openbsd", target_os = "fuchsia"))))]
         pub struct Condvar { cvar: AtomicPtr<()>, mutex: AtomicUsize }
-        #[cfg(all(unix, not(target_os = "linux")))]
+        #[cfg(all(unix, not(any(target_os = "linux", target_os = "android", target_os = "freebsd", target_os = "openbsd", target_os = "fuchsia"))))]
         pub(crate) struct Once { state_and_queue: AtomicPtr<()> }
         #[cfg(target_family = "wasm")]
         type Lock = Cell<bool>;
@@ -409,7 +409,7 @@ pub mod sync {
         pub type TryLockResult<T> = crate::result::Result<T, TryLockError<T>>;
         #[derive(Clone, Copy)]
         pub struct WaitTimeoutResult(bool);
-        #[cfg(any(target_os = "linux", windows))]
+        #[cfg(any(target_os = "linux", target_os = "android", target_os = "freebsd", target_os = "openbsd", windows))]
         pub struct OnceState { poisoned: bool, set_state_to: Cell<u32> }
     }
     pub mod atomic {
@@ -484,13 +484,15 @@ pub mod thread {
     #[derive(Clone, Copy)]
     pub struct ThreadId(crate::num::NonZero<u64>);
     pub struct Thread { inner: crate::pin::Pin<crate::sync::Arc<u8>> }
-    #[cfg(unix)]
+    #[cfg(all(unix, not(any(target_os = "solaris", target_os = "illumos", target_os = "aix"))))]
     struct Native { id: usize }
     #[cfg(windows)]
     struct Native { handle: *mut crate::ffi::c_void }
-    #[cfg(target_family = "wasm")]
+    #[cfg(target_os = "unknown")]
     struct Native(crate::convert::Infallible);
+    #[cfg(any(all(unix, not(any(target_os = "solaris", target_os = "illumos", target_os = "aix"))), windows, target_os = "unknown"))]
     pub struct JoinHandle<T> { native: Native, thread: Thread, packet: crate::sync::Arc<T> }
+    #[cfg(any(all(unix, not(any(target_os = "solaris", target_os = "illumos", target_os = "aix"))), windows, target_os = "unknown"))]
     pub struct ScopedJoinHandle<'scope, T> { native: Native, thread: Thread, packet: crate::sync::Arc<T>, _marker: crate::marker::PhantomData<&'scope ()> }
     pub struct Builder { name: Option<String>, stack_size: Option<usize>, no_hooks: bool }
     pub type Result<T> = crate::result::Result<T, Box<dyn crate::any::Any>>;
@@ -631,22 +633,25 @@ pub mod process {
     #[cfg(windows)]
     #[derive(Clone, Copy)]
     pub struct ExitCode(u32);
-    #[cfg(unix)]
+    #[cfg(all(unix, not(target_os = "fuchsia")))]
     #[derive(Clone, Copy)]
     pub struct ExitStatus(i32);
     #[cfg(windows)]
     #[derive(Clone, Copy)]
     pub struct ExitStatus(u32);
-    #[cfg(any(unix, windows))]
+    #[cfg(any(all(unix, not(target_os = "fuchsia")), windows))]
     pub struct Output { pub status: ExitStatus, pub stdout: Vec<u8>, pub stderr: Vec<u8> }
     #[cfg(unix)]
     type Pipe = crate::os::fd::OwnedFd;
     #[cfg(windows)]
     type Pipe = crate::os::windows::io::OwnedHandle;
-    #[cfg(target_family = "wasm")]
+    #[cfg(target_os = "unknown")]
     type Pipe = crate::convert::Infallible;
+    #[cfg(any(unix, windows, target_os = "unknown"))]
     pub struct ChildStdin { inner: Pipe }
+    #[cfg(any(unix, windows, target_os = "unknown"))]
     pub struct ChildStdout { inner: Pipe }
+    #[cfg(any(unix, windows, target_os = "unknown"))]
     pub struct ChildStderr { inner: Pipe }
     #[cfg(target_os = "linux")]
     struct Process { pid: i32, status: Option<ExitStatus>, pidfd: Option<crate::os::fd::OwnedFd> }
@@ -654,9 +659,9 @@ pub mod process {
     struct Process { pid: i32, status: Option<ExitStatus> }
     #[cfg(windows)]
     struct Process { handle: crate::os::windows::io::OwnedHandle, main_thread_handle: crate::os::windows::io::OwnedHandle }
-    #[cfg(target_family = "wasm")]
+    #[cfg(target_os = "unknown")]
     struct Process(crate::convert::Infallible);
-    #[cfg(any(target_os = "linux", target_os = "macos", windows, target_family = "wasm"))]
+    #[cfg(any(target_os = "linux", target_os = "macos", windows, target_os = "unknown"))]
     pub struct Child { handle: Process, pub stdin: Option<ChildStdin>, pub stdout: Option<ChildStdout>, pub stderr: Option<ChildStderr> }
     #[cfg(unix)]
     enum StdioKind { Inherit, Null, MakePipe, Fd(crate::os::fd::OwnedFd), StaticFd(crate::os::fd::BorrowedFd<'static>) }
@@ -724,11 +729,11 @@ pub mod io {
     struct Parts<'a> { base: *mut u8, len: usize, _p: crate::marker::PhantomData<&'a [u8]> }
     #[cfg(windows)]
     struct Parts<'a> { len: u32, base: *mut u8, _p: crate::marker::PhantomData<&'a [u8]> }
-    #[cfg(target_family = "wasm")]
+    #[cfg(target_os = "unknown")]
     type Parts<'a> = &'a [u8];
-    #[cfg(any(unix, windows, target_family = "wasm"))]
+    #[cfg(any(unix, windows, target_os = "unknown"))]
     pub struct IoSlice<'a>(Parts<'a>);
-    #[cfg(any(unix, windows, target_family = "wasm"))]
+    #[cfg(any(unix, windows, target_os = "unknown"))]
     pub struct IoSliceMut<'a>(Parts<'a>);
     #[cfg(any(unix, windows, target_family = "wasm"))]
     pub struct Stdin { inner: &'static crate::sync::Mutex<BufReader<()>> }
@@ -811,17 +816,17 @@ pub mod os {
         c_longlong, c_ulonglong, c_float, c_double, c_void}; }
 }
 pub mod fs {
-    #[cfg(target_os = "macos")]
+    #[cfg(any(target_vendor = "apple", target_os = "freebsd", all(target_os = "android", target_pointer_width = "32")))]
     type Mode = u16;
-    #[cfg(all(unix, not(target_os = "macos")))]
+    #[cfg(all(unix, not(any(target_vendor = "apple", target_os = "freebsd", all(target_os = "android", target_pointer_width = "32")))))]
     type Mode = u32;
     #[cfg(target_os = "linux")]
     pub struct FileTimes { accessed: Option<crate::time::SystemTime>, modified: Option<crate::time::SystemTime> }
     #[cfg(unix)]
     pub struct OpenOptions { read: bool, write: bool, append: bool, truncate: bool, create: bool, create_new: bool, custom_flags: i32, mode: Mode }
-    #[cfg(target_family = "wasm")]
+    #[cfg(target_os = "unknown")]
     pub struct OpenOptions {}
-    #[cfg(target_family = "wasm")]
+    #[cfg(target_os = "unknown")]
     pub struct DirEntry(crate::convert::Infallible);
     #[cfg(unix)]
     pub struct DirBuilder { inner: Mode, recursive: bool }
@@ -844,13 +849,13 @@ pub mod fs {
     pub struct File { inner: crate::os::fd::OwnedFd }
     #[cfg(windows)]
     pub struct File { inner: crate::os::windows::io::OwnedHandle }
-    #[cfg(target_family = "wasm")]
+    #[cfg(target_os = "unknown")]
     pub struct File(crate::convert::Infallible);
-    #[cfg(target_os = "macos")]
-    pub struct Permissions { mode: u16 }
-    #[cfg(any(all(unix, not(target_os = "macos")), windows))]
+    #[cfg(unix)]
+    pub struct Permissions { mode: Mode }
+    #[cfg(windows)]
     pub struct Permissions { mode: u32 }
-    #[cfg(target_family = "wasm")]
+    #[cfg(target_os = "unknown")]
     pub struct Permissions(crate::convert::Infallible);
 }
 pub mod net {
@@ -874,15 +879,15 @@ pub mod net {
     type Inner = crate::os::fd::OwnedFd;
     #[cfg(windows)]
     type Inner = crate::os::windows::io::OwnedSocket;
-    #[cfg(target_family = "wasm")]
+    #[cfg(target_os = "unknown")]
     type Inner = crate::convert::Infallible;
-    #[cfg(any(unix, windows, target_family = "wasm"))]
+    #[cfg(any(unix, windows, target_os = "unknown"))]
     pub struct TcpStream(Inner);
-    #[cfg(any(unix, windows, target_family = "wasm"))]
+    #[cfg(any(unix, windows, target_os = "unknown"))]
     pub struct TcpListener(Inner);
-    #[cfg(any(unix, windows, target_family = "wasm"))]
+    #[cfg(any(unix, windows, target_os = "unknown"))]
     pub struct UdpSocket(Inner);
-    #[cfg(any(unix, windows, target_family = "wasm"))]
+    #[cfg(any(unix, windows, target_os = "unknown"))]
     pub struct Incoming<'a> { listener: &'a TcpListener }
 }
 pub mod char {

@@ -2,12 +2,14 @@
 use Rattle.std.specs.Prelude.{ℕ, zero, suc, ◌+◌, ◌-◌, ◌^◌, ◌==◌, ◌&&◌, ◌||◌, Bool, true, false, not, codes, List, [], ◌∷◌, ◌++◌, drop, length, min, nat_le, nat_lt, take, Option, None, Some, Result, Ok, Err, if◌then◌else◌}
 use Rattle.std.specs.Borrow.{Bor}
 use Rattle.std.specs.List.{list_any}
+use Rattle.std.specs.Option.{is_some}
 use Rattle.std.specs.Str.{bytes_eq}
 use Rattle.rust_source.specs.declared.fault.SourceFault.{SourceFault}
 use Rattle.rust_source.specs.declared.fault.SourceFaultKind.TheVariants.{BadCfg, TooDeep}
 use Rattle.rust_source.specs.declared.place.Symbol.{Symbol}
 use Rattle.rust_source.specs.declared.reader.cfg.CfgValue.{CfgValue}
 use Rattle.rust_source.specs.declared.reader.cursor.Cursor.{Cursor}
+use Rattle.rust_source.specs.declared.target.CfgOption.{CfgOption}
 use Rattle.rust_source.specs.declared.target.CfgTarget.{CfgTarget}
 use Rattle.rust_source.specs.declared.target.Family.{Family}
 use Rattle.rust_source.specs.declared.target.Family.TheVariants as family
@@ -118,13 +120,46 @@ abbrev pub is_one_text : List (Bor (List ℕ)) → ValueRead → Bool
 is_one_text [] value = false
 is_one_text (t ∷ ts) value = is_text value t.now || is_one_text ts value
 
+-- an option is this name alone
+abbrev pub is_name_alone : (name : List ℕ) → CfgOption → Bool
+is_name_alone name o = not (is_some o.value) && bytes_eq o.name.now name
+
+-- an option gives this name a value
+abbrev pub gives_some_value : (name : List ℕ) → CfgOption → Bool
+gives_some_value name o = is_some o.value && bytes_eq o.name.now name
+
+-- a string stands for the text, where there is one
+abbrev pub is_that_text : ValueRead → Option (Bor (List ℕ)) → Bool
+is_that_text value None = false
+is_that_text value (Some text) = is_text value text.now
+
+-- an option gives this name this value
+abbrev pub gives_value : (name : List ℕ) → ValueRead → CfgOption → Bool
+gives_value name value o = bytes_eq o.name.now name && is_that_text value o.value
+
+-- one of what is set is this name alone
+abbrev pub is_set_alone : List CfgOption → (name : List ℕ) → Bool
+is_set_alone all name = list_any (is_name_alone name) all
+
+-- one of what is set gives this name a value
+abbrev pub is_valued : List CfgOption → (name : List ℕ) → Bool
+is_valued all name = list_any (gives_some_value name) all
+
+-- one of what is set gives this name this value
+abbrev pub is_value_set : List CfgOption → (name : List ℕ) → ValueRead → Bool
+is_value_set all name value = list_any (gives_value name value) all
+
+-- whether this value is set under this name; none where no value is
+abbrev pub option_value : CfgTarget → (name : List ℕ) → ValueRead → Option Bool
+option_value t name value = if is_valued t.options.now name then Some (is_value_set t.options.now name value) else None
+
 -- whether the target has this value under this name, of which it has several; none where the name isn't known
 unfoldable pub listed_value : CfgTarget → (name : List ℕ) → ValueRead → Option Bool
 listed_value t name value =
     if bytes_eq name (codes "target_has_atomic") then Some (is_one_text t.atomics.now value)
     else (if bytes_eq name (codes "target_feature") then Some (is_one_text t.features.now value)
     else (if bytes_eq name (codes "feature") && not (length t.crate_features.now == 0) then Some (is_one_text t.crate_features.now value)
-    else None))
+    else option_value t name value))
 
 -- whether the target has this value under this name, which is none of those below; none where the name isn't known
 unfoldable pub other_value : CfgTarget → (name : List ℕ) → ValueRead → Option Bool
@@ -160,7 +195,8 @@ has_flag t name =
     else (if bytes_eq name (codes "false") then Some false
     else (if bytes_eq name (codes "unix") then Some (is_unix t.family)
     else (if bytes_eq name (codes "windows") then Some (is_windows t.family)
-    else (if bytes_eq name (codes "target_has_atomic") then Some (not (length t.atomics.now == 0)) else None))))
+    else (if bytes_eq name (codes "target_has_atomic") then Some (not (length t.atomics.now == 0))
+    else (if is_set_alone t.options.now name then Some true else None)))))
 
 -- what lies between a string's quotes, where each escape is one that there is
 abbrev pub with_escapes : Option (List ℕ) → Option ValueRead

@@ -24,4 +24,4 @@ pub use place::{Place, Symbol};
 pub use reader::modules::SourceRoot;
 pub use reader::{Source, read_items, read_type};
 pub use syntax::{Argument, Binary, Expr, IntegerKind, Path, Segment, Type, Unary, Unevaluated};
-pub use target::{CfgTarget, Family};
+pub use target::{CfgOption, CfgTarget, Family};

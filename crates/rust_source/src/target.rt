@@ -10,6 +10,14 @@ pub enum Family {
     Neither,
 }
 
+/// A name that is set beside what a target has, alone or with a value, as `--cfg` of rustc sets it.
+#[derive(Clone, Copy)]
+pub struct CfgOption<'a> {
+    pub name: &'a str,
+    /// Its value, as `cfg(name = "value")` asks for it; None of a name alone.
+    pub value: Option<&'a str>,
+}
+
 /// What the predicates of `cfg` know of a target (Rust Reference, "Conditional compilation").
 #[derive(Clone, Copy)]
 pub struct CfgTarget<'a> {
@@ -36,4 +44,6 @@ pub struct CfgTarget<'a> {
     pub features: &'a [&'a str],
     /// The values of `feature` that hold, those of the crate that are asked for; where there is none, the name isn't known.
     pub crate_features: &'a [&'a str],
+    /// What is set beside: a name that the target has itself keeps its meaning.
+    pub options: &'a [CfgOption<'a>],
 }

@@ -710,6 +710,7 @@ impl FileReport {
                 Ok(dl) => {
                     let cfg = CfgTarget {
                         crate_features: file.features,
+                        options: options.cfg_options.as_slice(),
                         ..target.cfg
                     };
                     let cx = TargetContext {

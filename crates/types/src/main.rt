@@ -24,6 +24,7 @@ use crate::answer::{FileFailure, FileReport, Outcome, answer_source};
 use crate::cargo::{CargoFailure, ManifestFile, manifest_path, read_manifest};
 use crate::crate_files::SourceFile;
 use crate::options::{Form, OptionFault, Options, command, is_root, options_of};
+use abi_rust::known_triples;
 use serde_json::Value;
 use std::alloc::AllocError;
 use std::process::ExitCode;
@@ -55,10 +56,21 @@ fn report_memory(rt: &HostRuntime) -> Outcome {
 fn report_option(rt: &HostRuntime, fault: OptionFault<'_>) -> Outcome {
     let _ = match fault {
         OptionFault::OutOfMemory => return report_memory(rt),
-        OptionFault::UnknownTarget(triple) => {
+        OptionFault::UnknownTarget(triple, None) => {
             eprintln!(rt;
-                "types: no target is called '{triple}'; docs/TARGETS.md has those that are known"
+                "types: no target is called '{triple}'; --print targets lists those that are known"
             )
+        }
+        OptionFault::UnknownTarget(triple, Some(nearest)) => {
+            eprintln!(rt;
+                "types: no target is called '{triple}', but '{nearest}' is; --print targets lists those that are known"
+            )
+        }
+        OptionFault::BadCfg(text) => {
+            eprintln!(rt; "types: --cfg sets a name or a name=\"value\", and not {text}")
+        }
+        OptionFault::UnknownList(name) => {
+            eprintln!(rt; "types: no '{name}' can be listed; 'targets' can")
         }
         OptionFault::ManyTypes => {
             eprintln!(rt; "types: a picture shows one type, which --type names")
@@ -278,12 +290,28 @@ fn report_file(
     report_source(rt, options, progress, root)
 }
 
+/// Writes the triples of the known targets on standard output.
+fn print_targets(rt: &HostRuntime) -> Outcome {
+    let Ok(triples) = known_triples(rt.alloc()) else {
+        return report_memory(rt);
+    };
+    for triple in triples {
+        if rt.println(triple).is_err() {
+            return Outcome::Refused;
+        }
+    }
+    Outcome::Reported
+}
+
 /// Carries out what the command line asks for, and answers what came of all files.
 fn carry_out(rt: &HostRuntime, options: &Options<'_>) -> Outcome {
     let mut progress = Progress {
         types: Vec::new(rt.alloc()),
         is_target_noted: false,
     };
+    if options.prints_targets {
+        return print_targets(rt);
+    }
     let mut outcome = Outcome::Reported;
     if options.files.is_empty() {
         outcome = report_file(rt, options, &mut progress, None);

@@ -1,7 +1,8 @@
 //! What the command line asks for.
 
-use abi_rust::{Target, target_named};
+use abi_rust::{Target, nearest_triple, target_named};
 use clap::{Arg, ArgAction, ArgMatches, Command};
+use rust_source::CfgOption;
 use std::alloc::{AllocError, Global};
 
 /// The target where none is named.
@@ -36,6 +37,8 @@ pub(crate) struct Options<'a> {
     pub(crate) with_default_features: bool,
     /// Whether all features of packages are on.
     pub(crate) with_all_features: bool,
+    /// What `cfg` finds set beside what a target has.
+    pub(crate) cfg_options: Vec<CfgOption<'a>>,
     /// The files, and the folders or manifests of packages, in the order in which they were named; standard input is read
     /// where there is none.
     pub(crate) files: Vec<&'a str>,
@@ -43,6 +46,8 @@ pub(crate) struct Options<'a> {
     pub(crate) are_roots: bool,
     /// Whether a fault of one type is a fault of its file, of which nothing is reported then.
     pub(crate) is_strict: bool,
+    /// Whether the targets are listed, and nothing else is done.
+    pub(crate) prints_targets: bool,
 }
 
 /// The option that names a target.
@@ -54,6 +59,14 @@ fn target_option<'a>(alloc: Global) -> Arg<'a> {
         .help(
             "lays types out for this target; more than one may be named [default: x86_64-unknown-linux-gnu]",
         )
+}
+
+/// The option that lists what may be named.
+fn print_option<'a>(alloc: Global) -> Arg<'a> {
+    Arg::new(alloc, "print")
+        .long("print")
+        .value_name("WHAT")
+        .help("lists what may be named: 'targets' is all that can be listed")
 }
 
 /// The option that names a type.
@@ -72,6 +85,15 @@ fn feature_option<'a>(alloc: Global) -> Arg<'a> {
         .value_name("NAMES")
         .action(ArgAction::Append)
         .help("features of the crate that `cfg` asks for, with commas between, as Cargo takes them")
+}
+
+/// The option that sets what `cfg` asks for.
+fn cfg_option<'a>(alloc: Global) -> Arg<'a> {
+    Arg::new(alloc, "cfg")
+        .long("cfg")
+        .value_name("NAME[=\"VALUE\"]")
+        .action(ArgAction::Append)
+        .help("sets a name, alone or with a value, that `cfg` asks for, as rustc takes it")
 }
 
 /// The option that names a manifest.
@@ -98,6 +120,7 @@ fn with_feature_options<'a>(
     let all = form_option(alloc, "all-features", "turns on all features of packages");
     let command = command
         .arg(feature_option(alloc))?
+        .arg(cfg_option(alloc))?
         .arg(no_default)?
         .arg(all)?;
     Ok(command)
@@ -153,6 +176,7 @@ pub(crate) fn command<'a>(alloc: Global) -> Result<Command<'a>, AllocError> {
     let command = Command::new(alloc, "types")
         .about("Lays out the types that a Rust source defines")
         .arg(target_option(alloc))?
+        .arg(print_option(alloc))?
         .arg(type_option(alloc))?
         .arg(manifest_option(alloc))?
         .arg(json)?
@@ -169,8 +193,12 @@ pub(crate) fn command<'a>(alloc: Global) -> Result<Command<'a>, AllocError> {
 #[derive(Clone, Copy)]
 pub(crate) enum OptionFault<'a> {
     OutOfMemory,
-    /// No target has this name.
-    UnknownTarget(&'a str),
+    /// No target has this name; the nearest one that is known.
+    UnknownTarget(&'a str, Option<&'static str>),
+    /// What `cfg` is to find set is no name, alone or with a value in quotes.
+    BadCfg(&'a str),
+    /// Nothing of this name can be listed.
+    UnknownList(&'a str),
     /// A picture shows one type, and none was named, or more than one.
     ManyTypes,
     /// A picture shows a type of one file, and more than one was named.
@@ -190,8 +218,11 @@ fn targets_of<'a>(alloc: Global, triples: &[&'a str]) -> Result<Vec<Target>, Opt
     let mut targets = Vec::with_capacity(alloc, triples.len())?;
     for triple in triples {
         match target_named(triple) {
-            Some(known) => targets.push(*known).map_err(AllocError::from)?,
-            None => return Err(OptionFault::UnknownTarget(triple)),
+            Some(known) => targets.push(known).map_err(AllocError::from)?,
+            None => {
+                let nearest = nearest_triple(alloc, triple)?;
+                return Err(OptionFault::UnknownTarget(triple, nearest));
+            }
         }
     }
     Ok(targets)
@@ -201,7 +232,7 @@ fn targets_of<'a>(alloc: Global, triples: &[&'a str]) -> Result<Vec<Target>, Opt
 fn default_targets(alloc: Global) -> Result<Vec<Target>, AllocError> {
     let mut targets = Vec::new(alloc);
     if let Some(known) = target_named(DEFAULT_TARGET) {
-        targets.push(*known).map_err(AllocError::from)?;
+        targets.push(known).map_err(AllocError::from)?;
     }
     Ok(targets)
 }
@@ -223,6 +254,63 @@ fn features_of<'a>(alloc: Global, lists: &[&'a str]) -> Result<Vec<&'a str>, All
             for name in words.split_ascii_whitespace() {
                 all.push(name)?;
             }
+        }
+    }
+    Ok(all)
+}
+
+/// What stands between quotes. None where none stand around it, or one more between them.
+fn unquoted(text: &str) -> Option<&str> {
+    let inside = text.strip_prefix('"')?.strip_suffix('"')?;
+    if inside.contains('"') {
+        None
+    } else {
+        Some(inside)
+    }
+}
+
+/// Whether a text is a name, as `cfg` has them.
+fn is_name(text: &str) -> bool {
+    let mut is_begun = false;
+    for c in text.chars() {
+        if !(c == '_' || c.is_ascii_alphabetic() || is_begun && c.is_ascii_digit()) {
+            return false;
+        }
+        is_begun = true;
+    }
+    is_begun
+}
+
+/// What a text sets: a name, or a name and a value in quotes. None for any other text.
+fn cfg_option_in(text: &str) -> Option<CfgOption<'_>> {
+    let (name, value) = match text.split_once('=') {
+        Some((name, value)) => (name, Some(unquoted(value.trim())?)),
+        None => (text, None),
+    };
+    let name = name.trim();
+    if is_name(name) {
+        Some(CfgOption { name, value })
+    } else {
+        None
+    }
+}
+
+/// What is set for `cfg`, but the features, which are put behind those that were named.
+fn cfg_options_of<'a>(
+    alloc: Global,
+    texts: &[&'a str],
+    features: &mut Vec<&'a str>,
+) -> Result<Vec<CfgOption<'a>>, OptionFault<'a>> {
+    let mut all = Vec::new(alloc);
+    for text in texts {
+        let Some(option) = cfg_option_in(text) else {
+            return Err(OptionFault::BadCfg(text));
+        };
+        match option.value {
+            Some(feature) if option.name == "feature" => {
+                features.push(feature).map_err(AllocError::from)?;
+            }
+            _ => all.push(option).map_err(AllocError::from)?,
         }
     }
     Ok(all)
@@ -279,6 +367,15 @@ fn files_of<'a>(
     Ok(files)
 }
 
+/// Whether the targets are asked to be listed.
+fn prints_targets<'a>(matches: &ArgMatches<'a>) -> Result<bool, OptionFault<'a>> {
+    match matches.get_str("print") {
+        None => Ok(false),
+        Some("targets") => Ok(true),
+        Some(name) => Err(OptionFault::UnknownList(name)),
+    }
+}
+
 /// What the matches ask for.
 pub(crate) fn options_of<'a>(
     alloc: Global,
@@ -297,7 +394,9 @@ pub(crate) fn options_of<'a>(
     if matches.get_flag("svg") && files.len() > 1 {
         return Err(OptionFault::ManyFiles);
     }
-    let features = features_of(alloc, matches.get_strs("features").unwrap_or(&[]))?;
+    let mut features = features_of(alloc, matches.get_strs("features").unwrap_or(&[]))?;
+    let set = matches.get_strs("cfg").unwrap_or(&[]);
+    let cfg_options = cfg_options_of(alloc, set, &mut features)?;
     let named = matches.get_strs("target").unwrap_or(&[]);
     let names_target = !named.is_empty();
     let targets = if names_target {
@@ -313,8 +412,10 @@ pub(crate) fn options_of<'a>(
         features,
         with_default_features: !matches.get_flag("no-default-features"),
         with_all_features: matches.get_flag("all-features"),
+        cfg_options,
         files,
         are_roots: matches.get_flag("root"),
         is_strict: matches.get_flag("strict"),
+        prints_targets: prints_targets(matches)?,
     })
 }

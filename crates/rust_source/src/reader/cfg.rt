@@ -2,7 +2,7 @@
 
 ghost use Rattle.std.specs.Prelude.{◌≡◌, ◌≤◌, ◌∷◌, ◌++◌, [], IfErr, IfOk, length};
 ghost use Rattle.std.specs.Option.{option_map};
-ghost use Rattle.rust_source.specs.Cfg.{combined, count_read, counting, escape_length, escape_taken, family_name, has_escapes, has_flag, has_value, is_one_text, is_text, known_or, listed_value, next_code, next_value, option_answer, option_read, other_value, plain_value, predicate_read, predicate_with, raw_value, stands_for, string_value, taken_of, value_as_read, with_symbol, with_unknown};
+ghost use Rattle.rust_source.specs.Cfg.{combined, count_read, counting, escape_length, escape_taken, family_name, has_escapes, gives_some_value, gives_value, has_flag, has_value, is_one_text, is_set_alone, is_text, is_value_set, is_valued, option_value, known_or, listed_value, next_code, next_value, option_answer, option_read, other_value, plain_value, predicate_read, predicate_with, raw_value, stands_for, string_value, taken_of, value_as_read, with_symbol, with_unknown};
 ghost use Rattle.rust_source.specs.Names.{texts};
 ghost use Rattle.rust_source.specs.Reading.{Reads, read_as};
 
@@ -15,7 +15,7 @@ use crate::reader::cursor::{
 use crate::reader::depth::one_level_deeper;
 use crate::reader::literals::{bytes_between, escape_code};
 use crate::reader::naming::word_text;
-use crate::target::{CfgTarget, Family};
+use crate::target::{CfgOption, CfgTarget, Family};
 use crate::tokens::token::{Bracket, TokenKind};
 use crate::tokens::{Run, byte_at, bytes_after, escaped_length, run_length};
 
@@ -135,6 +135,70 @@ fn is_one_text(texts: &[&str], value: CfgValue<'_>) -> bool
     false
 }
 
+/// Whether one of what is set is this name alone.
+fn is_set_alone(options: &[CfgOption<'_>], name: &str) -> bool
+    ensures { result ≡ is_set_alone options.now name.now }
+{
+    for option in options {
+        if option.value.is_none() && option.name == name {
+            return true;
+        }
+    }
+    false
+}
+
+/// Whether an option gives this name a value.
+fn gives_some_value(option: &CfgOption<'_>, name: &str) -> bool
+    ensures { result ≡ gives_some_value name.now option.now }
+{
+    option.value.is_some() && option.name == name
+}
+
+/// Whether an option gives this name this value.
+fn gives_value(option: &CfgOption<'_>, name: &str, value: CfgValue<'_>) -> bool
+    ensures { result ≡ gives_value name.now (value_as_read value.entry) option.now }
+{
+    match option.value {
+        Some(text) => option.name == name && is_text(value, text),
+        None => false,
+    }
+}
+
+/// Whether one of what is set gives this name a value.
+fn is_valued(options: &[CfgOption<'_>], name: &str) -> bool
+    ensures { result ≡ is_valued options.now name.now }
+{
+    for option in options {
+        if gives_some_value(option, name) {
+            return true;
+        }
+    }
+    false
+}
+
+/// Whether one of what is set gives this name this value.
+fn is_value_set(options: &[CfgOption<'_>], name: &str, value: CfgValue<'_>) -> bool
+    ensures { result ≡ is_value_set options.now name.now (value_as_read value.entry) }
+{
+    for option in options {
+        if gives_value(option, name, value) {
+            return true;
+        }
+    }
+    false
+}
+
+/// Whether this value is set under this name. None where no value is.
+fn option_value(target: &CfgTarget<'_>, name: &str, value: CfgValue<'_>) -> Option<bool>
+    ensures { result ≡ option_value target.now name.now (value_as_read value.entry) }
+{
+    if is_valued(target.options, name) {
+        Some(is_value_set(target.options, name, value))
+    } else {
+        None
+    }
+}
+
 /// Whether the target has this value under this name. None where the name isn't known.
 #[tactic(auto, unfolding(crate::specs::Cfg::has_value))]
 fn has_value(target: &CfgTarget<'_>, name: &str, value: CfgValue<'_>) -> Option<bool>
@@ -190,7 +254,7 @@ fn listed_value(target: &CfgTarget<'_>, name: &str, value: CfgValue<'_>) -> Opti
     } else if name == "feature" && !target.crate_features.is_empty() {
         Some(is_one_text(target.crate_features, value))
     } else {
-        None
+        option_value(target, name, value)
     }
 }
 
@@ -209,6 +273,8 @@ fn has_flag(target: &CfgTarget<'_>, name: &str) -> Option<bool>
         Some(target.family == Family::Windows)
     } else if name == "target_has_atomic" {
         Some(!target.atomics.is_empty())
+    } else if is_set_alone(target.options, name) {
+        Some(true)
     } else {
         None
     }
