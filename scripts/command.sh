@@ -83,9 +83,22 @@ add_package() {
   done < <(cd "$folder" && find . -path ./target -prune -o \( -name '*.rs' -o -name Cargo.toml \) -type f -printf '%P\0')
 }
 
+# Whether a manifest below a package's folder leads to files outside of it.
+leads_out() {
+  grep -rqE --include=Cargo.toml --exclude-dir=target 'path *= *"(\.\./|/)|workspace *= *true' "$1"
+}
+
+# Whether what an argument names, behind this one, is read where it stands: vendored packages, and a package that needs more than its folder.
+is_read_there() {
+  case /$1 in
+    */Cargo.toml) [ -f "$1" ] && leads_out "$(dirname "$1")" ;;
+    *) [ -d "$1" ] && { [ "$2" = --vendor ] || leads_out "$1"; } ;;
+  esac
+}
+
 # Runs a program with these words: proved, where it is, and else the same sources unproved. The status is the program's.
 run_program() {
-  local program=$1 status=0 word name words=() data=()
+  local program=$1 status=0 word name before='' words=() data=()
   shift
   if "$here/scripts/is_proved" "$program"; then
     "$here/crates/$program/out/$program" "$@" || status=$?
@@ -94,7 +107,12 @@ run_program() {
   # (it runs in a folder of its own, into which a file or a folder that is named is copied, by a path that doesn't lead out of it)
   for word; do
     name=$word
-    if [ -f "$word" ] || { [ -n "${follows:-}" ] && [ -d "$word" ]; }; then
+    # (what lies outside of a package's folder is read where it stands)
+    if [ -n "${follows:-}" ] && [[ $word == --vendor=* ]]; then
+      name=--vendor=$(realpath -m -- "${word#*=}")
+    elif [ -n "${follows:-}" ] && [ -e "$word" ] && is_read_there "$word" "$before"; then
+      name=$(realpath "$word")
+    elif [ -f "$word" ] || { [ -n "${follows:-}" ] && [ -d "$word" ]; }; then
       if [[ /$word/ == */../* || $word == /* ]]; then
         name=$(realpath -ms --relative-to=. "$word" | sed -E 's|^(\.\./)*||; s|^\.\.$|package|')
       fi
@@ -109,7 +127,7 @@ run_program() {
         add_sources_below "$word" "$name"
       fi
     fi
-    words+=("$name")
+    words+=("$name") before=$word
   done
   try_program "$program" ${data[@]+"${data[@]}"} ${words[@]+-- "${words[@]}"} || status=$?
   grep -q '^run=ended' "$room/told" || end_untold

@@ -1,12 +1,12 @@
 -- What a manifest says (The Cargo Book, "The Manifest Format").
-use Rattle.std.specs.Prelude.{⊤, ◌≡◌, ℕ, Bool, false, true, List, [], Option, None, Some, codes, map, option_and_then, option_map, unwrap_or}
+use Rattle.std.specs.Prelude.{⊤, ◌≡◌, ◌||◌, ℕ, Bool, false, true, List, [], Option, None, Some, codes, map, option_and_then, option_map, unwrap_or}
 use Rattle.toml.specs.Data.{Data, Members, as_bool, get, table}
 use Rattle.toml.specs.Errors.{span_start}
 use Rattle.toml.specs.View.{view}
 use Rattle.cargo_manifest.specs.Dependencies.{Dependency, dependencies_in}
 use Rattle.cargo_manifest.specs.Editions.{edition_said}
 use Rattle.cargo_manifest.specs.Schema.{is_manifest}
-use Rattle.cargo_manifest.specs.Values.{Text, items_in, string_at, strings_at}
+use Rattle.cargo_manifest.specs.Values.{Text, is_true_at, items_in, string_at, strings_at}
 use Rattle.cargo_manifest.specs.declared.edition.Edition.{Edition}
 use Rattle.cargo_manifest.specs.declared.edition.Edition.TheVariants.{Rust2015}
 use Rattle.cargo_manifest.specs.declared.manifest.BinaryTarget.{BinaryTarget}
@@ -52,6 +52,13 @@ has_build_script has_build_rs m =
       | None ↦ false
       | Some p ↦ elim (get (codes "build") p) [ None ↦ has_build_rs | Some build ↦ unwrap_or (as_bool build) true ]
     ]
+
+-- the library is of procedural macros, in either spelling
+abbrev pub is_of_macros : (lib : Data) → Bool
+is_of_macros lib = is_true_at (codes "proc-macro") lib || is_true_at (codes "proc_macro") lib
+
+abbrev pub has_proc_macros : Data → Bool
+has_proc_macros m = elim (get (codes "lib") m) [ None ↦ false | Some lib ↦ is_of_macros lib ]
 
 -- a binary: its name and its path, where they are written
 abbrev pub bin_view : BinaryTarget → Option Text × Option Text

@@ -60,6 +60,8 @@ target_rules =
     (key (codes "lib") ∷ [], Table)
     ∷ (key (codes "lib") ∷ key (codes "path") ∷ [], String)
     ∷ (key (codes "lib") ∷ key (codes "name") ∷ [], String)
+    ∷ (key (codes "lib") ∷ key (codes "proc-macro") ∷ [], Boolean)
+    ∷ (key (codes "lib") ∷ key (codes "proc_macro") ∷ [], Boolean)
     ∷ (key (codes "bin") ∷ [], ListKind)
     ∷ (key (codes "bin") ∷ each_item ∷ [], Table)
     ∷ (key (codes "bin") ∷ each_item ∷ key (codes "path") ∷ [], String)

@@ -6,14 +6,14 @@ ghost use Rattle.toml.specs.Data.{get};
 ghost use Rattle.toml.specs.Parse.{parse_document};
 ghost use Rattle.toml.specs.View.{view};
 ghost use Rattle.cargo_manifest.specs.Dependencies.{build_dependencies, dependencies_of, dependency_view, package_dependencies};
-ghost use Rattle.cargo_manifest.specs.Manifests.{IsPlaceOf, IsReadAs, IsRefused, bin_said, bin_view, bins, data_of, edition_in, has_build_script, string_in, workspace_dependencies, workspace_edition, workspace_members};
+ghost use Rattle.cargo_manifest.specs.Manifests.{IsPlaceOf, IsReadAs, IsRefused, bin_said, bin_view, bins, data_of, edition_in, has_build_script, has_proc_macros, string_in, workspace_dependencies, workspace_edition, workspace_members};
 ghost use Rattle.cargo_manifest.specs.Schema.{is_manifest};
 ghost use Rattle.cargo_manifest.specs.Values.{entries_at, entry_view, texts};
 
 use crate::dependency::{Dependency, put_dependencies};
 use crate::edition::{Edition, edition_said};
 use crate::schema::{ValueKind, WrongType, first_wrong};
-use crate::values::{entries_at, items, string_at, strings_at};
+use crate::values::{entries_at, is_true_at, items, string_at, strings_at};
 use std::alloc::{AllocError, Global};
 use std::fmt;
 use toml::Value;
@@ -187,6 +187,16 @@ impl Manifest {
         ensures { option_map (λ t. t.now) result ≡ string_in (codes "lib") (codes "name") (data_of self.now) }
     {
         self.string_in("lib", "name")
+    }
+
+    /// Whether its library is of procedural macros, which the compiler loads, in either spelling.
+    pub fn has_proc_macros(&self) -> bool
+        ensures { result ≡ has_proc_macros (data_of self.now) }
+    {
+        match self.value.get("lib") {
+            Some(lib) => is_true_at(lib, "proc-macro") || is_true_at(lib, "proc_macro"),
+            None => false,
+        }
     }
 
     /// The binaries that are written, in their order. An error comes where a growth of memory was refused.

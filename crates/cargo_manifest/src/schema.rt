@@ -62,7 +62,7 @@ struct Rule {
 }
 
 /// What is asked of a manifest. A key that no rule names may have anything (Cargo warns of some).
-static RULES: [Rule; 64] = [
+static RULES: [Rule; 66] = [
     Rule {
         way: &[Step::Key("package")],
         kind: ValueKind::Table,
@@ -98,6 +98,14 @@ static RULES: [Rule; 64] = [
     Rule {
         way: &[Step::Key("lib"), Step::Key("name")],
         kind: ValueKind::String,
+    },
+    Rule {
+        way: &[Step::Key("lib"), Step::Key("proc-macro")],
+        kind: ValueKind::Boolean,
+    },
+    Rule {
+        way: &[Step::Key("lib"), Step::Key("proc_macro")],
+        kind: ValueKind::Boolean,
     },
     Rule {
         way: &[Step::Key("bin")],

@@ -8,7 +8,7 @@ use crate::lines::write_lines;
 use crate::mapped::by_name;
 use crate::notes::{FirstCrate, write_notes};
 use crate::options::{Form, Options};
-use crate::packages::PackageCrate;
+use crate::packages::{PackageCrate, PackageSet, crates_under};
 use crate::place::{Spot, write_fault};
 use crate::pretty::{DeclaredType, write_pretty};
 use abi_base::TargetDataLayout;
@@ -699,15 +699,20 @@ impl FileReport {
         rt: &HostRuntime,
         options: &Options<'_>,
         file: SourceFile<'_>,
+        sets: &[PackageSet],
     ) -> Result<(), FileFailure> {
         if options.files.len() > 1 {
             let name = file.name.unwrap_or("<stdin>");
             write!(self.text, "file {name}\n")?;
         }
         let is_one = options.targets.len() == 1;
-        for target in &options.targets {
+        for (number, target) in options.targets.iter().enumerate() {
             match data_layout_of(self.alloc, target) {
                 Ok(dl) => {
+                    let file = SourceFile {
+                        crates: crates_under(sets, number),
+                        ..file
+                    };
                     let cfg = CfgTarget {
                         crate_features: file.features,
                         options: options.cfg_options.as_slice(),
@@ -728,14 +733,15 @@ impl FileReport {
     }
 }
 
-/// Reports on the types of a source under each target that is asked for.
+/// Reports on the types of a source under each target that is asked for, for each of which there may be a set of packages.
 pub(crate) fn answer_source(
     rt: &HostRuntime,
     options: &Options<'_>,
     file: SourceFile<'_>,
+    sets: &[PackageSet],
 ) -> Result<FileReport, FileFailure> {
     let mut answer = FileReport::new(rt.alloc());
-    match answer.add_targets(rt, options, file) {
+    match answer.add_targets(rt, options, file, sets) {
         Ok(()) => Ok(answer),
         Err(failure) => Err(failure),
     }

@@ -1,15 +1,14 @@
-//! The crate of a manifest, `Cargo.toml`: its root file, and the features that are on (The Cargo Book, "The Manifest
+//! A manifest, `Cargo.toml`: where it stands, its package's root file, and its workspace (The Cargo Book, "The Manifest
 //! Format").
 
 use crate::answer::Outcome;
-use crate::crate_files::{SourceFile, folder_of, is_there};
-use crate::options::{Options, is_manifest};
+use crate::crate_files::{folder_of, is_there};
+use crate::options::is_manifest;
 use crate::place::write_fault;
-use cargo_manifest::{
-    Dependency, Edition, FeatureError, FeatureRequest, Features, Manifest, ManifestError,
-};
+use cargo_manifest::{Dependency, Features, Manifest, ManifestError};
 use std::alloc::{AllocError, Global};
-use std::fs;
+use std::io::ErrorKind;
+use std::{fs, io};
 
 /// A manifest, and where it stands.
 #[derive(Drop)]
@@ -65,7 +64,7 @@ fn is_folder(rt: &HostRuntime, name: &str) -> bool {
 }
 
 /// A fault that has no place in the manifest.
-fn fault_of(alloc: Global, path: &str, text: &str) -> CargoFailure {
+pub(crate) fn fault_of(alloc: Global, path: &str, text: &str) -> CargoFailure {
     match format!(in alloc; "{path}: {text}\n") {
         Ok(text) => CargoFailure::Stopped(Outcome::Faulty, text),
         Err(_) => CargoFailure::OutOfMemory,
@@ -99,8 +98,11 @@ fn error_of(alloc: Global, path: &str, text: &str, error: &ManifestError) -> Car
     }
 }
 
-/// That a manifest can't be read.
-fn unreadable(alloc: Global, path: &str, error: &std::io::Error) -> CargoFailure {
+/// That a manifest or a folder can't be read.
+pub(crate) fn unreadable(alloc: Global, path: &str, error: &io::Error) -> CargoFailure {
+    if error.kind() == ErrorKind::OutOfMemory {
+        return CargoFailure::OutOfMemory;
+    }
     match format!(in alloc; "types: {path} can't be read: {error}\n") {
         Ok(text) => CargoFailure::Stopped(Outcome::Refused, text),
         Err(_) => CargoFailure::OutOfMemory,
@@ -152,16 +154,6 @@ impl ManifestFile {
         }
     }
 
-    /// The package's edition.
-    pub(crate) fn edition(&self) -> Edition {
-        self.manifest.edition()
-    }
-
-    /// The edition of a workspace's packages that ask for it.
-    pub(crate) fn workspace_edition(&self) -> Edition {
-        self.manifest.workspace_edition()
-    }
-
     /// The dependencies of the package.
     pub(crate) fn dependencies(&self, alloc: Global) -> Result<Vec<Dependency<'_>>, AllocError> {
         self.manifest.dependencies(alloc)
@@ -175,11 +167,8 @@ impl ManifestFile {
         self.manifest.workspace_dependencies(alloc)
     }
 
-    /// Whether the package asks its workspace for something.
+    /// Whether the package asks its workspace for a dependency.
     pub(crate) fn is_of_workspace(&self, alloc: Global) -> Result<bool, AllocError> {
-        if self.manifest.edition() == Edition::Inherited {
-            return Ok(true);
-        }
         for dependency in &self.manifest.dependencies(alloc)? {
             if dependency.is_inherited() {
                 return Ok(true);
@@ -263,12 +252,17 @@ impl ManifestFile {
         self.path_found(rt, file.as_str())
     }
 
+    /// The root file of the package's library.
+    pub(crate) fn library_root(&self, rt: &HostRuntime) -> Result<Option<String>, AllocError> {
+        match self.manifest.lib_path() {
+            Some(path) => Ok(Some(self.path_beside(rt.alloc(), path)?)),
+            None => self.path_found(rt, "src/lib.rs"),
+        }
+    }
+
     /// The root file of the package: of its library, or else of a binary.
     fn root(&self, rt: &HostRuntime) -> Result<Option<String>, AllocError> {
-        if let Some(path) = self.manifest.lib_path() {
-            return Ok(Some(self.path_beside(rt.alloc(), path)?));
-        }
-        if let Some(path) = self.path_found(rt, "src/lib.rs")? {
+        if let Some(path) = self.library_root(rt)? {
             return Ok(Some(path));
         }
         if let Some(path) = self.path_found(rt, "src/main.rs")? {
@@ -294,6 +288,11 @@ impl ManifestFile {
         }
     }
 
+    /// Whether the package's library is of procedural macros.
+    pub(crate) fn has_proc_macros(&self) -> bool {
+        self.manifest.has_proc_macros()
+    }
+
     /// The features of the package.
     pub(crate) fn features(&self, alloc: Global) -> Result<Features<'_>, AllocError> {
         Features::new(alloc, &self.manifest)
@@ -303,27 +302,5 @@ impl ManifestFile {
     pub(crate) fn has_build_script(&self, rt: &HostRuntime) -> Result<bool, AllocError> {
         let found = self.path_found(rt, "build.rs")?;
         Ok(self.manifest.has_build_script(found.is_some()))
-    }
-
-    /// The features that are on, of those that the command line asks for.
-    pub(crate) fn enabled<'a>(
-        &'a self,
-        alloc: Global,
-        features: &Features<'a>,
-        options: &'a Options<'a>,
-    ) -> Result<Vec<&'a str>, CargoFailure> {
-        let request = FeatureRequest {
-            names: options.features.as_slice(),
-            with_default: options.with_default_features,
-            with_all: options.with_all_features,
-        };
-        match features.enabled(alloc, request) {
-            Ok(on) => Ok(on),
-            Err(FeatureError::OutOfMemory) => Err(CargoFailure::OutOfMemory),
-            Err(FeatureError::UnknownFeature(name)) => {
-                let text = format!(in alloc; "its package has no feature `{name}`")?;
-                Err(fault_of(alloc, self.path.as_str(), text.as_str()))
-            }
-        }
     }
 }

@@ -5,11 +5,16 @@
 mod options;
 mod place;
 
-// The files of a crate, and what its manifest says of it.
-mod cargo;
+// The files of a crate.
 mod crate_files;
 mod module_files;
+
+// Packages: their manifests, and what they ask of one another.
+mod cargo;
 mod packages;
+mod requests;
+mod target_tables;
+mod vendored;
 
 // Types as lines, as maps and as JSON, and the answer to a source.
 mod answer;
@@ -21,12 +26,14 @@ mod notes;
 mod pretty;
 
 use crate::answer::{FileFailure, FileReport, Outcome, answer_source};
-use crate::cargo::{CargoFailure, ManifestFile, manifest_path, read_manifest};
+use crate::cargo::{CargoFailure, manifest_path};
 use crate::crate_files::SourceFile;
 use crate::options::{Form, OptionFault, Options, command, is_root, options_of};
+use crate::packages::{PackageSet, crates_under, packages_of};
 use abi_rust::known_triples;
 use serde_json::Value;
 use std::alloc::AllocError;
+use std::collections::HashSet;
 use std::process::ExitCode;
 use std::{env, fs, io};
 
@@ -184,6 +191,8 @@ struct SourceName<'a> {
     is_root: bool,
     /// The features of its crate that are on.
     features: &'a [&'a str],
+    /// The packages of its crate under each target, where it has a manifest.
+    packages: &'a [PackageSet],
 }
 
 /// Reports on the types of a source.
@@ -209,35 +218,45 @@ fn report_source(
         features: root.features,
         crates: &[],
     };
-    match answer_source(rt, options, file) {
+    match answer_source(rt, options, file, root.packages) {
         Ok(answer) => print_answer(rt, options, progress, name, answer),
         Err(failure) => report_failure(rt, &failure),
     }
 }
 
-/// Reports on the types of a manifest's package.
-fn report_package<'a>(
+/// Writes on standard error what is noted of packages, once for all targets.
+fn print_package_notes(rt: &HostRuntime, sets: &[PackageSet]) -> Result<(), AllocError> {
+    let mut known: HashSet<&str> = HashSet::new(rt.alloc());
+    for set in sets {
+        for note in &set.notes {
+            if known.insert(note.as_str())? {
+                let _ = rt.eprint(note.as_str());
+            }
+        }
+    }
+    Ok(())
+}
+
+/// Reports on the types of the package whose manifest is at this path.
+fn report_package(
     rt: &HostRuntime,
-    options: &'a Options<'a>,
+    options: &Options<'_>,
     progress: &mut Progress,
-    manifest: &'a ManifestFile,
+    path: &str,
 ) -> Result<Outcome, CargoFailure> {
-    let root = manifest.package_root(rt)?;
-    let features = manifest.features(rt.alloc())?;
-    let mut on = manifest.enabled(rt.alloc(), &features, options)?;
-    if on.is_empty() {
-        // (no feature has that name: it says that those that are on are known)
-        on.push("").map_err(AllocError::from)?;
+    let sets = packages_of(rt, options, path)?;
+    print_package_notes(rt, &sets)?;
+    if let Some(package) = crates_under(&sets, 0).first() {
+        let on = package.features_on(rt.alloc())?;
+        let root = SourceName {
+            name: Some(package.root.as_str()),
+            is_root: true,
+            features: on.as_slice(),
+            packages: &sets,
+        };
+        return Ok(report_source(rt, options, progress, root));
     }
-    if manifest.has_build_script(rt)? {
-        let _ = rt.eprintln("types: what the package's build script sets isn't known");
-    }
-    let root = SourceName {
-        name: Some(root.as_str()),
-        is_root: true,
-        features: on.as_slice(),
-    };
-    Ok(report_source(rt, options, progress, root))
+    Ok(Outcome::Reported)
 }
 
 /// Writes on standard error why there is no report on a package.
@@ -251,23 +270,6 @@ fn report_cargo(rt: &HostRuntime, failure: &CargoFailure) -> Outcome {
     }
 }
 
-/// Reports on the types of the package whose manifest is at this path.
-fn report_manifest(
-    rt: &HostRuntime,
-    options: &Options<'_>,
-    progress: &mut Progress,
-    path: String,
-) -> Outcome {
-    let manifest = match read_manifest(rt, path) {
-        Ok(manifest) => manifest,
-        Err(failure) => return report_cargo(rt, &failure),
-    };
-    match report_package(rt, options, progress, &manifest) {
-        Ok(outcome) => outcome,
-        Err(failure) => report_cargo(rt, &failure),
-    }
-}
-
 /// Reports on the types of a file, of a package's folder or manifest, or of standard input.
 fn report_file(
     rt: &HostRuntime,
@@ -277,7 +279,12 @@ fn report_file(
 ) -> Outcome {
     if let Some(named) = name {
         match manifest_path(rt, named) {
-            Ok(Some(path)) => return report_manifest(rt, options, progress, path),
+            Ok(Some(path)) => {
+                return match report_package(rt, options, progress, path.as_str()) {
+                    Ok(outcome) => outcome,
+                    Err(failure) => report_cargo(rt, &failure),
+                };
+            }
             Ok(None) => {}
             Err(_) => return report_memory(rt),
         }
@@ -286,6 +293,7 @@ fn report_file(
         name,
         is_root: options.are_roots || is_root(name),
         features: options.features.as_slice(),
+        packages: &[],
     };
     report_source(rt, options, progress, root)
 }

@@ -39,6 +39,8 @@ pub(crate) struct Options<'a> {
     pub(crate) with_all_features: bool,
     /// What `cfg` finds set beside what a target has.
     pub(crate) cfg_options: Vec<CfgOption<'a>>,
+    /// The folder of vendored packages, where one was named.
+    pub(crate) vendor: Option<&'a str>,
     /// The files, and the folders or manifests of packages, in the order in which they were named; standard input is read
     /// where there is none.
     pub(crate) files: Vec<&'a str>,
@@ -104,6 +106,17 @@ fn manifest_option<'a>(alloc: Global) -> Arg<'a> {
         .action(ArgAction::Append)
         .help(
             "tells of the package of this Cargo.toml, as of a folder that is named: of its library, or else of its binary",
+        )
+}
+
+/// The option that names a folder of vendored packages.
+fn vendor_option<'a>(alloc: Global) -> Arg<'a> {
+    Arg::new(alloc, "vendor")
+        .long("vendor")
+        .value_name("FOLDER")
+        .action(ArgAction::Set)
+        .help(
+            "looks for the packages that others depend on in this folder, as `cargo vendor` makes it",
         )
 }
 
@@ -179,6 +192,7 @@ pub(crate) fn command<'a>(alloc: Global) -> Result<Command<'a>, AllocError> {
         .arg(print_option(alloc))?
         .arg(type_option(alloc))?
         .arg(manifest_option(alloc))?
+        .arg(vendor_option(alloc))?
         .arg(json)?
         .arg(pretty)?
         .arg(map)?
@@ -413,6 +427,7 @@ pub(crate) fn options_of<'a>(
         with_default_features: !matches.get_flag("no-default-features"),
         with_all_features: matches.get_flag("all-features"),
         cfg_options,
+        vendor: matches.get_str("vendor"),
         files,
         are_roots: matches.get_flag("root"),
         is_strict: matches.get_flag("strict"),

@@ -1,0 +1,1 @@
+pub struct Name(pub wire_old::Word, pub u16);

@@ -1,0 +1,1 @@
+pub struct Word(pub [u8; 3]);

@@ -1,0 +1,1 @@
+pub struct Word(pub u16, pub units::Unit);
