@@ -8,10 +8,10 @@ use Rattle.cargo_manifest.specs.Values.{Text, entries_in, items_in}
 use Rattle.cargo_manifest.specs.declared.schema.Rule.{Rule as LentRule}
 use Rattle.cargo_manifest.specs.declared.schema.Step.{Step as LentStep}
 use Rattle.cargo_manifest.specs.declared.schema.Step.TheVariants.{Key, EachKey, EachItem}
-use Rattle.cargo_manifest.specs.declared.schema.ValueKind.{ValueKind}
-use Rattle.cargo_manifest.specs.declared.schema.ValueKind.TheVariants.{String, Boolean, List as ListKind, Table, StringOrTable, Edition, BuildScript}
+use Rattle.cargo_manifest.specs.declared.schema.KeyKind.{KeyKind}
+use Rattle.cargo_manifest.specs.declared.schema.KeyKind.TheVariants.{String, Boolean, List as ListKind, Table, StringOrTable, Edition, BuildScript}
 
-abbrev pub is_of_kind : ValueKind → Data → Bool
+abbrev pub is_of_kind : KeyKind → Data → Bool
 is_of_kind String d = is_some (as_str d)
 is_of_kind Boolean d = is_some (as_bool d)
 is_of_kind ListKind d = is_some (as_array d)
@@ -33,13 +33,13 @@ below each_key d = map (λ e. e.1) (entries_in d)
 below each_item d = items_in d
 
 -- each value that a way leads to is of a kind
-abbrev pub fits : (way : List Step) → ValueKind → Data → Bool
+abbrev pub fits : (way : List Step) → KeyKind → Data → Bool
 fits [] kind d = is_of_kind kind d
 fits (step ∷ way) kind d = list_all (fits way kind) (below step d)
 
 -- a way, and the kind of which the values are that it leads to
 abbrev pub Rule : Type 0
-Rule = List Step × ValueKind
+Rule = List Step × KeyKind
 
 abbrev pub fits_rule : Data → Rule → Bool
 fits_rule d rule = fits rule.0 rule.1 d

@@ -257,7 +257,11 @@ impl<'a> Features<'a> {
     }
 
     /// The features that are asked for, by their names, with `default`, where it's asked for and there, or with all.
-    fn asked(&self, alloc: Global, request: FeatureRequest<'a>) -> Result<Vec<&'a str>, AllocError>
+    fn requested_names(
+        &self,
+        alloc: Global,
+        request: FeatureRequest<'a>,
+    ) -> Result<Vec<&'a str>, AllocError>
         ensures { IfOk result (λ all. texts all.items ≡ asked_features request.entry (texts self.now.names.items)) }
     {
         if request.with_all {
@@ -283,7 +287,7 @@ impl<'a> Features<'a> {
         ensures unknown { IfErr result (IsUnknown (map link_view self.now.links.items)
             (asked_features request.entry (texts self.now.names.items)) (texts self.now.names.items)) }
     {
-        let asked = self.asked(alloc, request)?;
+        let asked = self.requested_names(alloc, request)?;
         let on = enabled(alloc, &self.links, asked)?;
         match first_other(&on, &self.names) {
             Some(name) => Err(FeatureError::UnknownFeature(name)),

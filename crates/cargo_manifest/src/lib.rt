@@ -26,4 +26,4 @@ pub use enabled::Link;
 pub use entry::Switch;
 pub use features::{FeatureError, FeatureRequest, Features};
 pub use manifest::{BinaryTarget, Manifest, ManifestError};
-pub use schema::ValueKind;
+pub use schema::KeyKind;

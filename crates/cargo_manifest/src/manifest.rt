@@ -12,7 +12,7 @@ ghost use Rattle.cargo_manifest.specs.Values.{entries_at, entry_view, texts};
 
 use crate::dependency::{Dependency, put_dependencies};
 use crate::edition::{Edition, edition_said};
-use crate::schema::{ValueKind, WrongType, first_wrong};
+use crate::schema::{KeyKind, WrongType, first_wrong};
 use crate::values::{entries_at, is_true_at, items, string_at, strings_at};
 use std::alloc::{AllocError, Global};
 use std::fmt;
@@ -26,7 +26,7 @@ pub enum ManifestError {
     /// It isn't TOML; the error has the place.
     Toml(toml::de::Error),
     /// A key, by its name, hasn't what it has to have.
-    WrongType(String, ValueKind),
+    WrongType(String, KeyKind),
 }
 
 impl From<AllocError> for ManifestError {

@@ -16,7 +16,7 @@ use toml::Value;
 
 /// What a key of a manifest has to have.
 #[derive(Clone, Copy, PartialEq, Eq, Debug)]
-pub enum ValueKind {
+pub enum KeyKind {
     String,
     Boolean,
     List,
@@ -29,16 +29,16 @@ pub enum ValueKind {
     BuildScript,
 }
 
-impl fmt::Display for ValueKind {
+impl fmt::Display for KeyKind {
     fn fmt<W: fmt::Write>(&self, f: &mut fmt::Formatter<W>) -> fmt::Result {
         f.write_str(match self {
-            ValueKind::String => "a string",
-            ValueKind::Boolean => "a boolean",
-            ValueKind::List => "a list",
-            ValueKind::Table => "a table",
-            ValueKind::StringOrTable => "a string or a table",
-            ValueKind::Edition => "the name of an edition",
-            ValueKind::BuildScript => "a string, a boolean or a list",
+            KeyKind::String => "a string",
+            KeyKind::Boolean => "a boolean",
+            KeyKind::List => "a list",
+            KeyKind::Table => "a table",
+            KeyKind::StringOrTable => "a string or a table",
+            KeyKind::Edition => "the name of an edition",
+            KeyKind::BuildScript => "a string, a boolean or a list",
         })
     }
 }
@@ -58,90 +58,90 @@ enum Step {
 #[derive(Clone, Copy)]
 struct Rule {
     way: &'static [Step],
-    kind: ValueKind,
+    kind: KeyKind,
 }
 
 /// What is asked of a manifest. A key that no rule names may have anything (Cargo warns of some).
 static RULES: [Rule; 66] = [
     Rule {
         way: &[Step::Key("package")],
-        kind: ValueKind::Table,
+        kind: KeyKind::Table,
     },
     Rule {
         way: &[Step::Key("package"), Step::Key("name")],
-        kind: ValueKind::String,
+        kind: KeyKind::String,
     },
     Rule {
         way: &[Step::Key("package"), Step::Key("version")],
-        kind: ValueKind::StringOrTable,
+        kind: KeyKind::StringOrTable,
     },
     Rule {
         way: &[Step::Key("package"), Step::Key("workspace")],
-        kind: ValueKind::String,
+        kind: KeyKind::String,
     },
     Rule {
         way: &[Step::Key("package"), Step::Key("edition")],
-        kind: ValueKind::Edition,
+        kind: KeyKind::Edition,
     },
     Rule {
         way: &[Step::Key("package"), Step::Key("build")],
-        kind: ValueKind::BuildScript,
+        kind: KeyKind::BuildScript,
     },
     Rule {
         way: &[Step::Key("lib")],
-        kind: ValueKind::Table,
+        kind: KeyKind::Table,
     },
     Rule {
         way: &[Step::Key("lib"), Step::Key("path")],
-        kind: ValueKind::String,
+        kind: KeyKind::String,
     },
     Rule {
         way: &[Step::Key("lib"), Step::Key("name")],
-        kind: ValueKind::String,
+        kind: KeyKind::String,
     },
     Rule {
         way: &[Step::Key("lib"), Step::Key("proc-macro")],
-        kind: ValueKind::Boolean,
+        kind: KeyKind::Boolean,
     },
     Rule {
         way: &[Step::Key("lib"), Step::Key("proc_macro")],
-        kind: ValueKind::Boolean,
+        kind: KeyKind::Boolean,
     },
     Rule {
         way: &[Step::Key("bin")],
-        kind: ValueKind::List,
+        kind: KeyKind::List,
     },
     Rule {
         way: &[Step::Key("bin"), Step::EachItem],
-        kind: ValueKind::Table,
+        kind: KeyKind::Table,
     },
     Rule {
         way: &[Step::Key("bin"), Step::EachItem, Step::Key("path")],
-        kind: ValueKind::String,
+        kind: KeyKind::String,
     },
     Rule {
         way: &[Step::Key("bin"), Step::EachItem, Step::Key("name")],
-        kind: ValueKind::String,
+        kind: KeyKind::String,
     },
     Rule {
         way: &[Step::Key("features")],
-        kind: ValueKind::Table,
+        kind: KeyKind::Table,
     },
     Rule {
         way: &[Step::Key("features"), Step::EachKey],
-        kind: ValueKind::List,
+        kind: KeyKind::List,
     },
     Rule {
         way: &[Step::Key("features"), Step::EachKey, Step::EachItem],
-        kind: ValueKind::String,
+        kind: KeyKind::String,
     },
     Rule {
         way: &[Step::Key("dependencies")],
-        kind: ValueKind::Table,
+        kind: KeyKind::Table,
     },
     Rule {
         way: &[Step::Key("dependencies"), Step::EachKey],
-        kind: ValueKind::StringOrTable,
+        kind: KeyKind::StringOrTable,
     },
     Rule {
         way: &[
@@ -149,11 +149,11 @@ static RULES: [Rule; 66] = [
             Step::EachKey,
             Step::Key("package"),
         ],
-        kind: ValueKind::String,
+        kind: KeyKind::String,
     },
     Rule {
         way: &[Step::Key("dependencies"), Step::EachKey, Step::Key("path")],
-        kind: ValueKind::String,
+        kind: KeyKind::String,
     },
     Rule {
         way: &[
@@ -161,7 +161,7 @@ static RULES: [Rule; 66] = [
             Step::EachKey,
             Step::Key("version"),
         ],
-        kind: ValueKind::String,
+        kind: KeyKind::String,
     },
     Rule {
         way: &[
@@ -169,7 +169,7 @@ static RULES: [Rule; 66] = [
             Step::EachKey,
             Step::Key("optional"),
         ],
-        kind: ValueKind::Boolean,
+        kind: KeyKind::Boolean,
     },
     Rule {
         way: &[
@@ -177,7 +177,7 @@ static RULES: [Rule; 66] = [
             Step::EachKey,
             Step::Key("default-features"),
         ],
-        kind: ValueKind::Boolean,
+        kind: KeyKind::Boolean,
     },
     Rule {
         way: &[
@@ -185,7 +185,7 @@ static RULES: [Rule; 66] = [
             Step::EachKey,
             Step::Key("default_features"),
         ],
-        kind: ValueKind::Boolean,
+        kind: KeyKind::Boolean,
     },
     Rule {
         way: &[
@@ -193,7 +193,7 @@ static RULES: [Rule; 66] = [
             Step::EachKey,
             Step::Key("workspace"),
         ],
-        kind: ValueKind::Boolean,
+        kind: KeyKind::Boolean,
     },
     Rule {
         way: &[
@@ -201,7 +201,7 @@ static RULES: [Rule; 66] = [
             Step::EachKey,
             Step::Key("features"),
         ],
-        kind: ValueKind::List,
+        kind: KeyKind::List,
     },
     Rule {
         way: &[
@@ -210,15 +210,15 @@ static RULES: [Rule; 66] = [
             Step::Key("features"),
             Step::EachItem,
         ],
-        kind: ValueKind::String,
+        kind: KeyKind::String,
     },
     Rule {
         way: &[Step::Key("build-dependencies")],
-        kind: ValueKind::Table,
+        kind: KeyKind::Table,
     },
     Rule {
         way: &[Step::Key("build-dependencies"), Step::EachKey],
-        kind: ValueKind::StringOrTable,
+        kind: KeyKind::StringOrTable,
     },
     Rule {
         way: &[
@@ -226,15 +226,15 @@ static RULES: [Rule; 66] = [
             Step::EachKey,
             Step::Key("optional"),
         ],
-        kind: ValueKind::Boolean,
+        kind: KeyKind::Boolean,
     },
     Rule {
         way: &[Step::Key("target")],
-        kind: ValueKind::Table,
+        kind: KeyKind::Table,
     },
     Rule {
         way: &[Step::Key("target"), Step::EachKey],
-        kind: ValueKind::Table,
+        kind: KeyKind::Table,
     },
     Rule {
         way: &[
@@ -242,7 +242,7 @@ static RULES: [Rule; 66] = [
             Step::EachKey,
             Step::Key("dependencies"),
         ],
-        kind: ValueKind::Table,
+        kind: KeyKind::Table,
     },
     Rule {
         way: &[
@@ -251,7 +251,7 @@ static RULES: [Rule; 66] = [
             Step::Key("dependencies"),
             Step::EachKey,
         ],
-        kind: ValueKind::StringOrTable,
+        kind: KeyKind::StringOrTable,
     },
     Rule {
         way: &[
@@ -261,7 +261,7 @@ static RULES: [Rule; 66] = [
             Step::EachKey,
             Step::Key("package"),
         ],
-        kind: ValueKind::String,
+        kind: KeyKind::String,
     },
     Rule {
         way: &[
@@ -271,7 +271,7 @@ static RULES: [Rule; 66] = [
             Step::EachKey,
             Step::Key("path"),
         ],
-        kind: ValueKind::String,
+        kind: KeyKind::String,
     },
     Rule {
         way: &[
@@ -281,7 +281,7 @@ static RULES: [Rule; 66] = [
             Step::EachKey,
             Step::Key("version"),
         ],
-        kind: ValueKind::String,
+        kind: KeyKind::String,
     },
     Rule {
         way: &[
@@ -291,7 +291,7 @@ static RULES: [Rule; 66] = [
             Step::EachKey,
             Step::Key("optional"),
         ],
-        kind: ValueKind::Boolean,
+        kind: KeyKind::Boolean,
     },
     Rule {
         way: &[
@@ -301,7 +301,7 @@ static RULES: [Rule; 66] = [
             Step::EachKey,
             Step::Key("default-features"),
         ],
-        kind: ValueKind::Boolean,
+        kind: KeyKind::Boolean,
     },
     Rule {
         way: &[
@@ -311,7 +311,7 @@ static RULES: [Rule; 66] = [
             Step::EachKey,
             Step::Key("default_features"),
         ],
-        kind: ValueKind::Boolean,
+        kind: KeyKind::Boolean,
     },
     Rule {
         way: &[
@@ -321,7 +321,7 @@ static RULES: [Rule; 66] = [
             Step::EachKey,
             Step::Key("workspace"),
         ],
-        kind: ValueKind::Boolean,
+        kind: KeyKind::Boolean,
     },
     Rule {
         way: &[
@@ -331,7 +331,7 @@ static RULES: [Rule; 66] = [
             Step::EachKey,
             Step::Key("features"),
         ],
-        kind: ValueKind::List,
+        kind: KeyKind::List,
     },
     Rule {
         way: &[
@@ -342,7 +342,7 @@ static RULES: [Rule; 66] = [
             Step::Key("features"),
             Step::EachItem,
         ],
-        kind: ValueKind::String,
+        kind: KeyKind::String,
     },
     Rule {
         way: &[
@@ -350,7 +350,7 @@ static RULES: [Rule; 66] = [
             Step::EachKey,
             Step::Key("build-dependencies"),
         ],
-        kind: ValueKind::Table,
+        kind: KeyKind::Table,
     },
     Rule {
         way: &[
@@ -359,7 +359,7 @@ static RULES: [Rule; 66] = [
             Step::Key("build-dependencies"),
             Step::EachKey,
         ],
-        kind: ValueKind::StringOrTable,
+        kind: KeyKind::StringOrTable,
     },
     Rule {
         way: &[
@@ -369,31 +369,31 @@ static RULES: [Rule; 66] = [
             Step::EachKey,
             Step::Key("optional"),
         ],
-        kind: ValueKind::Boolean,
+        kind: KeyKind::Boolean,
     },
     Rule {
         way: &[Step::Key("workspace")],
-        kind: ValueKind::Table,
+        kind: KeyKind::Table,
     },
     Rule {
         way: &[Step::Key("workspace"), Step::Key("members")],
-        kind: ValueKind::List,
+        kind: KeyKind::List,
     },
     Rule {
         way: &[Step::Key("workspace"), Step::Key("members"), Step::EachItem],
-        kind: ValueKind::String,
+        kind: KeyKind::String,
     },
     Rule {
         way: &[Step::Key("workspace"), Step::Key("exclude")],
-        kind: ValueKind::List,
+        kind: KeyKind::List,
     },
     Rule {
         way: &[Step::Key("workspace"), Step::Key("exclude"), Step::EachItem],
-        kind: ValueKind::String,
+        kind: KeyKind::String,
     },
     Rule {
         way: &[Step::Key("workspace"), Step::Key("package")],
-        kind: ValueKind::Table,
+        kind: KeyKind::Table,
     },
     Rule {
         way: &[
@@ -401,11 +401,11 @@ static RULES: [Rule; 66] = [
             Step::Key("package"),
             Step::Key("edition"),
         ],
-        kind: ValueKind::Edition,
+        kind: KeyKind::Edition,
     },
     Rule {
         way: &[Step::Key("workspace"), Step::Key("dependencies")],
-        kind: ValueKind::Table,
+        kind: KeyKind::Table,
     },
     Rule {
         way: &[
@@ -413,7 +413,7 @@ static RULES: [Rule; 66] = [
             Step::Key("dependencies"),
             Step::EachKey,
         ],
-        kind: ValueKind::StringOrTable,
+        kind: KeyKind::StringOrTable,
     },
     Rule {
         way: &[
@@ -422,7 +422,7 @@ static RULES: [Rule; 66] = [
             Step::EachKey,
             Step::Key("package"),
         ],
-        kind: ValueKind::String,
+        kind: KeyKind::String,
     },
     Rule {
         way: &[
@@ -431,7 +431,7 @@ static RULES: [Rule; 66] = [
             Step::EachKey,
             Step::Key("path"),
         ],
-        kind: ValueKind::String,
+        kind: KeyKind::String,
     },
     Rule {
         way: &[
@@ -440,7 +440,7 @@ static RULES: [Rule; 66] = [
             Step::EachKey,
             Step::Key("version"),
         ],
-        kind: ValueKind::String,
+        kind: KeyKind::String,
     },
     Rule {
         way: &[
@@ -449,7 +449,7 @@ static RULES: [Rule; 66] = [
             Step::EachKey,
             Step::Key("optional"),
         ],
-        kind: ValueKind::Boolean,
+        kind: KeyKind::Boolean,
     },
     Rule {
         way: &[
@@ -458,7 +458,7 @@ static RULES: [Rule; 66] = [
             Step::EachKey,
             Step::Key("default-features"),
         ],
-        kind: ValueKind::Boolean,
+        kind: KeyKind::Boolean,
     },
     Rule {
         way: &[
@@ -467,7 +467,7 @@ static RULES: [Rule; 66] = [
             Step::EachKey,
             Step::Key("default_features"),
         ],
-        kind: ValueKind::Boolean,
+        kind: KeyKind::Boolean,
     },
     Rule {
         way: &[
@@ -476,7 +476,7 @@ static RULES: [Rule; 66] = [
             Step::EachKey,
             Step::Key("workspace"),
         ],
-        kind: ValueKind::Boolean,
+        kind: KeyKind::Boolean,
     },
     Rule {
         way: &[
@@ -485,7 +485,7 @@ static RULES: [Rule; 66] = [
             Step::EachKey,
             Step::Key("features"),
         ],
-        kind: ValueKind::List,
+        kind: KeyKind::List,
     },
     Rule {
         way: &[
@@ -495,7 +495,7 @@ static RULES: [Rule; 66] = [
             Step::Key("features"),
             Step::EachItem,
         ],
-        kind: ValueKind::String,
+        kind: KeyKind::String,
     },
 ];
 
@@ -510,21 +510,21 @@ fn rules() -> &'static [Rule]
 #[derive(Debug, Drop)]
 pub struct WrongType {
     pub key: String,
-    pub kind: ValueKind,
+    pub kind: KeyKind,
 }
 
 /// Whether a value is of a kind.
-fn is_of_kind(value: &Value, kind: ValueKind) -> bool
+fn is_of_kind(value: &Value, kind: KeyKind) -> bool
     ensures { result ≡ is_of_kind kind (view value.now) }
 {
     match kind {
-        ValueKind::String => value.is_str(),
-        ValueKind::Boolean => value.is_bool(),
-        ValueKind::List => value.is_array(),
-        ValueKind::Table => value.is_table(),
-        ValueKind::StringOrTable => value.is_str() || value.is_table(),
-        ValueKind::Edition => edition_said(value).is_some(),
-        ValueKind::BuildScript => value.is_str() || value.is_bool() || value.is_array(),
+        KeyKind::String => value.is_str(),
+        KeyKind::Boolean => value.is_bool(),
+        KeyKind::List => value.is_array(),
+        KeyKind::Table => value.is_table(),
+        KeyKind::StringOrTable => value.is_str() || value.is_table(),
+        KeyKind::Edition => edition_said(value).is_some(),
+        KeyKind::BuildScript => value.is_str() || value.is_bool() || value.is_array(),
     }
 }
 
@@ -601,7 +601,7 @@ fn wrong_key(
     alloc: Global,
     value: &Value,
     way: &[Step],
-    kind: ValueKind,
+    kind: KeyKind,
 ) -> Result<Option<String>, AllocError>
     ensures { IfOk result (λ wrong. is_some wrong ≡ not (fits (map step_view way.now) kind (view value.now))) }
 {
@@ -622,7 +622,7 @@ fn wrong_among(
     alloc: Global,
     values: &[(&str, &Value)],
     way: &[Step],
-    kind: ValueKind,
+    kind: KeyKind,
 ) -> Result<Option<String>, AllocError>
     ensures { IfOk result (λ wrong. is_some wrong ≡ not (list_all (fits (map step_view way.now) kind) (map (λ e. view e.1.now) values.now))) }
 {

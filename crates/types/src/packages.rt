@@ -3,7 +3,9 @@
 
 use crate::cargo::{CargoFailure, ManifestFile, fault_of, read_manifest};
 use crate::options::Options;
-use crate::requests::{PackageManifests, PackagePlace, Request, Requests, requests_of, texts_of};
+use crate::requests::{
+    DependencyRequest, PackageManifests, PackagePlace, Requests, requests_of, texts_of,
+};
 use crate::vendored::Vendored;
 use abi_rust::Target;
 use cargo_manifest::FeatureRequest;
@@ -49,7 +51,7 @@ pub(crate) struct PackageSet {
 
 /// A dependency whose package was looked for.
 #[derive(Drop)]
-struct Link {
+struct DependencyLink {
     /// Its name in the manifest.
     name: String,
     /// What the package's sources call its crate.
@@ -75,7 +77,7 @@ struct Package {
     waits: bool,
     /// The features that are on.
     on: Vec<String>,
-    links: Vec<Link>,
+    links: Vec<DependencyLink>,
 }
 
 /// By what packages are found.
@@ -132,7 +134,7 @@ fn lent_texts(alloc: Global, texts: &[String]) -> Result<Vec<&str>, AllocError> 
 
 impl Package {
     /// Reads the package whose manifest is at this path. Nothing is asked of it yet.
-    fn read(rt: &HostRuntime, path: String, key: String) -> Result<Package, CargoFailure> {
+    fn read_from(rt: &HostRuntime, path: String, key: String) -> Result<Package, CargoFailure> {
         let alloc = rt.alloc();
         let own = read_manifest(rt, path)?;
         let workspace = workspace_of(rt, &own)?;
@@ -164,7 +166,7 @@ impl Package {
     }
 
     /// Asks for what another package does, and answers whether that is more than was asked before.
-    fn ask(&mut self, alloc: Global, request: &Request) -> Result<bool, AllocError> {
+    fn ask(&mut self, alloc: Global, request: &DependencyRequest) -> Result<bool, AllocError> {
         let mut is_more = request.with_default && !self.with_default;
         self.with_default = self.with_default || request.with_default;
         for feature in &request.features {
@@ -192,7 +194,7 @@ impl Package {
     }
 
     /// The package of the dependency with this name in the manifest, where that was looked for.
-    fn link(&self, name: &str) -> Option<&Link> {
+    fn link(&self, name: &str) -> Option<&DependencyLink> {
         for link in &self.links {
             if link.name.as_str() == name {
                 return Some(link);
@@ -249,7 +251,7 @@ impl Packages {
     }
 
     /// Puts a package behind the others, which waits, and answers its number.
-    fn put(&mut self, package: Package) -> Result<usize, AllocError> {
+    fn put_package(&mut self, package: Package) -> Result<usize, AllocError> {
         let number = self.all.len();
         self.all.push(package)?;
         self.waiting.push(number)?;
@@ -267,14 +269,14 @@ impl Packages {
             Some(key) => key,
             None => String::new(self.alloc),
         };
-        let mut package = Package::read(rt, String::from_str(self.alloc, path)?, key)?;
+        let mut package = Package::read_from(rt, String::from_str(self.alloc, path)?, key)?;
         package.root = package.own.package_root(rt)?;
         package.ask_options(self.alloc, options)?;
         if package.own.has_build_script(rt)? {
             let text = "types: what the package's build script sets isn't known\n";
             self.note(String::from_str(self.alloc, text)?)?;
         }
-        let _ = self.put(package)?;
+        let _ = self.put_package(package)?;
         Ok(())
     }
 
@@ -295,7 +297,11 @@ impl Packages {
     }
 
     /// Notes that a package isn't there.
-    fn note_missing(&mut self, number: usize, request: &Request) -> Result<(), AllocError> {
+    fn note_missing(
+        &mut self,
+        number: usize,
+        request: &DependencyRequest,
+    ) -> Result<(), AllocError> {
         let by = match self.all.get(number) {
             Some(package) => package.name(),
             None => "",
@@ -326,7 +332,7 @@ impl Packages {
             let text = format!(in self.alloc; "more than {MOST_PACKAGES} packages")?;
             return Err(fault_of(self.alloc, path.as_str(), text.as_str()));
         }
-        let mut package = match Package::read(rt, path, key) {
+        let mut package = match Package::read_from(rt, path, key) {
             Ok(package) => package,
             Err(CargoFailure::OutOfMemory) => return Err(CargoFailure::OutOfMemory),
             Err(CargoFailure::Stopped(_, text)) => {
@@ -345,14 +351,14 @@ impl Packages {
             let name = String::from_str(self.alloc, package.name())?;
             self.scripts.push(name).map_err(AllocError::from)?;
         }
-        Ok(Some(self.put(package)?))
+        Ok(Some(self.put_package(package)?))
     }
 
     /// The path of the manifest of a dependency's package. None where that isn't there.
     fn path_of(
         &self,
         cx: PackageContext<'_>,
-        request: &Request,
+        request: &DependencyRequest,
     ) -> Result<Option<String>, AllocError> {
         match &request.place {
             PackagePlace::Path(path) => { Ok(Some(String::from_str(self.alloc, path.as_str())?)) }
@@ -369,7 +375,7 @@ impl Packages {
         &mut self,
         cx: PackageContext<'_>,
         number: usize,
-        request: &Request,
+        request: &DependencyRequest,
     ) -> Result<Option<usize>, CargoFailure> {
         if request.is_of_c() {
             return Ok(None);
@@ -387,7 +393,11 @@ impl Packages {
     }
 
     /// What a package's sources call the crate of a dependency.
-    fn known_name(&self, found: Option<usize>, request: &Request) -> Result<String, AllocError> {
+    fn known_name(
+        &self,
+        found: Option<usize>,
+        request: &DependencyRequest,
+    ) -> Result<String, AllocError> {
         let mut name = request.name.as_str();
         if !request.is_renamed() {
             if let Some(number) = found {
@@ -404,7 +414,7 @@ impl Packages {
         &mut self,
         cx: PackageContext<'_>,
         number: usize,
-        request: &Request,
+        request: &DependencyRequest,
     ) -> Result<Option<usize>, CargoFailure> {
         if let Some(package) = self.all.get(number) {
             if let Some(link) = package.link(request.name.as_str()) {
@@ -412,7 +422,7 @@ impl Packages {
             }
         }
         let found = self.find(cx, number, request)?;
-        let link = Link {
+        let link = DependencyLink {
             name: String::from_str(self.alloc, request.name.as_str())?,
             known: self.known_name(found, request)?,
             package: found,
@@ -424,7 +434,7 @@ impl Packages {
     }
 
     /// Asks a package for what another one does; it waits then, where that is more than before.
-    fn ask(&mut self, number: usize, request: &Request) -> Result<(), AllocError> {
+    fn ask(&mut self, number: usize, request: &DependencyRequest) -> Result<(), AllocError> {
         let Some(package) = self.all.get_mut(number) else {
             return Ok(());
         };
@@ -537,7 +547,7 @@ pub(crate) fn packages_of(
     path: &str,
 ) -> Result<Vec<PackageSet>, CargoFailure> {
     let vendored = match options.vendor {
-        Some(folder) => Vendored::read(rt, folder)?,
+        Some(folder) => Vendored::read_folder(rt, folder)?,
         None => Vendored::new(rt.alloc()),
     };
     let mut sets = Vec::with_capacity(rt.alloc(), options.targets.len())?;

@@ -26,7 +26,7 @@ pub(crate) struct DeclaredType<'a> {
 
 /// The fields of a struct, a union or a variant, in source order.
 #[derive(Clone, Copy)]
-struct FieldList<'a> {
+struct DeclaredFields<'a> {
     labels: &'a [Label],
     /// None where they all lie at 0.
     offsets: &'a [Size],
@@ -77,7 +77,7 @@ fn write_field(
 fn write_fields(
     out: &mut String,
     cx: TypeContext<'_>,
-    fields: FieldList<'_>,
+    fields: DeclaredFields<'_>,
 ) -> Result<(), LayError> {
     if fields.labels.is_empty() {
         return Ok(());
@@ -102,7 +102,7 @@ fn write_struct(
     cx: TypeContext<'_>,
     word: &str,
     name: &str,
-    fields: FieldList<'_>,
+    fields: DeclaredFields<'_>,
 ) -> Result<(), LayError> {
     write!(out, "{word} {name}")?;
     write_fields(out, cx, fields)?;
@@ -127,7 +127,7 @@ fn write_variants(
             write_ranges(out, "    // unused", runs)?;
             out.push_str("    ")?;
             out.push_str(cx.names.text(label.name))?;
-            let fields = FieldList {
+            let fields = DeclaredFields {
                 labels: &label.fields,
                 offsets: variant_offsets(laid, index),
                 trees,
@@ -177,7 +177,7 @@ fn write_declaration(
     let name = ty.name;
     match (ty.shape, ty.tree) {
         (ReportShape::Struct(labels), TypeTree::Struct { fields, .. }) => {
-            let fields = FieldList {
+            let fields = DeclaredFields {
                 labels,
                 offsets: offsets_of(laid.layout()),
                 trees: fields,
@@ -186,7 +186,7 @@ fn write_declaration(
             write_struct(out, cx, "struct", name, fields)
         }
         (ReportShape::Union(labels), TypeTree::Union { fields, .. }) => {
-            let fields = FieldList {
+            let fields = DeclaredFields {
                 labels,
                 offsets: &[],
                 trees: fields,

@@ -19,7 +19,7 @@ pub(crate) enum PackagePlace {
 
 /// A dependency of a package, and what is asked of it.
 #[derive(Drop)]
-pub(crate) struct Request {
+pub(crate) struct DependencyRequest {
     /// Its name in the manifest.
     pub(crate) name: String,
     /// The name of its package.
@@ -34,12 +34,12 @@ pub(crate) struct Request {
 #[derive(Drop)]
 pub(crate) enum Requests {
     /// The features that are on, and the dependencies that are.
-    Of(Vec<String>, Vec<Request>),
+    Of(Vec<String>, Vec<DependencyRequest>),
     /// It has no feature of this name.
     NoFeature(String),
 }
 
-impl Request {
+impl DependencyRequest {
     /// Whether it is the crate of C's names, which sources know without it.
     pub(crate) fn is_of_c(&self) -> bool {
         match self.place {
@@ -105,10 +105,10 @@ fn own_request(
     manifest: &ManifestFile,
     said: Dependency<'_>,
     asked: &[&str],
-) -> Result<Request, AllocError> {
+) -> Result<DependencyRequest, AllocError> {
     let mut features = texts_of(alloc, asked)?;
     put_texts(alloc, &mut features, &said.features(alloc)?)?;
-    Ok(Request {
+    Ok(DependencyRequest {
         name: String::from_str(alloc, said.name())?,
         package: String::from_str(alloc, said.package())?,
         place: place_said(alloc, manifest, said)?,
@@ -124,7 +124,7 @@ fn inherited_request<'a>(
     workspace: Option<&'a ManifestFile>,
     said: Dependency<'_>,
     asked: &[&str],
-) -> Result<Request, AllocError> {
+) -> Result<DependencyRequest, AllocError> {
     let name = said.name();
     if let Some(manifest) = workspace {
         let all = manifest.workspace_dependencies(alloc)?;
@@ -137,7 +137,7 @@ fn inherited_request<'a>(
             return Ok(request);
         }
     }
-    Ok(Request {
+    Ok(DependencyRequest {
         name: String::from_str(alloc, name)?,
         package: String::from_str(alloc, name)?,
         place: PackagePlace::Unsaid,
@@ -170,7 +170,7 @@ fn requests_with<'a>(
     manifests: PackageManifests<'a>,
     features: &Features<'a>,
     on: &[&'a str],
-) -> Result<Vec<Request>, AllocError> {
+) -> Result<Vec<DependencyRequest>, AllocError> {
     let mut requests = Vec::new(alloc);
     let all = manifests.own.dependencies(alloc)?;
     for dependency in &all {

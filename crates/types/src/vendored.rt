@@ -109,7 +109,7 @@ impl Vendored {
     }
 
     /// The folder at this path.
-    pub(crate) fn read(rt: &HostRuntime, path: &str) -> Result<Vendored, CargoFailure> {
+    pub(crate) fn read_folder(rt: &HostRuntime, path: &str) -> Result<Vendored, CargoFailure> {
         let folder = String::from_str(rt.alloc(), path)?;
         match names_in(rt, path) {
             Ok(names) => Ok(Vendored { folder, names }),
