@@ -3,7 +3,7 @@
 ghost use Rattle.abi_text.specs.LaidOut.{IsLaidOut};
 
 use crate::crate_files::{CrateFiles, Search, SourceFile};
-use crate::json::{TypeContext, fault_value, put_text, type_value};
+use crate::json::{FaultSpot, JsonLists, TypeContext, fault_value, put_text, type_value};
 use crate::lines::write_lines;
 use crate::mapped::by_name;
 use crate::notes::{FirstCrate, write_notes};
@@ -54,8 +54,8 @@ pub(crate) struct FileReport {
     pub(crate) outcome: Outcome,
     /// The lines, where the report is lines.
     pub(crate) text: String,
-    /// The types, where the report is JSON.
-    pub(crate) values: Vec<Value>,
+    /// What is listed, where the report is JSON.
+    pub(crate) lists: JsonLists,
     /// Lines for standard error.
     pub(crate) notes: String,
 }
@@ -67,7 +67,7 @@ impl FileReport {
             alloc,
             outcome: Outcome::Reported,
             text: String::new(alloc),
-            values: Vec::new(alloc),
+            lists: JsonLists::new(alloc),
             notes: String::new(alloc),
         }
     }
@@ -159,13 +159,18 @@ fn text_at<'a>(
     options: &Options<'a>,
     files: &'a CrateFiles<'_>,
     at: Spot,
-) -> Option<(&'a str, &'a str, usize)> {
+) -> Option<FaultSpot<'a>> {
     match at {
-        Spot::File(index, byte) => Some((files.name(index), files.text(index), byte as usize)),
-        Spot::Asked(before, byte) => {
-            let written = options.types.get(before).copied().unwrap_or("");
-            Some(("--type", written, byte as usize))
-        }
+        Spot::File(index, byte) => Some(FaultSpot {
+            file: files.name(index),
+            source: files.text(index),
+            byte: byte as usize,
+        }),
+        Spot::Asked(before, byte) => Some(FaultSpot {
+            file: "--type",
+            source: options.types.get(before).copied().unwrap_or(""),
+            byte: byte as usize,
+        }),
         Spot::Nowhere => None,
     }
 }
@@ -179,7 +184,7 @@ fn write_failure(
     text: &str,
 ) -> Result<(), AllocError> {
     match text_at(options, files, at) {
-        Some((name, source, byte)) => write_fault(out, name, source, byte, text),
+        Some(spot) => write_fault(out, spot.file, spot.source, spot.byte, text),
         None => {
             let name = files.name(0);
             Ok(write!(out, "{name}: {text}\n")?)
@@ -469,7 +474,7 @@ impl FileReport {
             }
             Form::Json => {
                 let object = object_of(self.alloc, cx, ty, laid)?;
-                self.values.push(object)?;
+                self.lists.types.push(object)?;
             }
         }
         Ok(())
@@ -482,14 +487,38 @@ impl FileReport {
     }
 
     /// Notes that a type has no size of its own.
-    fn note_unsized(&mut self, name: &str) -> Result<(), SourceFailure> {
-        Ok(write!(
+    fn note_unsized(&mut self, cx: ReportContext<'_>, name: &str) -> Result<(), AllocError> {
+        write!(
             self.notes,
             "types: {name} has no size of its own, and is passed over\n"
-        )?)
+        )?;
+        if cx.options.form == Form::Json {
+            let mut object = Map::new(self.alloc);
+            put_text(self.alloc, &mut object, "name", name)?;
+            put_context(self.alloc, cx, &mut object)?;
+            self.lists.skipped.push(Value::Object(object))?;
+        }
+        Ok(())
     }
 
-    /// Puts a fault that stops a type behind the notes, and among the JSON objects.
+    /// Lists a fault, where the report is JSON.
+    fn list_fault(
+        &mut self,
+        cx: ReportContext<'_>,
+        name: Option<&str>,
+        at: Spot,
+        text: &str,
+    ) -> Result<(), AllocError> {
+        if cx.options.form == Form::Json {
+            let spot = text_at(cx.options, cx.files, at);
+            let mut object = fault_value(self.alloc, name, text, spot)?;
+            put_context(self.alloc, cx, &mut object)?;
+            self.lists.faults.push(Value::Object(object))?;
+        }
+        Ok(())
+    }
+
+    /// Puts a fault that stops a type behind the notes, and lists it.
     fn put_fault(
         &mut self,
         cx: ReportContext<'_>,
@@ -503,16 +532,7 @@ impl FileReport {
             write!(self.notes, " on {triple}")?;
         }
         self.notes.push_str("\n")?;
-        if cx.options.form == Form::Json {
-            let place = match text_at(cx.options, cx.files, at) {
-                Some((_, source, byte)) => Some((source, byte)),
-                None => None,
-            };
-            let mut object = fault_value(self.alloc, name, text, place)?;
-            put_context(self.alloc, cx, &mut object)?;
-            self.values.push(Value::Object(object))?;
-        }
-        Ok(())
+        self.list_fault(cx, Some(name), at, text)
     }
 
     /// Reports what stops a type; where that is to stop all, fails by it.
@@ -544,7 +564,7 @@ impl FileReport {
     ) -> Result<(), SourceFailure> {
         let report = match found {
             Ok(Some(report)) => report,
-            Ok(None) => return self.note_unsized(place.name),
+            Ok(None) => return Ok(self.note_unsized(cx, place.name)?),
             Err(fault) => {
                 let failure = failure_of(self.alloc, sources, &fault, place.own);
                 return self.add_failure(cx, place.name, failure);
@@ -618,6 +638,7 @@ impl FileReport {
             self.outcome = self.outcome.worse_of(Outcome::Faulty);
             write_failure(&mut self.notes, cx.options, cx.files, fault.at, text)?;
             self.notes.push_str("note: so its names aren't known\n")?;
+            self.list_fault(cx, None, fault.at, text)?;
         }
         Ok(())
     }

@@ -1,4 +1,4 @@
-//! A type as JSON.
+//! A type as JSON, and the document of all types (`docs/types.schema.json`).
 
 ghost use Rattle.std.specs.Prelude.{◌<◌};
 ghost use Rattle.abi_tree.specs.Laid.{placed_of};
@@ -295,25 +295,113 @@ fn put_parts(
     Ok(())
 }
 
-/// A type that a fault stops as a JSON object: its name, and the fault's text, with its line and column where it lies in
-/// this text at this byte.
+/// Where a fault lies: what the text is called that it lies in, the text, and the byte of it.
+#[derive(Clone, Copy)]
+pub(crate) struct FaultSpot<'a> {
+    pub(crate) file: &'a str,
+    pub(crate) source: &'a str,
+    pub(crate) byte: usize,
+}
+
+/// A place as a JSON object: its file, line and column.
+fn place_value(alloc: Global, spot: FaultSpot<'_>) -> Result<Value, AllocError> {
+    let found = locate(spot.source, spot.byte);
+    let mut object = Map::new(alloc);
+    put_text(alloc, &mut object, "file", spot.file)?;
+    put_number(alloc, &mut object, "line", found.line as u64)?;
+    put_number(alloc, &mut object, "column", found.column as u64)?;
+    Ok(Value::Object(object))
+}
+
+/// A fault as a JSON object: its text, its place where it has one, and the name of the type that it stops, where it stops
+/// one.
 pub(crate) fn fault_value(
     alloc: Global,
-    name: &str,
+    name: Option<&str>,
     text: &str,
-    place: Option<(&str, usize)>,
+    spot: Option<FaultSpot<'_>>,
 ) -> Result<Map<String, Value>, AllocError> {
-    let mut fault = Map::new(alloc);
-    put_text(alloc, &mut fault, "text", text)?;
-    if let Some((source, byte)) = place {
-        let found = locate(source, byte);
-        put_number(alloc, &mut fault, "line", found.line as u64)?;
-        put_number(alloc, &mut fault, "column", found.column as u64)?;
-    }
     let mut object = Map::new(alloc);
-    put_text(alloc, &mut object, "name", name)?;
-    put_member(alloc, &mut object, "fault", Value::Object(fault))?;
+    if let Some(name) = name {
+        put_text(alloc, &mut object, "name", name)?;
+    }
+    put_text(alloc, &mut object, "text", text)?;
+    if let Some(spot) = spot {
+        put_member(alloc, &mut object, "place", place_value(alloc, spot)?)?;
+    }
     Ok(object)
+}
+
+/// What a JSON document lists.
+#[derive(Drop)]
+pub(crate) struct JsonLists {
+    /// The types that are reported on.
+    pub(crate) types: Vec<Value>,
+    /// Those that are passed over, since they have no size of their own.
+    pub(crate) skipped: Vec<Value>,
+    /// The faults, of types and of files.
+    pub(crate) faults: Vec<Value>,
+}
+
+/// The number of the document's form.
+const VERSION: u64 = 1;
+
+impl JsonLists {
+    /// Nothing yet.
+    pub(crate) fn new(alloc: Global) -> JsonLists {
+        JsonLists {
+            types: Vec::new(alloc),
+            skipped: Vec::new(alloc),
+            faults: Vec::new(alloc),
+        }
+    }
+
+    /// Whether nothing is listed.
+    pub(crate) fn is_empty(&self) -> bool {
+        self.types.is_empty() && self.skipped.is_empty() && self.faults.is_empty()
+    }
+
+    /// Puts others behind these.
+    pub(crate) fn append(&mut self, more: JsonLists) -> Result<(), AllocError> {
+        let JsonLists {
+            types,
+            skipped,
+            faults,
+        } = more;
+        append_values(&mut self.types, types)?;
+        append_values(&mut self.skipped, skipped)?;
+        append_values(&mut self.faults, faults)
+    }
+
+    /// The document, with the target's name where all types are laid out for one.
+    pub(crate) fn into_document(
+        self,
+        alloc: Global,
+        target: Option<&str>,
+    ) -> Result<Value, AllocError> {
+        let JsonLists {
+            types,
+            skipped,
+            faults,
+        } = self;
+        let mut object = Map::new(alloc);
+        put_number(alloc, &mut object, "version", VERSION)?;
+        if let Some(triple) = target {
+            put_text(alloc, &mut object, "target", triple)?;
+        }
+        put_member(alloc, &mut object, "types", Value::Array(types))?;
+        put_member(alloc, &mut object, "skipped", Value::Array(skipped))?;
+        put_member(alloc, &mut object, "faults", Value::Array(faults))?;
+        Ok(Value::Object(object))
+    }
+}
+
+/// Puts values behind others.
+fn append_values(all: &mut Vec<Value>, more: Vec<Value>) -> Result<(), AllocError> {
+    for value in more {
+        all.push(value)?;
+    }
+    Ok(())
 }
 
 /// A type as a JSON object: its name, size and alignment in bytes; and of a type with fields or variants these, the tag,

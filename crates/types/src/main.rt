@@ -28,10 +28,10 @@ mod pretty;
 use crate::answer::{FileFailure, FileReport, Outcome, answer_source};
 use crate::cargo::{CargoFailure, manifest_path};
 use crate::crate_files::SourceFile;
+use crate::json::JsonLists;
 use crate::options::{Form, OptionFault, Options, command, is_root, options_of};
 use crate::packages::{PackageSet, crates_under, packages_of};
 use abi_rust::known_triples;
-use serde_json::Value;
 use std::alloc::AllocError;
 use std::collections::HashSet;
 use std::process::ExitCode;
@@ -104,8 +104,8 @@ fn report_failure(rt: &HostRuntime, failure: &FileFailure) -> Outcome {
 /// What goes on from one file to the next.
 #[derive(Drop)]
 struct Progress {
-    /// The types, where the report is one JSON document of all files.
-    types: Vec<Value>,
+    /// What the JSON document of all files lists, where the report is one.
+    lists: JsonLists,
     /// Whether standard error has the target that none was named for.
     is_target_noted: bool,
 }
@@ -132,7 +132,7 @@ fn print_notes(
     let _ = rt.eprint(notes);
 }
 
-/// Writes the lines of an answer on standard output, or keeps its types for the JSON document; and its notes on standard
+/// Writes the lines of an answer on standard output, or keeps what it lists for the JSON document; and its notes on standard
 /// error.
 fn print_answer(
     rt: &HostRuntime,
@@ -144,7 +144,7 @@ fn print_answer(
     let FileReport {
         outcome,
         text,
-        values,
+        lists,
         notes,
         ..
     } = answer;
@@ -155,17 +155,29 @@ fn print_answer(
             Err(_) => Outcome::Refused,
         };
     }
-    for value in values {
-        if progress.types.push(value).is_err() {
-            return report_memory(rt);
-        }
+    match progress.lists.append(lists) {
+        Ok(()) => outcome,
+        Err(_) => report_memory(rt),
     }
-    outcome
 }
 
-/// Writes the JSON document of these types on standard output.
-fn print_json(rt: &HostRuntime, types: Vec<Value>) -> Outcome {
-    let Ok(text) = Value::Array(types).to_string_pretty(rt.alloc()) else {
+/// The text of the JSON document of these lists.
+fn json_text(
+    rt: &HostRuntime,
+    options: &Options<'_>,
+    lists: JsonLists,
+) -> Result<String, AllocError> {
+    let target = match options.targets.first() {
+        Some(target) if options.targets.len() == 1 => Some(target.triple),
+        _ => None,
+    };
+    let document = lists.into_document(rt.alloc(), target)?;
+    document.to_string_pretty(rt.alloc())
+}
+
+/// Writes the JSON document of these lists on standard output.
+fn print_json(rt: &HostRuntime, options: &Options<'_>, lists: JsonLists) -> Outcome {
+    let Ok(text) = json_text(rt, options, lists) else {
         return report_memory(rt);
     };
     match rt.println(text.as_str()) {
@@ -314,7 +326,7 @@ fn print_targets(rt: &HostRuntime) -> Outcome {
 /// Carries out what the command line asks for, and answers what came of all files.
 fn carry_out(rt: &HostRuntime, options: &Options<'_>) -> Outcome {
     let mut progress = Progress {
-        types: Vec::new(rt.alloc()),
+        lists: JsonLists::new(rt.alloc()),
         is_target_noted: false,
     };
     if options.prints_targets {
@@ -327,8 +339,8 @@ fn carry_out(rt: &HostRuntime, options: &Options<'_>) -> Outcome {
     for name in &options.files {
         outcome = outcome.worse_of(report_file(rt, options, &mut progress, Some(name)));
     }
-    if options.form == Form::Json && (outcome == Outcome::Reported || !progress.types.is_empty()) {
-        outcome = outcome.worse_of(print_json(rt, progress.types));
+    if options.form == Form::Json && (outcome == Outcome::Reported || !progress.lists.is_empty()) {
+        outcome = outcome.worse_of(print_json(rt, options, progress.lists));
     }
     outcome
 }
