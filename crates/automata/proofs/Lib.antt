@@ -2,3 +2,4 @@ pub mod NodesLemmas
 pub mod ReadsLemmas
 pub mod VisitsLemmas
 pub mod NumberLemmas
+pub mod BigNumberLemmas

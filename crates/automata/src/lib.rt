@@ -5,6 +5,7 @@
 //! as a search comes.
 #![tactic(auto)]
 
+mod big_numbers;
 mod cell;
 mod derivative;
 mod end;

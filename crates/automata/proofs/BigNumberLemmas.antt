@@ -1,0 +1,212 @@
+-- Cells that make a number, the greatest byte first.
+use Rattle.std.proofs.Common.{Some, None, ◌≡◌, ◌↔◌, ℕ, zero, suc, ◌+◌, ◌-◌, ◌*◌, ◌/◌, ◌%◌, ◌^◌, ◌<◌, ◌≤◌, List, [], ◌∷◌, length, arith, refl, sym, ap, ◌∙◌, subst, inl, inr, ⊎_elim}
+use Rattle.std.proofs.Math.Nat.{div-div-eq-div-mul, pow-le-pow_right}
+use Rattle.std.proofs.lemmas.Bool.{cases_lt}
+use Rattle.std.proofs.lemmas.Nat.{pow-add}
+use Rattle.std.proofs.lemmas.List.Elements.{All-head, All-tail}
+use Rattle.automata.specs.Cell.{Cell, IsCell, AreCells}
+use Rattle.automata.specs.Formula.{Formula, any, run, either, Reads, Same}
+use Rattle.automata.specs.Nodes.{formula_in}
+use Rattle.automata.specs.Formulas.{Keeps, IsMade}
+use Rattle.automata.specs.Number.{AreBytes, IsBig, MakeBig, StartWithBytes}
+use Rattle.automata.proofs.NodesLemmas.{Keeps-trans, Keeps-at, Keeps-there}
+
+-- one of two first cells
+pub cells_made : (s0 s1 s2 s3 : List Formula) (i j k a b c d next other : ℕ) → other < length s0 → IsMade s0 s1 (run a b (formula_in s0 next)) i → IsMade s1 s2 (run c d (formula_in s1 other)) j →
+    IsMade s2 s3 (either (formula_in s2 i) (formula_in s2 j)) k → IsMade s0 s3 (either (run a b (formula_in s0 next)) (run c d (formula_in s0 other))) k
+cells_made s0 s1 s2 s3 i j k a b c d next other there one two both =
+    let F : Formula = run a b (formula_in s0 next) in
+    let G : Formula = run c d (formula_in s0 other) in
+    let first : Same (formula_in s2 i) F = subst (λ f. Same f F) (sym (Keeps-at s1 s2 two.kept i one.there)) one.same in
+    let second : Same (formula_in s2 j) G = subst (λ f. Same (formula_in s2 j) (run c d f)) (Keeps-at s0 s1 one.kept other there) two.same in
+    record {
+      kept = Keeps-trans s0 s1 s3 one.kept (Keeps-trans s1 s2 s3 two.kept both.kept);
+      there = both.there;
+      same = λ w. (
+        λ h. ⊎_elim (λ x. inl ((first w).0 x)) (λ x. inr ((second w).0 x)) ((both.same w).0 h),
+        λ h. (both.same w).1 (⊎_elim (λ x. inl ((first w).1 x)) (λ x. inr ((second w).1 x)) h),
+      );
+    }
+
+-- ---- bytes
+
+pub no_bytes : (fs0 fs1 : List Formula) (i : ℕ) → IsMade fs0 fs1 any i → AreBytes fs0 fs1 0 i
+no_bytes fs0 fs1 i made = record {
+  kept = made.kept;
+  there = made.there;
+  reads = λ w all. (λ h. tt, λ h. (made.same w).1 tt);
+}
+
+run_bytes : (f : Formula) (n : ℕ) → ((w : List Cell) → AreCells w → (Reads f w ↔ StartWithBytes n w)) → (w : List Cell) → AreCells w → (Reads (run 0 256 f) w ↔ StartWithBytes (suc n) w)
+run_bytes f n reads [] all = (λ h. h, λ h. h)
+run_bytes f n reads (None ∷ w) all = (λ h. omega (arith, h.0.1), λ h. absurd h)
+run_bytes f n reads (Some b ∷ w) all =
+    let rest : AreCells w = All-tail IsCell (Some b) w all in
+    let byte : b < 256 = All-head IsCell (Some b) w all in
+    (λ h. (reads w rest).0 h.1, λ h. ((omega arith, byte), (reads w rest).1 h))
+
+pub more_bytes : (fs0 fs1 fs2 : List Formula) (n m r i : ℕ) → suc n ≡ m → AreBytes fs0 fs1 n r → IsMade fs1 fs2 (run 0 256 (formula_in fs1 r)) i → AreBytes fs0 fs2 m i
+more_bytes fs0 fs1 fs2 n m r i e rest made =
+    subst (λ k. AreBytes fs0 fs2 k i) e (record {
+      kept = Keeps-trans fs0 fs1 fs2 rest.kept made.kept;
+      there = made.there;
+      reads = λ w all. (
+        λ h. (run_bytes (formula_in fs1 r) n rest.reads w all).0 ((made.same w).0 h),
+        λ h. (made.same w).1 ((run_bytes (formula_in fs1 r) n rest.reads w all).1 h),
+      );
+    })
+
+-- ---- what is left of a number in front of its last n bytes
+
+abbrev front : ℕ → ℕ → ℕ
+front t n = t / 2 ^ (8 * n)
+
+front-zero : (t : ℕ) → front t 0 ≡ t
+front-zero t = let none : 8 * 0 ≡ 0 = omega arith in ap (λ i. t / 2 ^ i) none ∙ omega arith
+
+front-suc : (t n : ℕ) → front t (suc n) ≡ front t n / 256
+front-suc t n =
+    let more : 8 * suc n ≡ 8 * n + 8 = omega arith in
+    ap (λ i. t / 2 ^ i) more ∙ ap (λ m. t / m) (pow-add 2 (8 * n) 8) ∙ sym (div-div-eq-div-mul t (2 ^ (8 * n)) 256)
+
+bytes_of-big : (n m : ℕ) (P : ℕ → Type 0) (w : List Cell) → MakeBig n P m w → StartWithBytes n w
+bytes_of-big zero m P w h = tt
+bytes_of-big (suc n) m P [] h = absurd h
+bytes_of-big (suc n) m P (None ∷ w) h = absurd h
+bytes_of-big (suc n) m P (Some b ∷ w) h = bytes_of-big n (256 * m + b) P w h
+
+-- behind a number below the front all are below
+all_below : (n t m : ℕ) (w : List Cell) → AreCells w → m < front t n → StartWithBytes n w → MakeBig n (λ x. x ≤ t) m w
+all_below zero t m w all lt h = omega (arith, lt, front-zero t)
+all_below (suc n) t m [] all lt h = absurd h
+all_below (suc n) t m (None ∷ w) all lt h = absurd h
+all_below (suc n) t m (Some b ∷ w) all lt h =
+    let byte : b < 256 = All-head IsCell (Some b) w all in
+    let e : front t (suc n) ≡ front t n / 256 = front-suc t n in
+    all_below n t (256 * m + b) w (All-tail IsCell (Some b) w all) (omega (arith, lt, e, byte)) h
+
+-- and none is from it on
+none_from : (n t m : ℕ) (w : List Cell) → AreCells w → m < front t n → MakeBig n (λ x. t ≤ x) m w → ⊥
+none_from zero t m w all lt h = omega (arith, lt, h, front-zero t)
+none_from (suc n) t m [] all lt h = h
+none_from (suc n) t m (None ∷ w) all lt h = h
+none_from (suc n) t m (Some b ∷ w) all lt h =
+    let byte : b < 256 = All-head IsCell (Some b) w all in
+    let e : front t (suc n) ≡ front t n / 256 = front-suc t n in
+    none_from n t (256 * m + b) w (All-tail IsCell (Some b) w all) (omega (arith, lt, e, byte)) h
+
+-- behind a number above the front none is below
+none_below : (n t m : ℕ) (w : List Cell) → AreCells w → front t n < m → MakeBig n (λ x. x ≤ t) m w → ⊥
+none_below zero t m w all lt h = omega (arith, lt, h, front-zero t)
+none_below (suc n) t m [] all lt h = h
+none_below (suc n) t m (None ∷ w) all lt h = h
+none_below (suc n) t m (Some b ∷ w) all lt h =
+    let byte : b < 256 = All-head IsCell (Some b) w all in
+    let e : front t (suc n) ≡ front t n / 256 = front-suc t n in
+    none_below n t (256 * m + b) w (All-tail IsCell (Some b) w all) (omega (arith, lt, e, byte)) h
+
+-- and all are above
+all_from : (n t m : ℕ) (w : List Cell) → AreCells w → front t n < m → StartWithBytes n w → MakeBig n (λ x. t ≤ x) m w
+all_from zero t m w all lt h = omega (arith, lt, front-zero t)
+all_from (suc n) t m [] all lt h = absurd h
+all_from (suc n) t m (None ∷ w) all lt h = absurd h
+all_from (suc n) t m (Some b ∷ w) all lt h =
+    let byte : b < 256 = All-head IsCell (Some b) w all in
+    let e : front t (suc n) ≡ front t n / 256 = front-suc t n in
+    all_from n t (256 * m + b) w (All-tail IsCell (Some b) w all) (omega (arith, lt, e, byte)) h
+
+module _ (n t d q p : ℕ) (bytes rest : Formula) (is_front : q ≡ front t n) (is_digit : d ≡ q % 256) (is_before : p ≡ q / 256)
+    (reads_bytes : (w : List Cell) → AreCells w → (Reads bytes w ↔ StartWithBytes n w)) where
+  byte_there : (w : List Cell) (b : ℕ) → AreCells (Some b ∷ w) → b < 256
+  byte_there w b all = All-head IsCell (Some b) w all
+
+  up_to_cell : ((w : List Cell) → AreCells w → (Reads rest w ↔ MakeBig n (λ x. x ≤ t) q w)) →
+      (w : List Cell) → AreCells w → (Reads (either (run 0 d bytes) (run d (d + 1) rest)) w ↔ MakeBig (suc n) (λ x. x ≤ t) p w)
+  up_to_cell reads [] all = (λ h. ⊎_elim (λ x. x) (λ x. x) h, λ h. absurd h)
+  up_to_cell reads (None ∷ w) all = (λ h. ⊎_elim (λ x. omega (arith, x.0.1)) (λ x. omega (arith, x.0.1)) h, λ h. absurd h)
+  up_to_cell reads (Some b ∷ w) all =
+      let tail : AreCells w = All-tail IsCell (Some b) w all in
+      let byte : b < 256 = byte_there w b all in
+      let here : (b ≡ d) → 256 * p + b ≡ q = λ e. omega (arith, e) in (
+        λ h. ⊎_elim
+            (λ x. all_below n t (256 * p + b) w tail (omega (arith, x.0.1)) ((reads_bytes w tail).0 x.1))
+            (λ x. subst (λ m. MakeBig n (λ x. x ≤ t) m w) (sym (here (omega (arith, x.0.0, x.0.1)))) ((reads w tail).0 x.1))
+            h,
+        λ h. ⊎_elim
+            (λ lt. inl ((omega arith, lt), (reads_bytes w tail).1 (bytes_of-big n (256 * p + b) (λ x. x ≤ t) w h)))
+            (λ le. ⊎_elim
+            (λ over. absurd (none_below n t (256 * p + b) w tail (omega (arith, over)) h))
+            (λ under. inr ((le, omega (arith, under)), (reads w tail).1 (subst (λ m. MakeBig n (λ x. x ≤ t) m w) (here (omega (arith, le, under))) h)))
+            (cases_lt d b))
+            (cases_lt b d),
+      )
+
+  from_cell : ((w : List Cell) → AreCells w → (Reads rest w ↔ MakeBig n (λ x. t ≤ x) q w)) →
+      (w : List Cell) → AreCells w → (Reads (either (run d (d + 1) rest) (run (d + 1) 256 bytes)) w ↔ MakeBig (suc n) (λ x. t ≤ x) p w)
+  from_cell reads [] all = (λ h. ⊎_elim (λ x. x) (λ x. x) h, λ h. absurd h)
+  from_cell reads (None ∷ w) all = (λ h. ⊎_elim (λ x. omega (arith, x.0.1)) (λ x. omega (arith, x.0.1)) h, λ h. absurd h)
+  from_cell reads (Some b ∷ w) all =
+      let tail : AreCells w = All-tail IsCell (Some b) w all in
+      let byte : b < 256 = byte_there w b all in
+      let here : (b ≡ d) → 256 * p + b ≡ q = λ e. omega (arith, e) in (
+        λ h. ⊎_elim
+            (λ x. subst (λ m. MakeBig n (λ x. t ≤ x) m w) (sym (here (omega (arith, x.0.0, x.0.1)))) ((reads w tail).0 x.1))
+            (λ x. all_from n t (256 * p + b) w tail (omega (arith, x.0.0)) ((reads_bytes w tail).0 x.1))
+            h,
+        λ h. ⊎_elim
+            (λ lt. absurd (none_from n t (256 * p + b) w tail (omega (arith, lt)) h))
+            (λ le. ⊎_elim
+            (λ over. inr ((omega (arith, over), byte), (reads_bytes w tail).1 (bytes_of-big n (256 * p + b) (λ x. t ≤ x) w h)))
+            (λ under. inl ((le, omega (arith, under)), (reads w tail).1 (subst (λ m. MakeBig n (λ x. t ≤ x) m w) (here (omega (arith, le, under))) h)))
+            (cases_lt d b))
+            (cases_lt b d),
+      )
+
+-- ---- the formulas
+
+module _ (fs0 fs1 fs2 fs3 : List Formula) (n w t d r b i : ℕ) (long : suc n ≡ w) (digit : d ≡ t / 2 ^ (8 * n) % 256) (bytes : AreBytes fs1 fs2 n b) where
+  before : front t n / 256 ≡ t / 2 ^ (8 * w)
+  before = sym (front-suc t n) ∙ ap (λ k. t / 2 ^ (8 * k)) long
+
+  rest_reads : (P : ℕ → Type 0) → IsBig fs0 fs1 n P (front t n) r → (w : List Cell) → AreCells w → (Reads (formula_in fs2 r) w ↔ MakeBig n P (front t n) w)
+  rest_reads P rest = subst (λ f. (w : List Cell) → AreCells w → (Reads f w ↔ MakeBig n P (front t n) w)) (sym (Keeps-at fs1 fs2 bytes.kept r rest.there)) rest.reads
+
+  pub up_to_more : IsBig fs0 fs1 n (λ m. m ≤ t) (t / 2 ^ (8 * n)) r →
+      IsMade fs2 fs3 (either (run 0 d (formula_in fs2 b)) (run d (d + 1) (formula_in fs2 r))) i → IsBig fs0 fs3 w (λ m. m ≤ t) (t / 2 ^ (8 * w)) i
+  up_to_more rest made =
+      let step = up_to_cell n t d (front t n) (front t n / 256) (formula_in fs2 b) (formula_in fs2 r) refl digit refl bytes.reads (rest_reads (λ m. m ≤ t) rest) in
+      subst (λ k. IsBig fs0 fs3 k (λ m. m ≤ t) (t / 2 ^ (8 * w)) i) long
+      (subst (λ p. IsBig fs0 fs3 (suc n) (λ m. m ≤ t) p i) before (record {
+        kept = Keeps-trans fs0 fs1 fs3 rest.kept (Keeps-trans fs1 fs2 fs3 bytes.kept made.kept);
+        there = made.there;
+        reads = λ v all. (λ h. (step v all).0 ((made.same v).0 h), λ h. (made.same v).1 ((step v all).1 h));
+      }))
+
+  pub from_more : IsBig fs0 fs1 n (λ m. t ≤ m) (t / 2 ^ (8 * n)) r →
+      IsMade fs2 fs3 (either (run d (d + 1) (formula_in fs2 r)) (run (d + 1) 256 (formula_in fs2 b))) i → IsBig fs0 fs3 w (λ m. t ≤ m) (t / 2 ^ (8 * w)) i
+  from_more rest made =
+      let step = from_cell n t d (front t n) (front t n / 256) (formula_in fs2 b) (formula_in fs2 r) refl digit refl bytes.reads (rest_reads (λ m. t ≤ m) rest) in
+      subst (λ k. IsBig fs0 fs3 k (λ m. t ≤ m) (t / 2 ^ (8 * w)) i) long
+      (subst (λ p. IsBig fs0 fs3 (suc n) (λ m. t ≤ m) p i) before (record {
+        kept = Keeps-trans fs0 fs1 fs3 rest.kept (Keeps-trans fs1 fs2 fs3 bytes.kept made.kept);
+        there = made.there;
+        reads = λ v all. (λ h. (step v all).0 ((made.same v).0 h), λ h. (made.same v).1 ((step v all).1 h));
+      }))
+
+-- no byte is left
+pub big_none : (fs0 fs1 : List Formula) (i t w : ℕ) → w ≡ 0 → IsMade fs0 fs1 any i →
+    IsBig fs0 fs1 w (λ m. m ≤ t) (t / 2 ^ (8 * w)) i × IsBig fs0 fs1 w (λ m. t ≤ m) (t / 2 ^ (8 * w)) i
+big_none fs0 fs1 i t w none made =
+    subst (λ k. IsBig fs0 fs1 k (λ m. m ≤ t) (t / 2 ^ (8 * k)) i × IsBig fs0 fs1 k (λ m. t ≤ m) (t / 2 ^ (8 * k)) i) (sym none) (
+      record { kept = made.kept; there = made.there; reads = λ w all. (λ h. omega (arith, front-zero t), λ h. (made.same w).1 tt) },
+      record { kept = made.kept; there = made.there; reads = λ w all. (λ h. omega (arith, front-zero t), λ h. (made.same w).1 tt) },
+    )
+
+-- 1 shifted by so many whole bytes
+pub digit_is : (t k w : ℕ) → suc k ≡ w → w ≤ 16 → t / (1 * 2 ^ (8 * k) % 340282366920938463463374607431768211456) % 256 ≡ t / 2 ^ (8 * k) % 256
+digit_is t k w e le =
+    let bits : 8 * k ≤ 120 = omega arith in
+    let pos : 0 < 2 = omega arith in
+    let small : 2 ^ (8 * k) ≤ 2 ^ 120 = pow-le-pow_right pos bits in
+    let same : 1 * 2 ^ (8 * k) % 340282366920938463463374607431768211456 ≡ 2 ^ (8 * k) = omega (arith, small) in
+    ap (λ m. t / m % 256) same
