@@ -1,5 +1,5 @@
 -- Cells that make a number, the greatest byte first.
-use Rattle.std.proofs.Common.{Some, None, ◌≡◌, ◌↔◌, ℕ, zero, suc, ◌+◌, ◌-◌, ◌*◌, ◌/◌, ◌%◌, ◌^◌, ◌<◌, ◌≤◌, List, [], ◌∷◌, length, arith, refl, sym, ap, ◌∙◌, subst, inl, inr, ⊎_elim}
+use Rattle.std.proofs.Common.{Some, None, ◌≡◌, ◌↔◌, ℕ, zero, suc, ◌+◌, ◌*◌, ◌/◌, ◌%◌, ◌^◌, ◌<◌, ◌≤◌, List, [], ◌∷◌, length, arith, refl, sym, ap, ◌∙◌, subst, inl, inr, ⊎_elim}
 use Rattle.std.proofs.Math.Nat.{div-div-eq-div-mul, pow-le-pow_right}
 use Rattle.std.proofs.lemmas.Bool.{cases_lt}
 use Rattle.std.proofs.lemmas.Nat.{pow-add}
@@ -7,9 +7,9 @@ use Rattle.std.proofs.lemmas.List.Elements.{All-head, All-tail}
 use Rattle.automata.specs.Cell.{Cell, IsCell, AreCells}
 use Rattle.automata.specs.Formula.{Formula, any, run, either, Reads, Same}
 use Rattle.automata.specs.Nodes.{formula_in}
-use Rattle.automata.specs.Formulas.{Keeps, IsMade}
+use Rattle.automata.specs.Formulas.{IsMade}
 use Rattle.automata.specs.Number.{AreBytes, IsBig, MakeBig, StartWithBytes}
-use Rattle.automata.proofs.NodesLemmas.{Keeps-trans, Keeps-at, Keeps-there}
+use Rattle.automata.proofs.NodesLemmas.{Keeps-trans, Keeps-at}
 
 -- one of two first cells
 pub cells_made : (s0 s1 s2 s3 : List Formula) (i j k a b c d next other : ℕ) → other < length s0 → IsMade s0 s1 (run a b (formula_in s0 next)) i → IsMade s1 s2 (run c d (formula_in s1 other)) j →

@@ -3,3 +3,4 @@ pub mod ReadsLemmas
 pub mod VisitsLemmas
 pub mod NumberLemmas
 pub mod BigNumberLemmas
+pub mod PeriodLemmas

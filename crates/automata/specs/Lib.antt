@@ -6,3 +6,4 @@ pub mod Derivative
 pub mod Visits
 pub mod Inclusion
 pub mod Number
+pub mod Reach

@@ -126,8 +126,8 @@ fn follow(
 }
 
 /// Whether the second formula reads all lists of so many cells that the first one reads. It is found by pairs of formulas, to
-/// which the same cells lead. `AllocError` where memory is refused.
-pub fn compare(
+/// which the same cells lead.
+pub(crate) fn compare_cells(
     alloc: Global,
     formulas: &mut Formulas,
     left: usize,

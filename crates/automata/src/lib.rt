@@ -13,9 +13,12 @@ mod formulas;
 mod inclusion;
 mod node;
 mod numbers;
+mod periods;
+mod reach;
 mod visits;
 
 pub use cell::LETTERS;
 pub use formulas::Formulas;
-pub use inclusion::{Inclusion, STEPS, compare};
+pub use inclusion::{Inclusion, STEPS};
 pub use numbers::Bound;
+pub use periods::compare;

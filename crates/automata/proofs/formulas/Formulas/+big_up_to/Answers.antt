@@ -1,4 +1,4 @@
-use Rattle.std.proofs.Common.{◌≡◌, ◌-◌, ◌*◌, ◌/◌, ◌%◌, ◌^◌, arith}
+use Rattle.std.proofs.Common.{◌-◌, arith}
 use Rattle.automata.specs.Nodes.{formulas_in}
 use Rattle.automata.proofs.BigNumberLemmas.{digit_is, up_to_more}
 use Rattle.automata.proofs.formulas.Formulas.+big_up_to.Goals as goal

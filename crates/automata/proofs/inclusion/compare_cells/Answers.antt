@@ -3,8 +3,8 @@ use Rattle.automata.specs.Formula.{Formula}
 use Rattle.automata.specs.Nodes.{formulas_in}
 use Rattle.automata.specs.declared.visits.Visit.{Visit}
 use Rattle.automata.proofs.VisitsLemmas.{IsSearched, included, missed, searched_inside, searched_end}
-use Rattle.automata.proofs.inclusion.compare.Goals as goal
-use Rattle.automata.proofs.inclusion.compare.Goals.{then-here-size+in_ok-follow, else-here-size}
+use Rattle.automata.proofs.inclusion.compare_cells.Goals as goal
+use Rattle.automata.proofs.inclusion.compare_cells.Goals.{then-here-size+in_ok-follow, else-here-size}
 
 pub returns-then-is_missed-clause-inclusion : goal.returns-then-is_missed-clause-inclusion
 returns-then-is_missed-clause-inclusion c =
