@@ -1,3 +1,12 @@
 pub mod CellsLemmas
 pub mod LawLemmas
 pub mod ManyLemmas
+pub mod FirstLemmas
+pub mod RangeLemmas
+pub mod PartLemmas
+pub mod TagLemmas
+pub mod VariantLemmas
+pub mod NodeLemmas
+pub mod KindLemmas
+pub mod TypeLemmas
+pub mod AnswerLemmas

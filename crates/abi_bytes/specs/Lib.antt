@@ -3,3 +3,8 @@ pub mod Holding
 pub mod Filling
 -- what may be done with a type's bytes
 pub mod GoesInto
+-- how it is found
+pub mod Formulas
+pub mod Tags
+-- what answers say
+pub mod Answers
