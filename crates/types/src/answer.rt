@@ -2,6 +2,7 @@
 
 ghost use Rattle.abi_text.specs.LaidOut.{IsLaidOut};
 
+use crate::bytes::{ByteAnswers, first_unset, is_yes, write_transmuted};
 use crate::crate_files::{CrateFiles, Search, SourceFile};
 use crate::json::{FaultSpot, JsonLists, TypeContext, fault_value, put_text, type_value};
 use crate::lines::write_lines;
@@ -12,6 +13,7 @@ use crate::packages::{PackageCrate, PackageSet, crates_under};
 use crate::place::{Spot, write_fault};
 use crate::pretty::{DeclaredType, write_pretty};
 use abi_base::TargetDataLayout;
+use abi_bytes::transmute;
 use abi_map::map_of;
 use abi_rust::{Fault, Sources, TypeReport, data_layout_of};
 use abi_tree::Laid;
@@ -25,6 +27,8 @@ use std::alloc::{AllocError, Global};
 pub(crate) enum Outcome {
     /// Each is reported on.
     Reported,
+    /// What was asked of types isn't so.
+    Denied,
     /// A source, or a type, has a fault.
     Faulty,
     /// A layout is refused, or memory, reading or writing failed.
@@ -41,6 +45,11 @@ impl Outcome {
                 other
             } else {
                 self
+            },
+            Outcome::Denied => if other == Outcome::Reported {
+                self
+            } else {
+                other
             },
         }
     }
@@ -412,6 +421,31 @@ struct NamePlace<'a> {
     own: Spot,
 }
 
+/// A type that was named on the command line, laid out.
+#[derive(Drop)]
+struct WrittenType {
+    report: TypeReport,
+    laid: Laid,
+}
+
+/// The part that has a byte, by the lines of a map, which begin with the bytes from and to which they are.
+fn part_at(map: &str, byte: usize) -> Option<&str> {
+    for line in map.lines() {
+        let Some((range, part)) = line.split_once(' ') else {
+            continue;
+        };
+        let Some((start, end)) = range.split_once("..") else {
+            continue;
+        };
+        let start: usize = start.parse().ok()?;
+        let end: usize = end.parse().ok()?;
+        if start <= byte && byte < end {
+            return Some(part);
+        }
+    }
+    None
+}
+
 impl<'a> ReportContext<'a> {
     /// What types are written with, by these names.
     fn type_context(self, alloc: Global, names: &'a Names) -> TypeContext<'a> {
@@ -435,6 +469,9 @@ fn object_of(
 {
     let with = cx.type_context(alloc, ty.names);
     let mut object = type_value(with, ty.name, &ty.report.shape, &ty.report.tree, laid)?;
+    if cx.options.with_bytes {
+        ByteAnswers::of(alloc, laid)?.put_members(alloc, &mut object)?;
+    }
     put_context(alloc, cx, &mut object)?;
     Ok(Value::Object(object))
 }
@@ -454,6 +491,9 @@ impl FileReport {
             Form::Lines => {
                 write!(self.text, "type {name}\n")?;
                 write_lines(self.alloc, &mut self.text, ty.names, &ty.report.shape, laid)?;
+                if cx.options.with_bytes {
+                    ByteAnswers::of(self.alloc, laid)?.write_line(&mut self.text)?;
+                }
             }
             Form::Pretty => {
                 if !self.text.is_empty() {
@@ -623,6 +663,70 @@ impl FileReport {
         Ok(())
     }
 
+    /// The type that was named in this place, laid out.
+    fn written_type(
+        &self,
+        cx: ReportContext<'_>,
+        sources: &mut Sources,
+        before: usize,
+    ) -> Result<WrittenType, SourceFailure> {
+        let name = cx.options.types.get(before).copied().unwrap_or("");
+        let own = Spot::Asked(before, 0);
+        let report = match sources.type_written(self.alloc, cx.dl, name) {
+            Ok(Some(report)) => report,
+            Ok(None) => {
+                let text = String::from_str(self.alloc, "it has no size of its own")?;
+                return Err(SourceFailure::Fault(own, text));
+            }
+            Err(fault) => return Err(failure_of(self.alloc, sources, &fault, own)),
+        };
+        match lay_out(self.alloc, cx.dl, &report.tree) {
+            Ok(laid) => Ok(WrittenType { report, laid }),
+            Err(error) => Err(refusal_of(self.alloc, name, own, error)),
+        }
+    }
+
+    /// Writes which part of a type has a byte.
+    fn write_byte(
+        &mut self,
+        cx: ReportContext<'_>,
+        sources: &Sources,
+        before: usize,
+        ty: &WrittenType,
+        byte: usize,
+    ) -> Result<(), SourceFailure> {
+        let called = by_name(sources.names(), &ty.report.shape, &ty.laid);
+        let map = match map_of(self.alloc, cx.dl, &called, &ty.laid) {
+            Ok(map) => format!(in self.alloc; "{map}")?,
+            Err(_) => return Ok(()),
+        };
+        let name = cx.options.types.get(before).copied().unwrap_or("");
+        if let Some(part) = part_at(map.as_str(), byte) {
+            write!(self.text, "byte {byte} of {name}: {part}\n")?;
+        }
+        Ok(())
+    }
+
+    /// Reports whether each value of the first type that was named is one of the second.
+    fn add_transmuted(
+        &mut self,
+        cx: ReportContext<'_>,
+        sources: &mut Sources,
+    ) -> Result<(), SourceFailure> {
+        let first = self.written_type(cx, sources, 0)?;
+        let second = self.written_type(cx, sources, 1)?;
+        let answer = transmute(self.alloc, &first.laid, &second.laid)?;
+        write_transmuted(&mut self.text, &answer)?;
+        if let Some(byte) = first_unset(&answer.goes) {
+            self.write_byte(cx, sources, 0, &first, byte)?;
+            self.write_byte(cx, sources, 1, &second, byte)?;
+        }
+        if !is_yes(&answer) {
+            self.outcome = self.outcome.worse_of(Outcome::Denied);
+        }
+        Ok(())
+    }
+
     /// Reports why the files of modules aren't read; where one is to stop all, fails by it.
     fn add_faults(
         &mut self,
@@ -651,7 +755,9 @@ impl FileReport {
         first: FirstCrate,
     ) -> Result<(), SourceFailure> {
         write_notes(self.alloc, &mut self.notes, sources, cx.files, first)?;
-        if cx.options.types.is_empty() {
+        if cx.options.transmutes {
+            self.add_transmuted(cx, sources)
+        } else if cx.options.types.is_empty() {
             self.add_all(cx, sources)
         } else {
             self.add_asked(cx, sources, &cx.options.types)

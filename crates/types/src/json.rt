@@ -31,7 +31,7 @@ pub(crate) struct TypeContext<'a> {
 }
 
 /// Puts a member into an object.
-fn put_member(
+pub(crate) fn put_member(
     alloc: Global,
     object: &mut Map<String, Value>,
     key: &str,

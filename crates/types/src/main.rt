@@ -18,6 +18,7 @@ mod vendored;
 
 // Types as lines, as maps and as JSON, and the answer to a source.
 mod answer;
+mod bytes;
 mod json;
 mod labels;
 mod lines;
@@ -43,11 +44,14 @@ const REPORTED: u8 = 0;
 const REFUSED: u8 = 1;
 /// The status where a source, or a type, has a fault, and where the command line can't be carried out.
 const FAULTY: u8 = 2;
+/// The status where what was asked of types isn't so.
+const DENIED: u8 = 3;
 
 /// The status that tells what came of the types.
 fn status_of(outcome: Outcome) -> u8 {
     match outcome {
         Outcome::Reported => REPORTED,
+        Outcome::Denied => DENIED,
         Outcome::Refused => REFUSED,
         Outcome::Faulty => FAULTY,
     }

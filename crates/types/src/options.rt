@@ -30,6 +30,10 @@ pub(crate) struct Options<'a> {
     pub(crate) names_target: bool,
     /// The types that are asked for by name; all of the source where there is none.
     pub(crate) types: Vec<&'a str>,
+    /// Whether it is asked if each value of the first of these is one of the second.
+    pub(crate) transmutes: bool,
+    /// Whether it is said what may be done with each type's bytes.
+    pub(crate) with_bytes: bool,
     pub(crate) form: Form,
     /// The features of the crates, as Cargo names them.
     pub(crate) features: Vec<&'a str>,
@@ -157,8 +161,30 @@ fn file_argument<'a>(alloc: Global) -> Arg<'a> {
         )
 }
 
-/// The command, with what it may be asked for.
-pub(crate) fn command<'a>(alloc: Global) -> Result<Command<'a>, AllocError> {
+/// The option that names two types, each value of the first of which may be one of the second.
+fn transmute_option<'a>(alloc: Global) -> Result<Arg<'a>, AllocError> {
+    Arg::new(alloc, "transmute")
+        .long("transmute")
+        .value_name("TYPE")
+        .num_args(2)
+        .help(
+            "tells whether each value of a type is one of another, or the bytes that show it isn't",
+        )
+        .conflicts_with("type")
+}
+
+/// The options that say what is laid out for which target.
+fn with_type_options<'a>(alloc: Global, command: Command<'a>) -> Result<Command<'a>, AllocError> {
+    let command = command
+        .arg(target_option(alloc))?
+        .arg(print_option(alloc))?
+        .arg(type_option(alloc))?
+        .arg(transmute_option(alloc)?)?;
+    Ok(command)
+}
+
+/// The options that pick a form, of which at most one is named.
+fn with_form_options<'a>(alloc: Global, command: Command<'a>) -> Result<Command<'a>, AllocError> {
     let json = form_option(alloc, "json", "tells them as one JSON document")
         .conflicts_with("map")?
         .conflicts_with("svg")?;
@@ -176,6 +202,22 @@ pub(crate) fn command<'a>(alloc: Global) -> Result<Command<'a>, AllocError> {
         "svg",
         "draws the map of one type, as a picture (SVG)",
     );
+    let bytes = form_option(
+        alloc,
+        "bytes",
+        "says of each type whether zeros, and all bytes, hold a value, and whether all its bytes are initialised",
+    );
+    let command = command
+        .arg(json)?
+        .arg(pretty)?
+        .arg(map)?
+        .arg(svg)?
+        .arg(bytes)?;
+    Ok(command)
+}
+
+/// The options that say what is read, and the files.
+fn with_source_options<'a>(alloc: Global, command: Command<'a>) -> Result<Command<'a>, AllocError> {
     let root = form_option(
         alloc,
         "root",
@@ -186,20 +228,23 @@ pub(crate) fn command<'a>(alloc: Global) -> Result<Command<'a>, AllocError> {
         "strict",
         "reports on no type of a file in which one has a fault",
     );
-    let command = Command::new(alloc, "types")
-        .about("Lays out the types that a Rust source defines")
-        .arg(target_option(alloc))?
-        .arg(print_option(alloc))?
-        .arg(type_option(alloc))?
+    let command = command
         .arg(manifest_option(alloc))?
         .arg(vendor_option(alloc))?
-        .arg(json)?
-        .arg(pretty)?
-        .arg(map)?
-        .arg(svg)?
         .arg(root)?
         .arg(strict)?
         .arg(file_argument(alloc))?;
+    Ok(command)
+}
+
+/// The command, with what it may be asked for.
+pub(crate) fn command<'a>(alloc: Global) -> Result<Command<'a>, AllocError> {
+    let command = Command::new(alloc, "types").about(
+        "Lays out the types that a Rust source defines",
+    );
+    let command = with_type_options(alloc, command)?;
+    let command = with_source_options(alloc, command)?;
+    let command = with_form_options(alloc, command)?;
     with_feature_options(alloc, command)
 }
 
@@ -390,12 +435,20 @@ fn prints_targets<'a>(matches: &ArgMatches<'a>) -> Result<bool, OptionFault<'a>>
     }
 }
 
+/// The names of the types that are asked for.
+fn type_names<'a, 'm>(matches: &'m ArgMatches<'a>) -> &'m [&'a str] {
+    match matches.get_strs("transmute") {
+        Some(pair) => pair,
+        None => matches.get_strs("type").unwrap_or(&[]),
+    }
+}
+
 /// What the matches ask for.
 pub(crate) fn options_of<'a>(
     alloc: Global,
     matches: &ArgMatches<'a>,
 ) -> Result<Options<'a>, OptionFault<'a>> {
-    let types = words_of(alloc, matches.get_strs("type").unwrap_or(&[]))?;
+    let types = words_of(alloc, type_names(matches))?;
     let named = matches.get_strs("file").unwrap_or(&[]);
     let files = files_of(
         alloc,
@@ -422,6 +475,8 @@ pub(crate) fn options_of<'a>(
         targets,
         names_target,
         types,
+        transmutes: matches.get_strs("transmute").is_some(),
+        with_bytes: matches.get_flag("bytes"),
         form: form_of(matches),
         features,
         with_default_features: !matches.get_flag("no-default-features"),
