@@ -98,7 +98,7 @@ is_read_there() {
 
 # Runs a program with these words: proved, where it is, and else the same sources unproved. The status is the program's.
 run_program() {
-  local program=$1 status=0 word name before='' words=() data=()
+  local program=$1 status=0 word name before='' words=() data=() limit=()
   shift
   if "$here/scripts/is_proved" "$program"; then
     "$here/crates/$program/out/$program" "$@" || status=$?
@@ -107,11 +107,11 @@ run_program() {
   # (it runs in a folder of its own, into which a file or a folder that is named is copied, by a path that doesn't lead out of it)
   for word; do
     name=$word
-    # (what lies outside of a package's folder is read where it stands)
+    # (what lies outside of a package's folder is read where it stands, and may take longer)
     if [ -n "${follows:-}" ] && [[ $word == --vendor=* ]]; then
-      name=--vendor=$(realpath -m -- "${word#*=}")
+      name=--vendor=$(realpath -m -- "${word#*=}") limit=(--seconds 600)
     elif [ -n "${follows:-}" ] && [ -e "$word" ] && is_read_there "$word" "$before"; then
-      name=$(realpath "$word")
+      name=$(realpath "$word") limit=(--seconds 600)
     elif [ -f "$word" ] || { [ -n "${follows:-}" ] && [ -d "$word" ]; }; then
       if [[ /$word/ == */../* || $word == /* ]]; then
         name=$(realpath -ms --relative-to=. "$word" | sed -E 's|^(\.\./)*||; s|^\.\.$|package|')
@@ -129,7 +129,7 @@ run_program() {
     fi
     words+=("$name") before=$word
   done
-  try_program "$program" ${data[@]+"${data[@]}"} ${words[@]+-- "${words[@]}"} || status=$?
+  try_program "$program" ${limit[@]+"${limit[@]}"} ${data[@]+"${data[@]}"} ${words[@]+-- "${words[@]}"} || status=$?
   grep -q '^run=ended' "$room/told" || end_untold
   grep -vE '^(rt|run=|interpreter|checked|statements|logic|by-macro)' "$room/told" >&2 || true
   return "$status"
