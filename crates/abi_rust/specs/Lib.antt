@@ -5,6 +5,7 @@ pub mod ExternCrates
 pub mod FaultTexts
 pub mod Formed
 pub mod Globs
+pub mod Imports
 pub mod Int
 pub mod Kinds
 pub mod Known

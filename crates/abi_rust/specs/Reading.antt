@@ -13,7 +13,9 @@ use Rattle.rust_source.specs.declared.reader.modules.SourceRoot.TheVariants.{New
 use Rattle.rust_source.specs.declared.target.CfgTarget.{CfgTarget}
 use Rattle.abi_rust.specs.ExternCrates.{KeepsCrates}
 use Rattle.abi_rust.specs.Globs.{KeepsGlobs}
+use Rattle.abi_rust.specs.Imports.{repeated_import}
 use Rattle.abi_rust.specs.ScopeNames.{KeepsNames, KeepsOwn, repeated_of}
+use Rattle.abi_rust.specs.Standing.{IsMemory}
 use Rattle.abi_rust.specs.Words.{known_words}
 use Rattle.abi_rust.specs.declared.fault.FaultKind.TheVariants.{OutOfMemory, Source as SourceKind}
 use Rattle.abi_rust.specs.declared.fault.Stop.{Stop}
@@ -115,14 +117,25 @@ pub record FileRead (target : CfgTarget) (kind : TextKind) (text : List ℕ) (ol
 abbrev pub FileReads : CfgTarget → TextKind → (text : List ℕ) → (old new : Sources) → (answer : Result ℕ Stop) → Type 0
 FileReads target kind text old new answer = FileRead target kind text old new answer ⊎ (answer ≡ Err (Fault None OutOfMemory))
 
--- no name stands twice, and the scope keeps all names of modules, and where their globs lead
-pub record HasScope (s : Sources) : Type 0 where
-  pub once : repeated_of s.items ≡ None
-  pub scope : Scope
-  pub kept : s.scope ≡ Some scope
+-- the scope keeps all names of modules, and where their globs lead
+pub record IsScopeOf (s : Sources) (scope : Scope) : Type 0 where
   pub names : KeepsNames s.items scope
   pub crates : KeepsCrates s.crates.items scope
   pub globs : KeepsGlobs s.items scope
   pub own : KeepsOwn s.items scope
   pub words : scope.words ≡ s.words
   pub root : scope.std_root ≡ s.std_root
+
+-- no name stands twice, nor beside an import, and a scope keeps all
+pub record HasScope (s : Sources) : Type 0 where
+  pub once : repeated_of s.items ≡ None
+  pub scope : Scope
+  pub kept : s.scope ≡ Some scope
+  pub names : IsScopeOf s scope
+  pub imports : repeated_import s.items scope ≡ None
+
+-- why names aren't found: one stands twice, or beside an import, or memory was refused
+pub data IsNamesFault (s : Sources) (stop : Stop) : Type 0 where
+  repeated : repeated_of s.items ≡ Some stop → IsNamesFault s stop
+  imported : (scope : Scope) → IsScopeOf s scope → repeated_import s.items scope ≡ Some stop → IsNamesFault s stop
+  memory : IsMemory stop → IsNamesFault s stop

@@ -15,6 +15,7 @@ mod std_source;
 
 // Names.
 mod extern_crates;
+mod imports;
 mod own_constants;
 mod paths;
 mod scope;

@@ -1,17 +1,18 @@
 //! Files of Rust source, and what their types are.
 
-ghost use Rattle.std.specs.Prelude.{◌≡◌, ◌⊎◌, ◌-◌, ◌<◌, ◌^◌, ◌++◌, ◌∷◌, Err, IfErr, IfOk, Ok, OnOk, Some, [], length, slice_get, string_bytes};
+ghost use Rattle.std.specs.Prelude.{◌≡◌, ◌-◌, ◌<◌, ◌^◌, ◌++◌, ◌∷◌, Err, IfErr, IfOk, Ok, OnOk, Some, [], length, slice_get, string_bytes};
 ghost use Rattle.rust_source.specs.Growth.{BeginsWith};
 ghost use Rattle.rust_source.specs.Names.{text_of};
+ghost use Rattle.abi_rust.specs.Imports.{repeated_import};
 ghost use Rattle.abi_rust.specs.Measure.{IsMeasure, Measure};
-ghost use Rattle.abi_rust.specs.Reading.{FileRead, FileReads, HasScope, IsSourceOf, IsUnread, LibraryRead, ReadsText, Stops, file_kind, having, is_library, library_text, place_behind, root_of};
+ghost use Rattle.abi_rust.specs.Reading.{FileRead, FileReads, HasScope, IsNamesFault, IsScopeOf, IsSourceOf, IsUnread, LibraryRead, ReadsText, Stops, file_kind, having, is_library, library_text, place_behind, root_of};
 ghost use Rattle.abi_rust.specs.ScopeNames.{repeated_of};
 ghost use Rattle.abi_rust.specs.Sources.{ChecksNames, IsContextOver, Reports, ReportsWritten, names_checked, reported_fault, is_of_first_crate, is_reported, items_read, module_path, qualified_name, place_in_files, place_of_attribute, place_of_item, reported_place, pointer_bits};
-ghost use Rattle.abi_rust.specs.Standing.{IsMemory};
 
 use crate::budget::Context;
 use crate::extern_crates::ExternCrate;
 use crate::fault::{Fault, FaultKind, FaultPlace, Stop, stop_at};
+use crate::imports::repeated_import;
 use crate::paths::root_of as root_module_of;
 use crate::report::{Subject, TypeReport, report_on};
 use crate::scope::Scope;
@@ -225,19 +226,36 @@ impl Sources {
     }
 
     /// Finds the names of all modules, once all files are added. `RepeatedType` and `RepeatedConstant` where a module has
-    /// two types or two constants of one name, or a type and a module. After a fault there are no types.
+    /// two types or two constants of one name, a type and a module, or one of these and an import. After a fault there are
+    /// no types.
     pub fn finish(&mut self, alloc: Global) -> Result<(), Fault>
         ensures ok { IfOk result (λ _. HasScope self.new) }
         ensures err { IfErr result (λ fault. (stop : Stop) × (fault ≡ reported_fault self.new stop) ×
-            ((repeated_of self.new.items ≡ Some stop) ⊎ IsMemory stop)) }
+            IsNamesFault self.new stop) }
         ensures same { self.new ≡ record self.old { scope = self.new.scope } }
     {
-        match Scope::new(alloc, self.words, &self.items, &self.crates, self.std_root) {
+        match self.scope_over(alloc) {
             Ok(scope) => {
                 self.scope = Some(scope);
                 Ok(())
             }
             Err(stop) => Err(self.fault(stop)),
+        }
+    }
+
+    /// The names of all modules.
+    fn scope_over(&self, alloc: Global) -> Result<Scope, Stop>
+        ensures once { IfOk result (λ _. repeated_of self.now.items ≡ None) }
+        ensures names { IfOk result (IsScopeOf self.now) }
+        ensures imports { IfOk result (λ scope. repeated_import self.now.items scope ≡ None) }
+        ensures err { IfErr result (IsNamesFault self.now) }
+    {
+        match Scope::new(alloc, self.words, &self.items, &self.crates, self.std_root) {
+            Ok(scope) => match repeated_import(&self.items, &scope) {
+                Some(stop) => Err(stop),
+                None => Ok(scope),
+            },
+            Err(stop) => Err(stop),
         }
     }
 

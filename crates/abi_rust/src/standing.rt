@@ -70,7 +70,7 @@ fn has_numbered(field: Option<&Field>) -> bool
 }
 
 /// Whether it is a struct whose name is a value's too: it has a tuple's fields, or none and no braces.
-fn is_constructor(kind: &ItemKind) -> bool
+pub(crate) fn is_constructor(kind: &ItemKind) -> bool
     ensures { result ≡ is_constructor kind.now }
 {
     match kind {
