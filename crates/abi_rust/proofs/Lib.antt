@@ -7,6 +7,7 @@ pub mod ExternLemmas
 pub mod Facts
 pub mod FormedLists
 pub mod GlobLemmas
+pub mod KeptValues
 pub mod KnownSizes
 pub mod Labels
 pub mod Lasts

@@ -1,5 +1,5 @@
 -- The value of a constant expression.
-use Rattle.std.specs.Prelude.{ℕ, zero, suc, ◌-◌, ◌^◌, ◌&&◌, ◌||◌, not, nat_eq, is_some, slice_get, Bool, true, false, cond, List, [], ◌∷◌, length, ℤ, pos, neg_ℤ, ◌+ℤ◌, int_lt, Option, Some, None, Ok, Err, if◌then◌else◌}
+use Rattle.std.specs.Prelude.{◌≡◌, ℕ, zero, suc, ◌-◌, ◌^◌, ◌&&◌, ◌||◌, not, nat_eq, is_some, slice_get, Bool, true, false, cond, List, [], ◌∷◌, length, ℤ, pos, neg_ℤ, ◌+ℤ◌, int_lt, Option, Some, None, Ok, Err, if◌then◌else◌}
 use Rattle.std.specs.Option.{option_and_then, option_map, option_or}
 use Rattle.rust_source.specs.declared.item.Item.{Item}
 use Rattle.rust_source.specs.declared.item.ItemKind.{ItemKind}
@@ -25,11 +25,12 @@ use Rattle.abi_rust.specs.declared.fault.Stop.TheVariants.{Fault, Size}
 use Rattle.abi_rust.specs.declared.paths.Resolution.{Resolution}
 use Rattle.abi_rust.specs.declared.paths.Resolution.TheVariants.{Ambiguous as AmbiguousFound, Hidden, Module, Item as ItemFound}
 use Rattle.abi_rust.specs.declared.paths.Space.TheVariants.{Types, Values}
+use Rattle.abi_rust.specs.declared.ty.ConstValue.{ConstValue}
 use Rattle.abi_rust.specs.declared.ty.Kind.{Kind}
 use Rattle.abi_rust.specs.declared.ty.Kind.TheVariants.{Bool as BoolKind, Char as CharKind, Integer as KindInteger}
 use Rattle.abi_rust.specs.declared.budget.Context.{Context}
 use Rattle.abi_rust.specs.declared.words.Word.TheVariants as word
-use Rattle.abi_rust.specs.Kinds.{constant_named, constant_place, given_named, is_shift, item_at, kind_of_names, kind_of_expr, kind_written, operand_kind, outside, single_name}
+use Rattle.abi_rust.specs.Kinds.{constant_named, constant_place, given_named, is_shift, item_at, kind_of_names, kind_of_expr, kind_written, operand_kind, outside, owner_named, single_name}
 use Rattle.abi_rust.specs.Known.{known_at}
 use Rattle.abi_rust.specs.Meaning.{Meaning, then_meant, fault_at, too_deep}
 use Rattle.abi_rust.specs.Names.{found, found_of}
@@ -37,7 +38,7 @@ use Rattle.abi_rust.specs.Operators.{Made, binary_of, bits_of_integer, cast_of, 
 use Rattle.abi_rust.specs.Places.{last_name, place_of_expr, place_of_path}
 use Rattle.abi_rust.specs.Scope.{module_in}
 use Rattle.abi_rust.specs.Types.{GenericArgRead, Where, of_value}
-use Rattle.abi_rust.specs.Values.{ValueRead, code, kind_read, number, truth}
+use Rattle.abi_rust.specs.Values.{ValueRead, code, kind_read, number, truth, value_as_read}
 use Rattle.abi_rust.specs.Words.{is_word, is_same_name, symbol_of}
 
 -- a value, or a fault at the place
@@ -252,17 +253,15 @@ module _ (cx : Context) where
   variant_of_item name None = None
   variant_of_item name (Some it) = variant_of_kind name it it.kind
 
-  abbrev pub variant_found : Symbol → Option Resolution → Option (Item × ℕ)
-  variant_found name (Some (ItemFound n)) = variant_of_item name (item_at cx.items.now cx.scope.now n)
-  variant_found name _ = None
+  abbrev pub variant_at_path : Where → Path → Option Segment → Option (Item × ℕ)
+  variant_at_path w p None = None
+  variant_at_path w p (Some s) =
+      option_and_then (λ n. variant_of_item (out-Segment s).name (item_at cx.items.now cx.scope.now n))
+      (owner_named cx.items.now cx.scope.now w p (length (out-Path p).segments.items - 1))
 
-  abbrev pub variant_at_path : (inside : ℕ) → Path → Option Segment → Option (Item × ℕ)
-  variant_at_path m p None = None
-  variant_at_path m p (Some s) = variant_found (out-Segment s).name (found_of cx.items.now cx.scope.now m p (length (out-Path p).segments.items - 1) Types)
-
-  -- the enum and the number of the variant that a path names
-  unfoldable pub variant_named : (inside : ℕ) → Path → Option (Item × ℕ)
-  variant_named m p = variant_at_path m p (last_name p)
+  -- the enum and the number of the variant that a path names, by an alias too, or by `Self`
+  unfoldable pub variant_named : Where → Path → Option (Item × ℕ)
+  variant_named w p = variant_at_path w p (last_name p)
 
   abbrev pub value_in : Option GenericArgRead → Option ValueRead
   value_in (Some (of_value v)) = Some v
@@ -273,9 +272,9 @@ module _ (cx : Context) where
   value_given w p = value_in (option_and_then (given_named cx.items.now cx.scope.now w) (single_name p))
 
   -- the enum and the number of the variant that an operand of a cast names
-  abbrev pub cast_variant : (inside : ℕ) → Expr → Option (Item × ℕ)
-  cast_variant m (PathExpr p) = variant_named m p
-  cast_variant m _ = None
+  abbrev pub cast_variant : Where → Expr → Option (Item × ℕ)
+  cast_variant w (PathExpr p) = variant_named w p
+  cast_variant w _ = None
 
   -- the right operand has the left one's type, but for a shift
   abbrev pub right_kind : Where → Binary → ValueRead → Expr → Option Kind
@@ -327,7 +326,7 @@ module _ (cx : Context) where
     abbrev pub cast_by : Where → Expr → Place → Option Kind → Meaning ValueRead
     cast_by w e at None = fault_at at (Unevaluated Expression)
     cast_by w e at (Some kind) =
-        then_meant (λ v. made_at at (cast_of cx.pointer_bits kind v)) (operand_value w e kind (cast_variant w.inside e))
+        then_meant (λ v. made_at at (cast_of cx.pointer_bits kind v)) (operand_value w e kind (cast_variant w e))
 
     -- the value of a cast
     unfoldable pub cast_value : Where → Expr → Written → Place → Meaning ValueRead
@@ -387,3 +386,8 @@ module _ (cx : Context) where
   unfoldable pub evaluator : (depth_left : ℕ) → Evaluator
   evaluator zero w e wanted = too_deep
   evaluator (suc depth_left) w e wanted = value_with (evaluator depth_left) w e wanted
+
+  -- each value that is kept of a constant which may need others so deep is the constant's, wherever it is named
+  pub record AreValues (kept : (number_and_depth : ℕ × ℕ) → Option ConstValue) : Type 0 where
+    pub right : (n depth_left : ℕ) (v : ConstValue) (at : Place) → kept (n, depth_left) ≡ Some v
+        → constant_value (evaluator depth_left) n at ≡ Ok (value_as_read v)

@@ -1,15 +1,18 @@
 //! What work at a type knows and asks for.
 
-ghost use Rattle.std.specs.Prelude.{◌≡◌, ◌+◌, true, IfErr, IfOk, OnOk, Some, None, [], ◌∷◌, ◌++◌, map};
+ghost use Rattle.std.specs.Prelude.{◌≡◌, ◌+◌, ℕ, true, IfErr, IfOk, OnOk, Some, None, [], ◌∷◌, ◌++◌, map, if◌then◌else◌};
+ghost use Rattle.indexmap.specs.IndexMap.{get};
 ghost use Rattle.abi_rust.specs.Known.{is_for, is_same_item, known_at, stands_in};
 ghost use Rattle.abi_rust.specs.Meaning.{Means, is_beside};
 ghost use Rattle.abi_rust.specs.Resolving.{inside_of, most_deep};
+ghost use Rattle.abi_rust.specs.Scope.{same_key};
 ghost use Rattle.abi_rust.specs.Types.{all_given, given_of, ty_of, where_of};
 
 use crate::fault::{FaultKind, Stop};
 use crate::scope::Scope;
-use crate::ty::{GenericArg, Ty, same_givens};
+use crate::ty::{ConstValue, GenericArg, Ty, same_givens};
 use abi_base::TargetDataLayout;
+use indexmap::IndexMap;
 use rust_source::{Item, Items, Place, Type};
 use std::alloc::Global;
 
@@ -119,20 +122,24 @@ pub(crate) struct Budget<'a> {
     left: u32,
     /// The size that has to be known.
     pub(crate) wanted: Option<Request<'a>>,
+    /// Values of constants, by the constants' numbers and how deep these may need others.
+    pub(crate) values: IndexMap<(u32, u32), ConstValue>,
 }
 
 impl<'a> Budget<'a> {
     /// Work that has spent nothing.
-    pub(crate) fn new() -> Budget<'a> {
+    pub(crate) fn new(alloc: Global) -> Budget<'a> {
         Budget {
             left: MOST_PARTS,
             wanted: None,
+            values: IndexMap::new(alloc),
         }
     }
 
     /// Looks at one more part.
     pub(crate) fn spend(&mut self) -> Result<(), Stop>
-        ensures { IfErr result (λ e. is_beside e ≡ true) }
+        ensures err { IfErr result (λ e. is_beside e ≡ true) }
+        ensures values { self.new.values ≡ self.old.values }
     {
         match self.left.checked_sub(1) {
             Some(left) => {
@@ -141,6 +148,35 @@ impl<'a> Budget<'a> {
             }
             None => Err(Stop::Fault(None, FaultKind::TooLarge)),
         }
+    }
+
+    /// Forgets the values of constants.
+    pub(crate) fn forget_values(&mut self)
+        ensures { (k : ℕ × ℕ) → get same_key self.new.values k ≡ None }
+    {
+        self.values.clear();
+    }
+
+    /// The value that is kept of a constant which may need others so deep.
+    pub(crate) fn value_kept(&self, constant: u32, depth_left: u32) -> Option<ConstValue>
+        ensures { result ≡ get same_key self.now.values (constant, depth_left) }
+    {
+        self.values.get(&(constant, depth_left)).copied()
+    }
+
+    /// Keeps the value of a constant which may need others so deep.
+    pub(crate) fn keep_value(
+        &mut self,
+        constant: u32,
+        depth_left: u32,
+        value: ConstValue,
+    ) -> Result<(), Stop>
+        ensures ok { IfOk result (λ _. (k : ℕ × ℕ) → get same_key self.new.values k
+            ≡ (if same_key (constant, depth_left) k then Some value else get same_key self.old.values k)) }
+        ensures err { IfErr result (λ e. is_beside e ≡ true) }
+    {
+        let _ = self.values.insert((constant, depth_left), value)?;
+        Ok(())
     }
 }
 

@@ -44,7 +44,12 @@ fn if_visible(cx: &Context<'_, '_>, module: u32, number: u32) -> Option<u32>
 
 /// The type that the first names of a path name, so many of them, where it may have constants of its own.
 #[tactic(auto, unfolding(crate::specs::Kinds::owner_named))]
-fn owner_named(cx: &Context<'_, '_>, env: Env<'_>, path: &Path, count: usize) -> Option<u32>
+pub(crate) fn owner_named(
+    cx: &Context<'_, '_>,
+    env: Env<'_>,
+    path: &Path,
+    count: usize,
+) -> Option<u32>
     ensures { result ≡ owner_named cx.now.items.now cx.now.scope.now (where_of env.entry) path.now count }
 {
     if let Some(name) = name_alone(path, count) {

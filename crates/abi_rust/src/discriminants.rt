@@ -4,28 +4,27 @@ ghost use Rattle.std.specs.Prelude.{◌≡◌, slice_get, true};
 ghost use Rattle.std.specs.Option.{option_copied, option_map};
 ghost use Rattle.abi_rust.specs.Evaluating.{all_fieldless, cast_checked, discriminant_kind, is_castable, is_fieldless, is_integer, is_unit_at, variant_of_item, variant_from, variant_named, written_before, written_from};
 ghost use Rattle.abi_rust.specs.Meaning.{Means};
+ghost use Rattle.abi_rust.specs.Types.{where_of};
 
-use crate::budget::Context;
+use crate::budget::{Context, Env};
+use crate::constants::owner_named;
 use crate::fault::{FaultKind, Stop, stop_at};
-use crate::paths::{Resolution, find_prefix, item_at};
+use crate::paths::item_at;
 use crate::ty::Kind;
 use rust_source::{Expr, IntegerKind, Item, ItemKind, Path, Place, Symbol, Variant};
 
-/// The enum and the number of the variant that a path names.
+/// The enum and the number of the variant that a path names, by an alias too, or by `Self`.
 #[tactic(auto, unfolding(crate::specs::Evaluating::variant_named))]
 pub(crate) fn variant_named<'a>(
     cx: &Context<'a, '_>,
-    module: u32,
+    env: Env<'_>,
     path: &Path,
 ) -> Option<(&'a Item, usize)>
-    ensures { option_map (λ found. (found.0.now, found.1)) result ≡ variant_named cx.now «module» path.now }
+    ensures { option_map (λ found. (found.0.now, found.1)) result ≡ variant_named cx.now (where_of env.entry) path.now }
 {
     let last = path.segments.last()?;
-    let count = path.segments.len().saturating_sub(1);
-    match find_prefix(cx.items, cx.scope, module, path, count) {
-        Some(Resolution::Item(number)) => variant_of(cx, number, last.name),
-        _ => None,
-    }
+    let number = owner_named(cx, env, path, path.segments.len().saturating_sub(1))?;
+    variant_of(cx, number, last.name)
 }
 
 /// The item of this number, where it is an enum, and the number of its variant of this name.

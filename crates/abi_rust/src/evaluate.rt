@@ -2,9 +2,11 @@
 
 ghost use Rattle.std.specs.Prelude.{◌≡◌, IfOk, Ok, Some, nat_eq, length};
 ghost use Rattle.std.specs.Option.{option_copied, option_map};
-ghost use Rattle.abi_rust.specs.Evaluating.{binary_value, branch_of, cast_value, cast_variant, constant_on, constant_value, counted_on, discriminant, discriminant_base, evaluator, operand_value, path_value, right_kind, second_value, typed, unary_value, value_by, value_given, value_with};
+ghost use Rattle.indexmap.specs.IndexMap.{get};
+ghost use Rattle.abi_rust.specs.Evaluating.{AreValues, binary_value, branch_of, cast_value, cast_variant, constant_on, constant_value, counted_on, discriminant, discriminant_base, evaluator, operand_value, path_value, right_kind, second_value, typed, unary_value, value_by, value_given, value_with};
 ghost use Rattle.abi_rust.specs.Kinds.{constant_place};
 ghost use Rattle.abi_rust.specs.Meaning.{Means};
+ghost use Rattle.abi_rust.specs.Scope.{same_key};
 ghost use Rattle.abi_rust.specs.Types.{where_of};
 ghost use Rattle.abi_rust.specs.Values.{IsOfKind, value_as_read};
 
@@ -40,11 +42,10 @@ struct CastExpr<'a> {
     at: Place,
 }
 
-/// The value of an expression, of the type that is wanted where one is. `Stop::Size` where a type's size has to be
-/// known first.
-#[cycle(evaluating)]
-#[tactic(auto, unfolding(crate::specs::Evaluating::value_with), using(crate::proofs::Rooms::value_less, crate::proofs::Rooms::value_none))]
-pub(crate) fn evaluate<'a>(
+/// The value of an expression that stands in no constant, of the type that is wanted where one is. Each constant that it
+/// needs is evaluated once. `Stop::Size` where a type's size has to be known first.
+#[tactic(auto, using(crate::proofs::KeptValues::none_kept))]
+pub(crate) fn value_of<'a>(
     cx: &Context<'a, '_>,
     budget: &mut Budget<'a>,
     env: Env<'_>,
@@ -54,6 +55,41 @@ pub(crate) fn evaluate<'a>(
     ensures kind { IfOk result (λ value. IsOfKind wanted value) }
     ensures value { Means value_as_read
         (evaluator cx.now env.entry.depth_left (where_of env.entry) expr.now wanted) result }
+{
+    budget.forget_values();
+    evaluate(cx, budget, env, expr, wanted)
+}
+
+/// The value of a constant that a path names which stands in no constant.
+#[tactic(auto, using(crate::proofs::KeptValues::none_kept))]
+pub(crate) fn value_of_path<'a>(
+    cx: &Context<'a, '_>,
+    budget: &mut Budget<'a>,
+    env: Env<'_>,
+    path: &'a Path,
+) -> Result<ConstValue, Stop>
+    ensures { Means value_as_read
+        (path_value cx.now (evaluator cx.now env.entry.depth_left) (where_of env.entry) path.now) result }
+{
+    budget.forget_values();
+    evaluate_path(cx, budget, env, path)
+}
+
+/// The value of an expression, of the type that is wanted where one is.
+#[cycle(evaluating)]
+#[tactic(auto, unfolding(crate::specs::Evaluating::value_with), using(crate::proofs::Rooms::value_less, crate::proofs::Rooms::value_none))]
+fn evaluate<'a>(
+    cx: &Context<'a, '_>,
+    budget: &mut Budget<'a>,
+    env: Env<'_>,
+    expr: &'a Expr,
+    wanted: Option<Kind>,
+) -> Result<ConstValue, Stop>
+    requires { AreValues cx.now (get same_key budget.old.values) }
+    ensures kind { IfOk result (λ value. IsOfKind wanted value) }
+    ensures value { Means value_as_read
+        (evaluator cx.now env.entry.depth_left (where_of env.entry) expr.now wanted) result }
+    ensures kept { IfOk result (λ _. AreValues cx.now (get same_key budget.new.values)) }
 {
     budget.spend()?;
     let env = env.deeper()?;
@@ -70,8 +106,10 @@ fn evaluate_any<'a>(
     expr: &'a Expr,
     wanted: Option<Kind>,
 ) -> Result<ConstValue, Stop>
-    ensures { Means value_as_read
+    requires { AreValues cx.now (get same_key budget.old.values) }
+    ensures value { Means value_as_read
         (value_by cx.now (evaluator cx.now env.entry.depth_left) (where_of env.entry) wanted expr.now) result }
+    ensures kept { IfOk result (λ _. AreValues cx.now (get same_key budget.new.values)) }
 {
     match expr {
         Expr::Integer(number, suffix, at) => {
@@ -155,8 +193,10 @@ fn evaluate_unary<'a>(
     expr: UnaryExpr<'a>,
     wanted: Option<Kind>,
 ) -> Result<ConstValue, Stop>
-    ensures { Means value_as_read (unary_value cx.now (evaluator cx.now env.entry.depth_left) (where_of env.entry)
+    requires { AreValues cx.now (get same_key budget.old.values) }
+    ensures value { Means value_as_read (unary_value cx.now (evaluator cx.now env.entry.depth_left) (where_of env.entry)
         expr.entry.operator expr.entry.operand.now wanted) result }
+    ensures kept { IfOk result (λ _. AreValues cx.now (get same_key budget.new.values)) }
 {
     match (expr.operator, expr.operand) {
         (Unary::Minus, Expr::Integer(number, suffix, at)) => {
@@ -182,8 +222,10 @@ fn evaluate_binary<'a>(
     expr: BinaryExpr<'a>,
     wanted: Option<Kind>,
 ) -> Result<ConstValue, Stop>
-    ensures { Means value_as_read (binary_value cx.now (evaluator cx.now env.entry.depth_left) (where_of env.entry)
+    requires { AreValues cx.now (get same_key budget.old.values) }
+    ensures value { Means value_as_read (binary_value cx.now (evaluator cx.now env.entry.depth_left) (where_of env.entry)
         expr.entry.operator expr.entry.left.now expr.entry.right.now wanted) result }
+    ensures kept { IfOk result (λ _. AreValues cx.now (get same_key budget.new.values)) }
 {
     let kind = operand_kind(cx, env, expr, wanted);
     let first = evaluate(cx, budget, env, expr.left, kind)?;
@@ -199,8 +241,10 @@ fn evaluate_second<'a>(
     expr: BinaryExpr<'a>,
     first: ConstValue,
 ) -> Result<ConstValue, Stop>
-    ensures { Means value_as_read (second_value cx.now (evaluator cx.now env.entry.depth_left) (where_of env.entry)
+    requires { AreValues cx.now (get same_key budget.old.values) }
+    ensures value { Means value_as_read (second_value cx.now (evaluator cx.now env.entry.depth_left) (where_of env.entry)
         expr.entry.operator expr.entry.left.now expr.entry.right.now (value_as_read first)) result }
+    ensures kept { IfOk result (λ _. AreValues cx.now (get same_key budget.new.values)) }
 {
     if is_settled(expr.operator, first) {
         return Ok(first);
@@ -239,8 +283,10 @@ fn evaluate_cast<'a>(
     env: Env<'_>,
     expr: CastExpr<'a>,
 ) -> Result<ConstValue, Stop>
-    ensures { Means value_as_read (cast_value cx.now (evaluator cx.now env.entry.depth_left) (where_of env.entry)
+    requires { AreValues cx.now (get same_key budget.old.values) }
+    ensures value { Means value_as_read (cast_value cx.now (evaluator cx.now env.entry.depth_left) (where_of env.entry)
         expr.entry.operand.now expr.entry.ty.now expr.entry.at) result }
+    ensures kept { IfOk result (λ _. AreValues cx.now (get same_key budget.new.values)) }
 {
     let Some(kind) = kind_written(cx, env, expr.ty) else {
         return Err(stop_at(expr.at, FaultKind::Unevaluated(Unevaluated::Expression)));
@@ -258,11 +304,13 @@ fn evaluate_operand<'a>(
     operand: &'a Expr,
     kind: Kind,
 ) -> Result<ConstValue, Stop>
-    ensures { Means value_as_read
+    requires { AreValues cx.now (get same_key budget.old.values) }
+    ensures value { Means value_as_read
         (operand_value cx.now (evaluator cx.now env.entry.depth_left) (where_of env.entry) operand.now kind
-        (cast_variant cx.now env.entry.«module» operand.now)) result }
+        (cast_variant cx.now (where_of env.entry) operand.now)) result }
+    ensures kept { IfOk result (λ _. AreValues cx.now (get same_key budget.new.values)) }
 {
-    if let Some((item, index)) = cast_variant(cx, env.module, operand) {
+    if let Some((item, index)) = cast_variant(cx, env, operand) {
         check_cast(item, index, kind, place_of(operand))?;
         return discriminant(cx, budget, item, index, env.depth_left);
     }
@@ -276,11 +324,11 @@ fn evaluate_operand<'a>(
 }
 
 /// The enum and the number of the variant that an operand of a cast names.
-fn cast_variant<'a>(cx: &Context<'a, '_>, module: u32, operand: &Expr) -> Option<(&'a Item, usize)>
-    ensures { option_map (λ found. (found.0.now, found.1)) result ≡ cast_variant cx.now «module» operand.now }
+fn cast_variant<'a>(cx: &Context<'a, '_>, env: Env<'_>, operand: &Expr) -> Option<(&'a Item, usize)>
+    ensures { option_map (λ found. (found.0.now, found.1)) result ≡ cast_variant cx.now (where_of env.entry) operand.now }
 {
     match operand {
-        Expr::Path(path) => variant_named(cx, module, path),
+        Expr::Path(path) => variant_named(cx, env, path),
         _ => None,
     }
 }
@@ -295,7 +343,9 @@ fn discriminant<'a>(
     index: usize,
     depth_left: u32,
 ) -> Result<ConstValue, Stop>
-    ensures { Means value_as_read (discriminant cx.now (evaluator cx.now depth_left) item.now index) result }
+    requires { AreValues cx.now (get same_key budget.old.values) }
+    ensures value { Means value_as_read (discriminant cx.now (evaluator cx.now depth_left) item.now index) result }
+    ensures kept { IfOk result (λ _. AreValues cx.now (get same_key budget.new.values)) }
 {
     let ItemKind::Enum(all) = &item.kind else {
         return Err(stop_at(item.at, FaultKind::WrongType));
@@ -314,8 +364,10 @@ fn discriminant_base<'a>(
     written: Option<&'a Expr>,
     depth_left: u32,
 ) -> Result<ConstValue, Stop>
-    ensures { Means value_as_read
+    requires { AreValues cx.now (get same_key budget.old.values) }
+    ensures value { Means value_as_read
         (discriminant_base cx.now (evaluator cx.now depth_left) item.now (option_copied written.entry)) result }
+    ensures kept { IfOk result (λ _. AreValues cx.now (get same_key budget.new.values)) }
 {
     let kind = discriminant_kind(item);
     match written {
@@ -365,14 +417,16 @@ fn value_given(cx: &Context<'_, '_>, env: Env<'_>, path: &Path) -> Option<ConstV
 /// The value of a constant that a path names.
 #[cycle(evaluating)]
 #[tactic(auto, unfolding(crate::specs::Evaluating::path_value))]
-pub(crate) fn evaluate_path<'a>(
+fn evaluate_path<'a>(
     cx: &Context<'a, '_>,
     budget: &mut Budget<'a>,
     env: Env<'_>,
     path: &'a Path,
 ) -> Result<ConstValue, Stop>
-    ensures { Means value_as_read
+    requires { AreValues cx.now (get same_key budget.old.values) }
+    ensures value { Means value_as_read
         (path_value cx.now (evaluator cx.now env.entry.depth_left) (where_of env.entry) path.now) result }
+    ensures kept { IfOk result (λ _. AreValues cx.now (get same_key budget.new.values)) }
 {
     if let Some(value) = value_given(cx, env, path) {
         return Ok(value);
@@ -383,9 +437,9 @@ pub(crate) fn evaluate_path<'a>(
     }
 }
 
-/// The value of the constant of this number.
+/// The value of the constant of this number, which is kept once it is found.
 #[cycle(evaluating)]
-#[tactic(auto, unfolding(crate::specs::Evaluating::constant_value))]
+#[tactic(auto, using(crate::proofs::KeptValues::value_is, crate::proofs::KeptValues::one_more))]
 fn constant<'a>(
     cx: &Context<'a, '_>,
     budget: &mut Budget<'a>,
@@ -393,7 +447,31 @@ fn constant<'a>(
     at: Place,
     depth_left: u32,
 ) -> Result<ConstValue, Stop>
-    ensures { Means value_as_read (constant_value cx.now (evaluator cx.now depth_left) number at) result }
+    requires { AreValues cx.now (get same_key budget.old.values) }
+    ensures value { Means value_as_read (constant_value cx.now (evaluator cx.now depth_left) number at) result }
+    ensures kept { IfOk result (λ _. AreValues cx.now (get same_key budget.new.values)) }
+{
+    if let Some(value) = budget.value_kept(number, depth_left) {
+        return Ok(value);
+    }
+    let value = constant_anew(cx, budget, number, at, depth_left)?;
+    budget.keep_value(number, depth_left, value)?;
+    Ok(value)
+}
+
+/// The value of the constant of this number, of which none is kept.
+#[cycle(evaluating)]
+#[tactic(auto, unfolding(crate::specs::Evaluating::constant_value))]
+fn constant_anew<'a>(
+    cx: &Context<'a, '_>,
+    budget: &mut Budget<'a>,
+    number: u32,
+    at: Place,
+    depth_left: u32,
+) -> Result<ConstValue, Stop>
+    requires { AreValues cx.now (get same_key budget.old.values) }
+    ensures value { Means value_as_read (constant_value cx.now (evaluator cx.now depth_left) number at) result }
+    ensures kept { IfOk result (λ _. AreValues cx.now (get same_key budget.new.values)) }
 {
     let unevaluated = FaultKind::Unevaluated(Unevaluated::Expression);
     let Some(item) = item_at(cx.items, number) else {

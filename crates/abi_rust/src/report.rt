@@ -172,7 +172,7 @@ pub(crate) fn report_on<'a>(
     ensures report { (m : Measure) → IsMeasure cx.now.dl.now m → cx.now.known.now ≡ [] →
         IsReported cx.now m subject.entry file result }
 {
-    let mut budget = Budget::new();
+    let mut budget = Budget::new(cx.alloc);
     match attempt(cx, &mut budget, subject, file) {
         Err(Stop::Size) => report_on_sized(cx, &mut budget, subject, file),
         Err(Stop::Fault(at, kind)) => Err(Stop::Fault(at, kind)),

@@ -13,7 +13,7 @@ ghost use Rattle.abi_rust.specs.Values.{value_as_read};
 ghost use Rattle.abi_rust.specs.WrittenNames.{first_name};
 
 use crate::budget::{Budget, Context, Env, copies_of, copy_of, push_given, push_ty};
-use crate::evaluate::{evaluate, evaluate_path};
+use crate::evaluate::{value_of, value_of_path};
 use crate::fault::{FaultKind, Stop, stop_at};
 use crate::kind::{given_named, is_given, kind_written, outside, single_name};
 use crate::operators::same_kind;
@@ -139,7 +139,7 @@ fn length<'a>(
     ensures { Means (λ n. n) (length_of cx.now (where_of env.entry) count.now) result }
 {
     let wanted = Some(Kind::Integer(IntegerKind::Usize));
-    let value = evaluate(cx, budget, env.with_all_depth(), count, wanted)?;
+    let value = value_of(cx, budget, env.with_all_depth(), count, wanted)?;
     length_by(cx, value, count)
 }
 
@@ -471,7 +471,7 @@ fn constant_given_by<'a>(
     match argument {
         Argument::Type(ty) => type_as_constant(cx, budget, env, ty, wanted),
         Argument::Const(expr) => {
-            let value = evaluate(cx, budget, env.with_all_depth(), expr, wanted.kind)?;
+            let value = value_of(cx, budget, env.with_all_depth(), expr, wanted.kind)?;
             Ok(GenericArg::Value(value))
         }
         Argument::Binding(at) => Err(stop_at(*at, FaultKind::Binding)),
@@ -516,7 +516,7 @@ fn type_as_constant<'a>(
             if !may_be_constant(cx, env, path) {
                 return Err(stop_at(wanted.at, FaultKind::WrongKindOfArgument));
             }
-            let value = evaluate_path(cx, budget, env.with_all_depth(), path)?;
+            let value = value_of_path(cx, budget, env.with_all_depth(), path)?;
             if !is_wanted(wanted.kind, value) {
                 return Err(stop_at(wanted.at, FaultKind::WrongType));
             }
@@ -552,7 +552,7 @@ fn given_by_default<'a>(
         ParameterKind::Type(Some(ty)) => Ok(GenericArg::Type(resolve(cx, budget, inside, ty)?)),
         ParameterKind::Const(ty, Some(expr)) => {
             let wanted = kind_written(cx, outside(inside.module), ty);
-            let value = evaluate(cx, budget, inside.with_all_depth(), expr, wanted)?;
+            let value = value_of(cx, budget, inside.with_all_depth(), expr, wanted)?;
             Ok(GenericArg::Value(value))
         }
         _ => Err(stop_at(last.at, FaultKind::WrongArguments(last.name))),

@@ -1,6 +1,6 @@
 //! Calls that ask for the size or the alignment of a type.
 
-ghost use Rattle.std.specs.Prelude.{◌≡◌, Err, Some};
+ghost use Rattle.std.specs.Prelude.{◌≡◌, Err, IfOk, IsErr, Some};
 ghost use Rattle.std.specs.Option.{option_copied};
 ghost use Rattle.abi_rust.specs.Evaluating.{argument_type, asks_by, asks_size, call, only_argument, only_type};
 ghost use Rattle.abi_rust.specs.Kinds.{item_at};
@@ -27,7 +27,8 @@ pub(crate) fn call<'a>(
     path: &'a Path,
     at: Place,
 ) -> Result<ConstValue, Stop>
-    ensures { Means value_as_read (call cx.now (where_of env.entry) path.now at) result }
+    ensures value { Means value_as_read (call cx.now (where_of env.entry) path.now at) result }
+    ensures values { IfOk result (λ _. budget.new.values ≡ budget.old.values) }
 {
     let unevaluated = FaultKind::Unevaluated(Unevaluated::Expression);
     let Some(asks_size) = size_call(cx, env.module, path) else {
@@ -54,7 +55,8 @@ fn await_size<'a>(
     ty: &'a Type,
     at: Place,
 ) -> Result<ConstValue, Stop>
-    ensures { Means value_as_read (Err Stop.Size) result }
+    ensures value { Means value_as_read (Err Stop.Size) result }
+    ensures err { IsErr result }
 {
     let given = copies_of(cx.alloc, budget, env.given)?;
     budget.wanted = Some(Request {

@@ -17,7 +17,7 @@ use crate::above::{Nesting, stands_in};
 use crate::budget::{Budget, Context, Instance, most_deep};
 use crate::copy_types::check_union_fields;
 use crate::discriminants::discriminant_kind;
-use crate::evaluate::evaluate;
+use crate::evaluate::value_of;
 use crate::fault::{FaultKind, Stop, stop_at};
 use crate::formed::check_formed;
 use crate::int::{Int, Width};
@@ -517,7 +517,7 @@ fn discriminant_value<'a>(
     match &next.variant.discriminant {
         Some(expr) => {
             let wanted = Some(Kind::Integer(discriminant_kind(item)));
-            evaluate(cx, budget, outside(item.module), expr, wanted)
+            value_of(cx, budget, outside(item.module), expr, wanted)
         }
         None => number_behind(cx, item, next.last, next.variant.at),
     }

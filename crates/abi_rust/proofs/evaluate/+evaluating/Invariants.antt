@@ -11,8 +11,11 @@ decreases-discriminant_base l = 8 * l.depth_left + 1
 abbrev pub decreases-evaluate_second : goal.decreases-evaluate_second
 decreases-evaluate_second l = 8 * l.env.depth_left + 1
 
+abbrev pub decreases-constant_anew : goal.decreases-constant_anew
+decreases-constant_anew l = 8 * l.depth_left + 1
+
 abbrev pub decreases-constant : goal.decreases-constant
-decreases-constant l = 8 * l.depth_left + 1
+decreases-constant l = 8 * l.depth_left + 2
 
 abbrev pub decreases-evaluate_unary : goal.decreases-evaluate_unary
 decreases-evaluate_unary l = 8 * l.env.depth_left + 1
@@ -27,7 +30,7 @@ abbrev pub decreases-evaluate_operand : goal.decreases-evaluate_operand
 decreases-evaluate_operand l = 8 * l.env.depth_left + 3
 
 abbrev pub decreases-evaluate_path : goal.decreases-evaluate_path
-decreases-evaluate_path l = 8 * l.env.depth_left + 2
+decreases-evaluate_path l = 8 * l.env.depth_left + 3
 
 abbrev pub decreases-evaluate_cast : goal.decreases-evaluate_cast
 decreases-evaluate_cast l = 8 * l.env.depth_left + 4
