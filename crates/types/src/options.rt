@@ -435,12 +435,13 @@ fn prints_targets<'a>(matches: &ArgMatches<'a>) -> Result<bool, OptionFault<'a>>
     }
 }
 
-/// The names of the types that are asked for.
-fn type_names<'a, 'm>(matches: &'m ArgMatches<'a>) -> &'m [&'a str] {
-    match matches.get_strs("transmute") {
-        Some(pair) => pair,
-        None => matches.get_strs("type").unwrap_or(&[]),
+/// The names of the types that are asked for, by the one option or by the other.
+fn type_names<'a>(alloc: Global, matches: &ArgMatches<'a>) -> Result<Vec<&'a str>, AllocError> {
+    let mut names = words_of(alloc, matches.get_strs("type").unwrap_or(&[]))?;
+    for name in matches.get_strs("transmute").unwrap_or(&[]) {
+        names.push(*name)?;
     }
+    Ok(names)
 }
 
 /// What the matches ask for.
@@ -448,7 +449,7 @@ pub(crate) fn options_of<'a>(
     alloc: Global,
     matches: &ArgMatches<'a>,
 ) -> Result<Options<'a>, OptionFault<'a>> {
-    let types = words_of(alloc, type_names(matches))?;
+    let types = type_names(alloc, matches)?;
     let named = matches.get_strs("file").unwrap_or(&[]);
     let files = files_of(
         alloc,
