@@ -18,6 +18,7 @@ pub mod NamesChecked
 pub mod NamesTold
 pub mod Numbers
 pub mod OwnLemmas
+pub mod Parameters
 pub mod ReadingLemmas
 pub mod Rooms
 pub mod Same

@@ -14,6 +14,7 @@ pub mod Measure
 pub mod Names
 pub mod Operators
 pub mod OwnConstants
+pub mod ParameterFree
 pub mod Places
 pub mod Reading
 pub mod Reprs

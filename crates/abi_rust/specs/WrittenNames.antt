@@ -23,9 +23,11 @@ use Rattle.abi_rust.specs.declared.fault.FaultKind.TheVariants.{Ambiguous, NotAT
 use Rattle.abi_rust.specs.declared.paths.Resolution.{Resolution}
 use Rattle.abi_rust.specs.declared.paths.Resolution.TheVariants.{Ambiguous as AmbiguousFound, Hidden, Module}
 use Rattle.abi_rust.specs.declared.paths.Space.TheVariants.{Types, Values}
+use Rattle.abi_rust.specs.Aligned.{discriminants_checked}
 use Rattle.abi_rust.specs.Kinds.{parameter_named, single_name}
 use Rattle.abi_rust.specs.Meaning.{Meaning, then_meant, fault_at, too_deep}
 use Rattle.abi_rust.specs.Names.{found, found_of}
+use Rattle.abi_rust.specs.ParameterFree.{constant_checked, free_checked}
 use Rattle.abi_rust.specs.Places.{last_name, place_of_path}
 use Rattle.abi_rust.specs.Types.{Where}
 use Rattle.abi_rust.specs.Words.{is_same_name}
@@ -47,6 +49,11 @@ first_name (s ∷ ss) = Some (out-Segment s).name
 abbrev pub not_a_type : Symbol → Option Resolution → FaultKind
 not_a_type name (Some found) = NotAType name
 not_a_type name None = UnknownType name
+
+-- an enum's discriminants stand beside names alone, or it has an integer as its repr
+abbrev pub kind_formed : Item → ItemKind → Checked
+kind_formed it (EnumItem all) = then_meant (λ _. Ok tt) (discriminants_checked it all.variants.items)
+kind_formed it _ = Ok tt
 
 module _ (cx : Context) (w : Where) where
   -- the name is a parameter's, or `Self`
@@ -99,10 +106,11 @@ module _ (cx : Context) (w : Where) where
   module _ (check : (is_argument : Bool) → Written → Checked) where
     abbrev pub layer_argument_named : Argument-F Argument Expr Written Path Segment → Checked
     layer_argument_named (layer.«Type» t) = check true t
-    layer_argument_named (layer.Const e) = Ok tt
+    layer_argument_named (layer.Const e) = constant_checked cx w e
     layer_argument_named (layer.Binding at) = Ok tt
 
-    -- the names of an argument; those of a constant's expression are looked for where it is evaluated
+    -- the names of an argument; of a constant's expression the parameters alone, its names are looked for where it is
+    -- evaluated
     abbrev pub argument_named : Argument → Checked
     argument_named a = layer_argument_named (out-Argument a)
 
@@ -119,7 +127,7 @@ module _ (cx : Context) (w : Where) where
     layer_named is_argument layer.Dyn = Ok tt
     layer_named is_argument (layer.Tuple all) = each_checked (check false) all.items
     layer_named is_argument (layer.Function all) = each_checked (check false) all.items
-    layer_named is_argument (layer.Array t e) = check false t.value
+    layer_named is_argument (layer.Array t e) = then_meant (λ _. constant_checked cx w e.value) (check false t.value)
     layer_named is_argument (layer.Slice t) = check false t.value
     layer_named is_argument (layer.Reference is_mutable t) = check false t.value
     layer_named is_argument (layer.Pointer t) = check false t.value
@@ -141,20 +149,34 @@ module _ (cx : Context) (w : Where) where
 
   -- ---- the names of an item
 
+  -- those of a constant's default, if there is one
+  abbrev pub default_named : Option Expr → Checked
+  default_named None = Ok tt
+  default_named (Some e) = constant_checked cx w e
+
+  -- a discriminant names no parameter
+  abbrev pub discriminant_named : Option Expr → Checked
+  discriminant_named None = Ok tt
+  discriminant_named (Some e) = free_checked cx w e
+
   module _ (check : Written → Checked) where
-    -- those of a parameter: its default's, or a constant's type's
+    -- those of a parameter: its default's, and a constant's type's
     abbrev pub parameter_kind_named : ParameterKind → Checked
     parameter_kind_named (TypeParameter None) = Ok tt
     parameter_kind_named (TypeParameter (Some t)) = check t
-    parameter_kind_named (ConstParameter t default) = check t
+    parameter_kind_named (ConstParameter t default) = then_meant (λ _. default_named default) (check t)
 
     -- those of fields
     abbrev pub fields_named : List Field → Checked
     fields_named fs = each_checked (λ f. check f.ty) fs
 
-    -- those of the fields of variants
+    -- those of a variant's fields, and of its discriminant
+    abbrev pub variant_parts_named : Variant → Checked
+    variant_parts_named v = then_meant (λ _. discriminant_named v.discriminant) (fields_named v.fields.all.items)
+
+    -- those of variants
     unfoldable pub variants_named : List Variant → Checked
-    variants_named vs = each_checked (λ v. fields_named v.fields.all.items) vs
+    variants_named vs = each_checked variant_parts_named vs
 
     -- those of parameters
     unfoldable pub parameters_named : List Parameter → Checked
@@ -168,6 +190,6 @@ module _ (cx : Context) (w : Where) where
     kind_named (AliasItem t) = check t
     kind_named (ConstItem c) = Ok tt
 
-    -- those of an item: its parameters', and then those of what it defines
+    -- those of an item: its parameters', and then those of what it defines; and whether that is formed well
     abbrev pub item_named : Item → Checked
-    item_named it = then_meant (λ _. kind_named it.kind) (parameters_named it.parameters.items)
+    item_named it = then_meant (λ _. then_meant (λ _. kind_formed it it.kind) (kind_named it.kind)) (parameters_named it.parameters.items)

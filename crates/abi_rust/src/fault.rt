@@ -93,6 +93,8 @@ pub enum FaultKind {
     RustBeside,
     /// A discriminant in an enum of which a variant has fields, and no integer as its repr.
     DiscriminantWithoutRepr,
+    /// A parameter, or `Self` of an item that has some, in a constant of a type, where it doesn't stand alone.
+    ParameterInConstant,
     /// `simd`, which the stable language hasn't.
     Simd,
     /// A union without fields.

@@ -118,6 +118,8 @@ fn plain_text(kind: FaultKind) -> &'static str {
         FaultKind::RustBeside => "`Rust` doesn't go with `C` or an integer",
         FaultKind::DiscriminantWithoutRepr =>
             "discriminants beside variants with fields want an integer as the repr",
+        FaultKind::ParameterInConstant =>
+            "a parameter stands alone in a constant of a type, which can't be calculated from it",
         FaultKind::Simd => "`simd` isn't read here",
         FaultKind::EmptyUnion => "a union has no fields",
         FaultKind::UnionField =>

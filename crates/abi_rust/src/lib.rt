@@ -32,6 +32,7 @@ mod copy_types;
 mod formed;
 mod kind;
 mod owned;
+mod parameter_free;
 mod resolve;
 mod tail;
 mod ty;

@@ -246,7 +246,8 @@ pub(crate) fn all_units(variants: &[Variant]) -> bool
 
 /// A fault where an enum with a discriminant, and with a variant that is no name alone, has no integer as its repr.
 pub(crate) fn check_discriminants(item: &Item, all: &Enum) -> Result<(), Stop>
-    ensures { Means (λ _. true) (discriminants_checked item.now all.now.variants.items) result }
+    ensures meant { Means (λ _. true) (discriminants_checked item.now all.now.variants.items) result }
+    ensures exact { result ≡ then_meant (λ _. Ok tt) (discriminants_checked item.now all.now.variants.items) }
 {
     if item.repr.integer.is_some() {
         return Ok(());

@@ -7,15 +7,18 @@ ghost use Rattle.abi_rust.specs.Names.{found};
 ghost use Rattle.abi_rust.specs.Places.{last_name};
 ghost use Rattle.abi_rust.specs.Resolving.{inside_item, most_deep};
 ghost use Rattle.abi_rust.specs.Types.{where_of};
-ghost use Rattle.abi_rust.specs.WrittenNames.{argument_named, begins_inside, each_checked, fields_named, first_name, is_type_inside, item_named, kind_named, leads_out, may_name_none, module_named, named_by, names_constant, no_type_named, parameter_kind_named, parameters_named, path_named, segment_named, type_named, type_named_with, types_named, unknown_type, variants_named, whole_path_named};
+ghost use Rattle.abi_rust.specs.WrittenNames.{argument_named, begins_inside, default_named, discriminant_named, each_checked, fields_named, first_name, is_type_inside, item_named, kind_formed, kind_named, leads_out, may_name_none, module_named, named_by, names_constant, no_type_named, parameter_kind_named, parameters_named, path_named, segment_named, type_named, type_named_with, types_named, unknown_type, variant_parts_named, variants_named, whole_path_named};
 
 use crate::budget::{Context, Env, less, most_deep};
 use crate::fault::{FaultKind, Stop, stop_at};
 use crate::kind::{parameter_named, single_name};
+use crate::parameter_free::{check_constant, check_free};
 use crate::paths::{Resolution, Space, find, find_prefix};
 use crate::places::place_of_path;
+use crate::repr_fields::check_discriminants;
 use rust_source::{
-    Argument, Field, Item, ItemKind, Parameter, ParameterKind, Path, Segment, Symbol, Type, Variant,
+    Argument, Expr, Field, Item, ItemKind, Parameter, ParameterKind, Path, Segment, Symbol, Type,
+    Variant,
 };
 
 /// Whether a name is a parameter's, or `Self`.
@@ -172,7 +175,10 @@ fn check_type_with(
         Type::Dyn => Ok(()),
         Type::Tuple(parts) => check_types(cx, env, parts, depth_left),
         Type::Function(types) => check_types(cx, env, types, depth_left),
-        Type::Array(element, _) => check_type(cx, env, element, false, depth_left),
+        Type::Array(element, count) => {
+            check_type(cx, env, element, false, depth_left)?;
+            check_constant(cx, env, count)
+        }
         Type::Slice(element) => check_type(cx, env, element, false, depth_left),
         Type::Reference(_, pointee) => check_type(cx, env, pointee, false, depth_left),
         Type::Pointer(pointee) => check_type(cx, env, pointee, false, depth_left),
@@ -263,7 +269,7 @@ fn check_argument(
 {
     match argument {
         Argument::Type(ty) => check_type(cx, env, ty, true, depth_left),
-        Argument::Const(_) => Ok(()),
+        Argument::Const(expr) => check_constant(cx, env, expr),
         Argument::Binding(_) => Ok(()),
     }
 }
@@ -294,16 +300,49 @@ fn check_fields(cx: &Context<'_, '_>, env: Env<'_>, fields: &[Field]) -> Result<
     Ok(())
 }
 
-/// A fault where a name in the fields of variants names no type.
+/// A fault where a discriminant that is written names a parameter.
+fn check_discriminant(
+    cx: &Context<'_, '_>,
+    env: Env<'_>,
+    discriminant: &Option<Expr>,
+) -> Result<(), Stop>
+    ensures { result ≡ discriminant_named cx.now (where_of env.entry) discriminant.now }
+{
+    match discriminant {
+        Some(expr) => check_free(cx, env, expr),
+        None => Ok(()),
+    }
+}
+
+/// A fault where a name in a variant's fields names no type, or its discriminant names a parameter.
+fn check_variant(cx: &Context<'_, '_>, env: Env<'_>, variant: &Variant) -> Result<(), Stop>
+    ensures { result ≡ variant_parts_named cx.now (where_of env.entry)
+        (type_named cx.now (where_of env.entry) most_deep false) variant.now }
+{
+    check_fields(cx, env, variant.fields.all.as_slice())?;
+    check_discriminant(cx, env, &variant.discriminant)
+}
+
+/// The same of all variants.
 #[tactic(auto, unfolding(crate::specs::WrittenNames::variants_named), using(crate::proofs::NamesChecked::each_more, crate::proofs::NamesChecked::each_done))]
 fn check_variants(cx: &Context<'_, '_>, env: Env<'_>, variants: &[Variant]) -> Result<(), Stop>
     ensures { result ≡ variants_named cx.now (where_of env.entry)
         (type_named cx.now (where_of env.entry) most_deep false) variants.now }
 {
     for variant in variants {
-        check_fields(cx, env, variant.fields.all.as_slice())?;
+        check_variant(cx, env, variant)?;
     }
     Ok(())
+}
+
+/// A fault where a constant parameter's default is calculated from a parameter.
+fn check_default(cx: &Context<'_, '_>, env: Env<'_>, default: &Option<Expr>) -> Result<(), Stop>
+    ensures { result ≡ default_named cx.now (where_of env.entry) default.now }
+{
+    match default {
+        Some(expr) => check_constant(cx, env, expr),
+        None => Ok(()),
+    }
 }
 
 /// A fault where a name in a parameter's default, or in a constant parameter's type, names no type.
@@ -314,7 +353,10 @@ fn check_parameter(cx: &Context<'_, '_>, env: Env<'_>, parameter: &Parameter) ->
     match &parameter.kind {
         ParameterKind::Type(None) => Ok(()),
         ParameterKind::Type(Some(ty)) => check_one(cx, env, ty),
-        ParameterKind::Const(ty, _) => check_one(cx, env, ty),
+        ParameterKind::Const(ty, default) => {
+            check_one(cx, env, ty)?;
+            check_default(cx, env, default)
+        }
     }
 }
 
@@ -360,12 +402,24 @@ fn inside_item(number: u32, item: &Item) -> Env<'static>
     }
 }
 
-/// A fault where a name that stands in an item names no type, whatever its parameters are given.
+/// A fault where an enum has discriminants beside variants with fields, and no integer as its repr.
+fn check_enum(item: &Item) -> Result<(), Stop>
+    ensures { result ≡ kind_formed item.now item.now.kind }
+{
+    match &item.kind {
+        ItemKind::Enum(all) => check_discriminants(item, all),
+        _ => Ok(()),
+    }
+}
+
+/// A fault where a name that stands in an item names no type, or its definition isn't well-formed, whatever its parameters
+/// are given.
 pub(crate) fn check_item(cx: &Context<'_, '_>, number: u32, item: &Item) -> Result<(), Stop>
     ensures { result ≡ item_named cx.now (inside_item number item.now [])
         (type_named cx.now (inside_item number item.now []) most_deep false) item.now }
 {
     let env = inside_item(number, item);
     check_parameters(cx, env, item.parameters.as_slice())?;
-    check_kind(cx, env, item)
+    check_kind(cx, env, item)?;
+    check_enum(item)
 }
