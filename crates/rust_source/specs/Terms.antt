@@ -285,6 +285,7 @@ module _ (R : Readers) where
   primary_by c (Some (kind.Open bracket.Round)) names = bracketed bracket.Round c names
   primary_by c (Some (kind.Open bracket.Curly)) names = bracketed bracket.Curly c names
   primary_by c (Some (kind.Keyword keyword.If)) names = R.choice_in (place c) (passed c 1) names
+  primary_by c (Some (kind.Keyword keyword.Const)) names = bracketed bracket.Curly (passed c 1) names
   primary_by c _ names = value c names
 
   -- the operand without operators that is next

@@ -341,6 +341,10 @@ fn read_primary(
             pass(cursor, 1);
             read_choice(names, cursor, at, depth_left)
         }
+        Some(TokenKind::Keyword(Keyword::Const)) => {
+            pass(cursor, 1);
+            read_in(names, cursor, Bracket::Curly, depth_left)
+        }
         _ => read_value(names, cursor, depth_left),
     }
 }
