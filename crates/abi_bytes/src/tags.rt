@@ -38,7 +38,7 @@ struct NicheCount {
 
 /// Which variants a niche names: those from the first to the last but the untagged one.
 #[derive(Clone, Copy)]
-struct NicheSpan {
+struct NicheTag {
     niche: NicheCount,
     untagged: usize,
     last: usize,
@@ -113,7 +113,7 @@ fn beside_formula(
 fn others_formula(
     walk: Making<'_>,
     formulas: &mut Formulas,
-    span: NicheSpan,
+    span: NicheTag,
 ) -> Result<usize, AllocError>
     requires { span.niche.width ≤ 16 }
     ensures { IfOk result (IsFormula (formulas_in formulas.old) (formulas_in formulas.new) span.niche.width
@@ -202,7 +202,7 @@ pub(crate) fn tag_formula(
             let untagged = untagged_variant.as_usize();
             if i == untagged {
                 let last = niche_variants.last.as_usize();
-                let span = NicheSpan {
+                let span = NicheTag {
                     niche,
                     untagged,
                     last,

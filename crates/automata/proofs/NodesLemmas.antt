@@ -5,24 +5,24 @@ use Rattle.std.proofs.lemmas.Bool.{cases_lt}
 use Rattle.automata.specs.Formula.{Formula, never, run, both, either, gap, each, Same}
 use Rattle.automata.specs.Nodes.{formula_in, meaning, meanings, formulas_in, IsNode, AreNodes}
 use Rattle.automata.specs.Formulas.{Keeps, IsMade}
-use Rattle.automata.specs.declared.node.Node.{Node}
-use Rattle.automata.specs.declared.node.Node.TheVariants.{Any, Never, Run, Both, Either, Gap, Each}
+use Rattle.automata.specs.declared.node.FormulaNode.{FormulaNode}
+use Rattle.automata.specs.declared.node.FormulaNode.TheVariants.{Any, Never, Run, Both, Either, Gap, Each}
 
-meanings-length : (done : List Formula) (ns : List Node) → length (meanings done ns) ≡ length done + length ns
+meanings-length : (done : List Formula) (ns : List FormulaNode) → length (meanings done ns) ≡ length done + length ns
 meanings-length done [] = omega arith
 meanings-length done (n ∷ ns) = omega (arith, meanings-length (done ++ meaning done n ∷ []) ns, length-append done (meaning done n ∷ []))
 
-pub formulas_length : (ns : List Node) → length (formulas_in ns) ≡ length ns
+pub formulas_length : (ns : List FormulaNode) → length (formulas_in ns) ≡ length ns
 formulas_length ns = omega (arith, meanings-length [] ns)
 
-meanings-first : (done : List Formula) (ns : List Node) (i : ℕ) → i < length done → formula_in (meanings done ns) i ≡ formula_in done i
+meanings-first : (done : List Formula) (ns : List FormulaNode) (i : ℕ) → i < length done → formula_in (meanings done ns) i ≡ formula_in done i
 meanings-first done [] i lt = refl
 meanings-first done (m ∷ ns) i lt =
     let x = meaning done m in
     meanings-first (done ++ x ∷ []) ns i (omega (arith, length-append done (x ∷ []))) ∙ get_or_append_left done (x ∷ []) never i lt
 
 -- a node that names formulas that are there means the same after more of them
-meaning-more : (old new : List Formula) (n : Node) → ((i : ℕ) → i < length old → formula_in new i ≡ formula_in old i) → IsNode (length old) n → meaning new n ≡ meaning old n
+meaning-more : (old new : List Formula) (n : FormulaNode) → ((i : ℕ) → i < length old → formula_in new i ≡ formula_in old i) → IsNode (length old) n → meaning new n ≡ meaning old n
 meaning-more old new Any same is = refl
 meaning-more old new Never same is = refl
 meaning-more old new (Run start end next) same is = ap (run start end) (same next is)
@@ -31,7 +31,7 @@ meaning-more old new (Either f g) same is = ap (λ x. either x (formula_in new g
 meaning-more old new (Gap count f) same is = ap (gap count) (same f is)
 meaning-more old new (Each count size f) same is = ap (each count size) (same f is.0)
 
-meanings-at : (done : List Formula) (ns : List Node) (i : ℕ) (d : Node) → ((k : ℕ) (d : Node) → k < length ns → IsNode (length done + k) (get_or ns k d)) → i < length ns →
+meanings-at : (done : List Formula) (ns : List FormulaNode) (i : ℕ) (d : FormulaNode) → ((k : ℕ) (d : FormulaNode) → k < length ns → IsNode (length done + k) (get_or ns k d)) → i < length ns →
     formula_in (meanings done ns) (length done + i) ≡ meaning (meanings done ns) (get_or ns i d)
 meanings-at done [] i d well lt = absurd (omega arith)
 meanings-at done (m ∷ ns) zero d well lt =
@@ -50,17 +50,17 @@ meanings-at done (m ∷ ns) (suc i) d well lt =
     ∙ meanings-at more ns i d (λ k e lt. subst (λ j. IsNode j (get_or ns k e)) (omega (arith, long)) (well (suc k) e (omega (arith, lt)))) (omega arith)
 
 -- what the node at a place means
-pub formula-at : (ns : List Node) → AreNodes ns → (i : ℕ) (d : Node) → i < length ns → formula_in (formulas_in ns) i ≡ meaning (formulas_in ns) (get_or ns i d)
+pub formula-at : (ns : List FormulaNode) → AreNodes ns → (i : ℕ) (d : FormulaNode) → i < length ns → formula_in (formulas_in ns) i ≡ meaning (formulas_in ns) (get_or ns i d)
 formula-at ns well i d lt = ap (formula_in (formulas_in ns)) (omega arith) ∙ meanings-at [] ns i d (λ k d lt. subst (λ j. IsNode j (get_or ns k d)) (omega arith) (well k d lt)) lt
 
-meanings-append : (done : List Formula) (ns : List Node) (n : Node) → meanings done (ns ++ n ∷ []) ≡ meanings done ns ++ meaning (meanings done ns) n ∷ []
+meanings-append : (done : List Formula) (ns : List FormulaNode) (n : FormulaNode) → meanings done (ns ++ n ∷ []) ≡ meanings done ns ++ meaning (meanings done ns) n ∷ []
 meanings-append done [] n = refl
 meanings-append done (m ∷ ns) n = meanings-append (done ++ meaning done m ∷ []) ns n
 
-pub formulas_in-push : (ns : List Node) (n : Node) → formulas_in (ns ++ n ∷ []) ≡ formulas_in ns ++ meaning (formulas_in ns) n ∷ []
+pub formulas_in-push : (ns : List FormulaNode) (n : FormulaNode) → formulas_in (ns ++ n ∷ []) ≡ formulas_in ns ++ meaning (formulas_in ns) n ∷ []
 formulas_in-push ns n = meanings-append [] ns n
 
-pub AreNodes-push : (ns new : List Node) (n : Node) → new ≡ ns ++ n ∷ [] → IsNode (length ns) n → AreNodes ns → AreNodes new
+pub AreNodes-push : (ns new : List FormulaNode) (n : FormulaNode) → new ≡ ns ++ n ∷ [] → IsNode (length ns) n → AreNodes ns → AreNodes new
 AreNodes-push ns new n is here well i d lt =
     ⊎_elim
     (λ before. subst (IsNode i) (sym (ap (λ xs. get_or xs i d) is ∙ get_or_append_left ns (n ∷ []) d i before)) (well i d before))
@@ -105,7 +105,7 @@ IsMade-same old new f g i same is = record {
 
 -- ---- nodes as they are kept
 
-module _ (inside now : List Node) (same : inside ≡ now) (well : AreNodes inside) (i : ℕ) (n : Node) (lt : i < length (formulas_in now)) (is : n ≡ get_or inside i n) where
+module _ (inside now : List FormulaNode) (same : inside ≡ now) (well : AreNodes inside) (i : ℕ) (n : FormulaNode) (lt : i < length (formulas_in now)) (is : n ≡ get_or inside i n) where
   there : i < length inside
   there = omega (arith, lt, formulas_length now, ap length same)
 
@@ -115,17 +115,17 @@ module _ (inside now : List Node) (same : inside ≡ now) (well : AreNodes insid
   pub node_earlier : IsNode i n
   node_earlier = subst (IsNode i) (sym is) (well i n there)
 
-pub node_there : (inside now : List Node) (i : ℕ) → inside ≡ now → i < length (formulas_in now) → i < length inside
+pub node_there : (inside now : List FormulaNode) (i : ℕ) → inside ≡ now → i < length (formulas_in now) → i < length inside
 node_there inside now i same lt = omega (arith, lt, formulas_length now, ap length same)
 
-pub node_found : (inside now : List Node) (at k : ℕ) → inside ≡ now → 0 < at → at ≤ k → k ≡ length inside → at - 1 < length (formulas_in now)
+pub node_found : (inside now : List FormulaNode) (at k : ℕ) → inside ≡ now → 0 < at → at ≤ k → k ≡ length inside → at - 1 < length (formulas_in now)
 node_found inside now at k same pos le is = omega (arith, pos, le, is, formulas_length now, ap length same)
 
-pub node_put : (inside now new : List Node) (n : Node) (i : ℕ) → inside ≡ now → new ≡ inside ++ n ∷ [] → i ≡ length inside →
+pub node_put : (inside now new : List FormulaNode) (n : FormulaNode) (i : ℕ) → inside ≡ now → new ≡ inside ++ n ∷ [] → i ≡ length inside →
     IsMade (formulas_in now) (formulas_in new) (meaning (formulas_in now) n) i
 node_put inside now new n i same is at =
     subst (λ xs. IsMade (formulas_in xs) (formulas_in new) (meaning (formulas_in xs) n) i) same
     (IsMade-put (formulas_in inside) (formulas_in new) (meaning (formulas_in inside) n) i (ap formulas_in is ∙ formulas_in-push inside n) (at ∙ sym (formulas_length inside)))
 
-pub nodes_put : (inside now new : List Node) (n : Node) → inside ≡ now → new ≡ inside ++ n ∷ [] → IsNode (length (formulas_in now)) n → AreNodes inside → AreNodes new
+pub nodes_put : (inside now new : List FormulaNode) (n : FormulaNode) → inside ≡ now → new ≡ inside ++ n ∷ [] → IsNode (length (formulas_in now)) n → AreNodes inside → AreNodes new
 nodes_put inside now new n same is here well = AreNodes-push inside new n is (subst (λ k. IsNode k n) (formulas_length now ∙ ap length (sym same)) here) well

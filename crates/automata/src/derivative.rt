@@ -5,7 +5,7 @@ ghost use Rattle.automata.specs.Derivative.{IsDerivative};
 ghost use Rattle.automata.specs.Nodes.{formula_in, formulas_in};
 
 use crate::formulas::Formulas;
-use crate::node::Node;
+use crate::node::FormulaNode;
 use std::alloc::{AllocError, Global};
 
 /// The formula that is left behind each letter of a run.
@@ -29,9 +29,9 @@ pub(crate) fn derive(
     ensures { IfOk result (IsDerivative (formulas_in formulas.old) (formulas_in formulas.new) (formula_in (formulas_in formulas.old) f) letter end) }
 {
     match formulas.node(f) {
-        Node::Any => Ok(Derivative { formula: f, end }),
-        Node::Never => Ok(Derivative { formula: f, end }),
-        Node::Run {
+        FormulaNode::Any => Ok(Derivative { formula: f, end }),
+        FormulaNode::Never => Ok(Derivative { formula: f, end }),
+        FormulaNode::Run {
             start,
             end: past,
             next,
@@ -52,7 +52,7 @@ pub(crate) fn derive(
             let formula = formulas.no_cells(alloc)?;
             Ok(Derivative { formula, end })
         }
-        Node::Both(g, h) => {
+        FormulaNode::Both(g, h) => {
             let first = derive(alloc, formulas, g, letter, end)?;
             let second = derive(alloc, formulas, h, letter, first.end)?;
             let formula = formulas.conjunction(alloc, first.formula, second.formula)?;
@@ -61,7 +61,7 @@ pub(crate) fn derive(
                 end: second.end,
             })
         }
-        Node::Either(g, h) => {
+        FormulaNode::Either(g, h) => {
             let first = derive(alloc, formulas, g, letter, end)?;
             let second = derive(alloc, formulas, h, letter, first.end)?;
             let formula = formulas.disjunction(alloc, first.formula, second.formula)?;
@@ -70,7 +70,7 @@ pub(crate) fn derive(
                 end: second.end,
             })
         }
-        Node::Gap(count, g) => {
+        FormulaNode::Gap(count, g) => {
             if count == 0 {
                 let found = derive(alloc, formulas, g, letter, end)?;
                 return Ok(found);
@@ -78,7 +78,7 @@ pub(crate) fn derive(
             let formula = formulas.gap(alloc, count - 1, g)?;
             Ok(Derivative { formula, end })
         }
-        Node::Each {
+        FormulaNode::Each {
             count,
             size,
             element,

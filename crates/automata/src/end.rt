@@ -5,7 +5,7 @@ ghost use Rattle.automata.specs.Formula.{Reads};
 ghost use Rattle.automata.specs.Nodes.{formula_in, formulas_in};
 
 use crate::formulas::Formulas;
-use crate::node::Node;
+use crate::node::FormulaNode;
 
 /// Whether the formula reads the list without cells.
 pub(crate) fn reads_end(formulas: &Formulas, f: usize) -> bool
@@ -13,13 +13,13 @@ pub(crate) fn reads_end(formulas: &Formulas, f: usize) -> bool
     ensures { MatchBool result (Reads (formula_in (formulas_in formulas.entry.now) f) []) (Reads (formula_in (formulas_in formulas.entry.now) f) [] → ⊥) }
 {
     match formulas.node(f) {
-        Node::Any => true,
-        Node::Never => false,
-        Node::Run { .. } => false,
-        Node::Both(g, h) => reads_end(formulas, g) && reads_end(formulas, h),
-        Node::Either(g, h) => reads_end(formulas, g) || reads_end(formulas, h),
-        Node::Gap(_, g) => reads_end(formulas, g),
-        Node::Each {
+        FormulaNode::Any => true,
+        FormulaNode::Never => false,
+        FormulaNode::Run { .. } => false,
+        FormulaNode::Both(g, h) => reads_end(formulas, g) && reads_end(formulas, h),
+        FormulaNode::Either(g, h) => reads_end(formulas, g) || reads_end(formulas, h),
+        FormulaNode::Gap(_, g) => reads_end(formulas, g),
+        FormulaNode::Each {
             count: _,
             size: _,
             element,

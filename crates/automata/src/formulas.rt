@@ -4,9 +4,9 @@ ghost use Rattle.std.specs.Prelude.{◌≡◌, ◌<◌, [], length, IfOk, IfSome
 ghost use Rattle.automata.specs.Formula.{any, both, each, either, gap, never, run};
 ghost use Rattle.automata.specs.Formulas.{IsMade};
 ghost use Rattle.automata.specs.Nodes.{IsNode, formula_in, formulas_in, meaning};
-ghost use Rattle.automata.specs.declared.node.Node.{Node as OneNode};
+ghost use Rattle.automata.specs.declared.node.FormulaNode.{FormulaNode as OneNode};
 
-use crate::node::{Node, number_of};
+use crate::node::{FormulaNode, number_of};
 use std::alloc::{AllocError, Global};
 use std::marker::Model;
 
@@ -21,7 +21,7 @@ const MOST_CHAINS: usize = 1 << 22;
 /// place, and 0 where there is none.
 #[derive(Drop)]
 pub struct Formulas {
-    nodes: Vec<Node>,
+    nodes: Vec<FormulaNode>,
     newest: Vec<usize>,
     before: Vec<usize>,
 }
@@ -29,7 +29,7 @@ pub struct Formulas {
 impl Model for Formulas {
     ghost use Rattle.std.specs.Prelude.{List, ◌<◌, ◌≤◌, length};
     ghost use Rattle.automata.specs.Nodes.{AreNodes};
-    ghost use Rattle.automata.specs.declared.node.Node.{Node as OneNode};
+    ghost use Rattle.automata.specs.declared.node.FormulaNode.{FormulaNode as OneNode};
 
     ghost Value = { List OneNode };
 
@@ -40,14 +40,14 @@ impl Model for Formulas {
 }
 
 /// Whether the node is that of any cells.
-fn is_any(node: Node) -> bool
+fn is_any(node: FormulaNode) -> bool
     ensures { IsTrue result → node ≡ OneNode.Any }
 {
-    matches!(node, Node::Any)
+    matches!(node, FormulaNode::Any)
 }
 
 /// Whether the nodes are equal.
-fn is_same(node: Node, other: Node) -> bool
+fn is_same(node: FormulaNode, other: FormulaNode) -> bool
     ensures { IsTrue result → node ≡ other }
 {
     node == other
@@ -74,7 +74,7 @@ impl Formulas {
     }
 
     /// The node of the formula at a place.
-    pub(crate) fn node(&self, place: usize) -> Node
+    pub(crate) fn node(&self, place: usize) -> FormulaNode
         requires { place < length (formulas_in self.now) }
         ensures formula { formula_in (formulas_in self.now) place ≡ meaning (formulas_in self.now) result }
         ensures earlier { IsNode place result }
@@ -108,7 +108,7 @@ impl Formulas {
     }
 
     /// The place of a node that is there.
-    fn find(&self, node: Node) -> Option<usize>
+    fn find(&self, node: FormulaNode) -> Option<usize>
         ensures there { IfSome result (λ place. place < length (formulas_in self.now)) }
         ensures same { IfSome result (λ place. formula_in (formulas_in self.now) place ≡ meaning (formulas_in self.now) node) }
     {
@@ -123,7 +123,7 @@ impl Formulas {
     }
 
     /// Puts a node behind the others, in no chain yet.
-    fn put_node(&mut self, node: Node) -> Result<usize, AllocError>
+    fn put_node(&mut self, node: FormulaNode) -> Result<usize, AllocError>
         requires { IsNode (length (formulas_in self.old)) node }
         ensures { IfOk result (IsMade (formulas_in self.old) (formulas_in self.new) (meaning (formulas_in self.old) node)) }
     {
@@ -134,7 +134,7 @@ impl Formulas {
     }
 
     /// The place of a node, which is put behind the others where it isn't there yet.
-    fn place_of(&mut self, alloc: Global, node: Node) -> Result<usize, AllocError>
+    fn place_of(&mut self, alloc: Global, node: FormulaNode) -> Result<usize, AllocError>
         requires { IsNode (length (formulas_in self.old)) node }
         ensures { IfOk result (IsMade (formulas_in self.old) (formulas_in self.new) (meaning (formulas_in self.old) node)) }
     {
@@ -153,7 +153,7 @@ impl Formulas {
     pub fn any_cells(&mut self, alloc: Global) -> Result<usize, AllocError>
         ensures { IfOk result (IsMade (formulas_in self.old) (formulas_in self.new) any) }
     {
-        let place = self.place_of(alloc, Node::Any)?;
+        let place = self.place_of(alloc, FormulaNode::Any)?;
         Ok(place)
     }
 
@@ -161,7 +161,7 @@ impl Formulas {
     pub fn no_cells(&mut self, alloc: Global) -> Result<usize, AllocError>
         ensures { IfOk result (IsMade (formulas_in self.old) (formulas_in self.new) never) }
     {
-        let place = self.place_of(alloc, Node::Never)?;
+        let place = self.place_of(alloc, FormulaNode::Never)?;
         Ok(place)
     }
 
@@ -176,11 +176,11 @@ impl Formulas {
         requires { next < length (formulas_in self.old) }
         ensures { IfOk result (IsMade (formulas_in self.old) (formulas_in self.new) (run start end (formula_in (formulas_in self.old) next))) }
     {
-        if start >= end || self.node(next) == Node::Never {
-            let place = self.place_of(alloc, Node::Never)?;
+        if start >= end || self.node(next) == FormulaNode::Never {
+            let place = self.place_of(alloc, FormulaNode::Never)?;
             return Ok(place);
         }
-        let place = self.place_of(alloc, Node::Run { start, end, next })?;
+        let place = self.place_of(alloc, FormulaNode::Run { start, end, next })?;
         Ok(place)
     }
 
@@ -193,13 +193,13 @@ impl Formulas {
     {
         let first = self.node(f);
         let second = self.node(g);
-        if f == g || second == Node::Any || first == Node::Never {
+        if f == g || second == FormulaNode::Any || first == FormulaNode::Never {
             return Ok(f);
         }
-        if first == Node::Any || second == Node::Never {
+        if first == FormulaNode::Any || second == FormulaNode::Never {
             return Ok(g);
         }
-        let place = self.place_of(alloc, Node::Both(f, g))?;
+        let place = self.place_of(alloc, FormulaNode::Both(f, g))?;
         Ok(place)
     }
 
@@ -212,13 +212,13 @@ impl Formulas {
     {
         let first = self.node(f);
         let second = self.node(g);
-        if f == g || second == Node::Never || first == Node::Any {
+        if f == g || second == FormulaNode::Never || first == FormulaNode::Any {
             return Ok(f);
         }
-        if first == Node::Never || second == Node::Any {
+        if first == FormulaNode::Never || second == FormulaNode::Any {
             return Ok(g);
         }
-        let place = self.place_of(alloc, Node::Either(f, g))?;
+        let place = self.place_of(alloc, FormulaNode::Either(f, g))?;
         Ok(place)
     }
 
@@ -228,10 +228,10 @@ impl Formulas {
         ensures { IfOk result (IsMade (formulas_in self.old) (formulas_in self.new) (gap count (formula_in (formulas_in self.old) f))) }
     {
         let node = self.node(f);
-        if count == 0 || node == Node::Any || node == Node::Never {
+        if count == 0 || node == FormulaNode::Any || node == FormulaNode::Never {
             return Ok(f);
         }
-        let place = self.place_of(alloc, Node::Gap(count, f))?;
+        let place = self.place_of(alloc, FormulaNode::Gap(count, f))?;
         Ok(place)
     }
 
@@ -247,7 +247,7 @@ impl Formulas {
         ensures { IfOk result (IsMade (formulas_in self.old) (formulas_in self.new) (each count size (formula_in (formulas_in self.old) f))) }
     {
         if count == 0 {
-            let place = self.place_of(alloc, Node::Any)?;
+            let place = self.place_of(alloc, FormulaNode::Any)?;
             return Ok(place);
         }
         if count == 1 {
@@ -261,7 +261,7 @@ impl Formulas {
         }
         let place = self.place_of(
             alloc,
-            Node::Each {
+            FormulaNode::Each {
                 count,
                 size,
                 element: f,

@@ -12,7 +12,7 @@ use crate::cell::{LETTERS, cell_of};
 use crate::derivative::derive;
 use crate::end::reads_end;
 use crate::formulas::Formulas;
-use crate::node::Node;
+use crate::node::FormulaNode;
 use crate::visits::{Visit, Visits};
 use std::alloc::{AllocError, Global};
 
@@ -68,8 +68,8 @@ fn add_visit(
     ensures { OnOk result (IsVisited (formulas_in formulas.entry.now) visits.old visits.new visit) }
 {
     if visit.left == visit.right
-        || formulas.node(visit.left) == Node::Never
-        || formulas.node(visit.right) == Node::Any
+        || formulas.node(visit.left) == FormulaNode::Never
+        || formulas.node(visit.right) == FormulaNode::Any
         || visits.is_seen(visit)
     {
         return Ok(());

@@ -2,7 +2,7 @@
 
 /// A formula, whose parts are named by their places among earlier ones.
 #[derive(Clone, Copy, PartialEq, Eq)]
-pub(crate) enum Node {
+pub(crate) enum FormulaNode {
     /// Any cells.
     Any,
     /// None.
@@ -28,15 +28,15 @@ pub(crate) enum Node {
 }
 
 /// A number that is made of a node's, for looking it up.
-pub(crate) fn number_of(node: Node) -> u64 {
+pub(crate) fn number_of(node: FormulaNode) -> u64 {
     let (kind, first, second, third) = match node {
-        Node::Any => (1, 0, 0, 0),
-        Node::Never => (2, 0, 0, 0),
-        Node::Run { start, end, next } => (3, start as u64, end as u64, next as u64),
-        Node::Both(f, g) => (4, f as u64, g as u64, 0),
-        Node::Either(f, g) => (5, f as u64, g as u64, 0),
-        Node::Gap(count, f) => (6, count, f as u64, 0),
-        Node::Each {
+        FormulaNode::Any => (1, 0, 0, 0),
+        FormulaNode::Never => (2, 0, 0, 0),
+        FormulaNode::Run { start, end, next } => (3, start as u64, end as u64, next as u64),
+        FormulaNode::Both(f, g) => (4, f as u64, g as u64, 0),
+        FormulaNode::Either(f, g) => (5, f as u64, g as u64, 0),
+        FormulaNode::Gap(count, f) => (6, count, f as u64, 0),
+        FormulaNode::Each {
             count,
             size,
             element,

@@ -9,7 +9,7 @@ ghost use Rattle.automata.specs.Reach.{ArePeriods, AreReaches, IsRepeated, reach
 
 use crate::formulas::Formulas;
 use crate::inclusion::{Inclusion, compare_cells};
-use crate::node::Node;
+use crate::node::FormulaNode;
 use crate::reach::reaches;
 use std::alloc::{AllocError, Global};
 
@@ -36,7 +36,7 @@ fn repetition_of(formulas: &Formulas, f: usize) -> Option<Repeated>
     ensures { IfSome result (IsRepeated (formulas_in formulas.now) f) }
 {
     match formulas.node(f) {
-        Node::Each {
+        FormulaNode::Each {
             count,
             size,
             element,

@@ -6,7 +6,7 @@ ghost use Rattle.automata.specs.Nodes.{IsNode, formulas_in, meaning};
 ghost use Rattle.automata.specs.Reach.{AreReaches, IsReach};
 
 use crate::formulas::Formulas;
-use crate::node::Node;
+use crate::node::FormulaNode;
 use std::alloc::{AllocError, Global};
 
 /// The first cells that a repeated formula looks at, which looks at so many itself, and the greatest number where there are
@@ -20,22 +20,22 @@ fn repeated_reach(count: u64, size: u64, reach: u64) -> u64
 
 /// The first cells that a formula looks at, by those that the formulas it is made of look at, and the greatest number where
 /// there are more.
-fn reach_of(node: Node, reaches: &Vec<u64>) -> u64
+fn reach_of(node: FormulaNode, reaches: &Vec<u64>) -> u64
     requires { IsNode (length reaches.now.items) node }
     ensures { (fs : List Formula) → AreReaches fs reaches.now.items → IsReach (meaning fs node) result }
 {
     match node {
-        Node::Any => 0,
-        Node::Never => 0,
-        Node::Run {
+        FormulaNode::Any => 0,
+        FormulaNode::Never => 0,
+        FormulaNode::Run {
             start: _,
             end: _,
             next,
         } => reaches[next].saturating_add(1),
-        Node::Both(f, g) => reaches[f].max(reaches[g]),
-        Node::Either(f, g) => reaches[f].max(reaches[g]),
-        Node::Gap(count, f) => reaches[f].saturating_add(count),
-        Node::Each {
+        FormulaNode::Both(f, g) => reaches[f].max(reaches[g]),
+        FormulaNode::Either(f, g) => reaches[f].max(reaches[g]),
+        FormulaNode::Gap(count, f) => reaches[f].saturating_add(count),
+        FormulaNode::Each {
             count,
             size,
             element,
