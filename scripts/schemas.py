@@ -7,6 +7,7 @@ WORDS = {
 }
 KINDS = {
     "null": lambda it: it is None,
+    "boolean": lambda it: isinstance(it, bool),
     "string": lambda it: isinstance(it, str),
     "integer": lambda it: isinstance(it, int) and not isinstance(it, bool),
     "array": lambda it: isinstance(it, list),
