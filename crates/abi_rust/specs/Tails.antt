@@ -3,7 +3,7 @@ use Rattle.std.specs.Prelude.{ℕ, zero, suc, ◌&&◌, ◌||◌, nat_eq, Bool, 
 use Rattle.rust_source.specs.declared.item.Field.{Field}
 use Rattle.rust_source.specs.declared.item.Item.{Item}
 use Rattle.rust_source.specs.declared.item.ItemKind.{ItemKind}
-use Rattle.rust_source.specs.declared.item.ItemKind.TheVariants.{Struct as StructItem}
+use Rattle.rust_source.specs.declared.item.ItemKind.TheVariants.{Struct as StructItem, Union as UnionItem}
 use Rattle.rust_source.specs.declared.item.Parameter.{Parameter}
 use Rattle.rust_source.specs.declared.item.ParameterKind.{ParameterKind}
 use Rattle.rust_source.specs.declared.item.ParameterKind.TheVariants.{Const as ConstParameter, «Type» as TypeParameter}
@@ -54,9 +54,10 @@ last_of [] = None
 last_of (f ∷ []) = Some f
 last_of (f ∷ fs) = last_of fs
 
--- the field that may be without a size: the last of a struct. Each field of a union or a variant needs one
+-- the last field of a struct or a union
 abbrev pub tail_field : ItemKind → Option Field
 tail_field (StructItem fields) = last_of fields.all.items
+tail_field (UnionItem fields) = last_of fields.all.items
 tail_field _ = None
 
 -- how a pointer's tail is found, of a type and of an item

@@ -173,12 +173,13 @@ fn tail_of_field<'a>(
     tail_of(cx, budget, inner, &ty)
 }
 
-/// The field that may be without a size: the last of a struct.
+/// The last field of a struct or a union.
 fn last_field(item: &Item) -> Option<&Field>
     ensures { option_copied result ≡ tail_field item.now.kind }
 {
     match &item.kind {
         ItemKind::Struct(fields) => last_of(fields.all.as_slice()),
+        ItemKind::Union(fields) => last_of(fields.all.as_slice()),
         _ => None,
     }
 }
