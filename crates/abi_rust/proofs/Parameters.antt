@@ -1,5 +1,5 @@
 -- Whether a path begins with a parameter.
-use Rattle.std.proofs.Common.{◌≡◌, ◌∙◌, ap, List, [], ◌∷◌, true, false, length, map, refl, sym, rules, inl, inr, arith}
+use Rattle.std.proofs.Common.{◌≡◌, ◌∙◌, ap, Bool, List, [], ◌∷◌, true, false, length, map, refl, sym, rules, inl, inr, arith}
 use Rattle.std.proofs.lemmas.Bool.Decides.{eqb_tells}
 use Rattle.std.specs.Prelude.{◌&&◌, ◌||◌, nat_eq, not}
 use Rattle.rust_source.specs.Syntax.{argument_of, arguments, path, path_as_read, segment, segment_of, segments}
