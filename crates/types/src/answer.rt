@@ -2,7 +2,7 @@
 
 ghost use Rattle.abi_text.specs.LaidOut.{IsLaidOut};
 
-use crate::bytes::{ByteAnswers, first_unset, is_yes, write_transmuted};
+use crate::bytes::{ByteAnswers, is_yes, write_transmuted};
 use crate::crate_files::{CrateFiles, Search, SourceFile};
 use crate::json::{FaultSpot, JsonLists, TypeContext, fault_value, put_text, type_value};
 use crate::lines::write_lines;
@@ -421,31 +421,6 @@ struct NamePlace<'a> {
     own: Spot,
 }
 
-/// A type that was named on the command line, laid out.
-#[derive(Drop)]
-struct WrittenType {
-    report: TypeReport,
-    laid: Laid,
-}
-
-/// The part that has a byte, by the lines of a map, which begin with the bytes from and to which they are.
-fn part_at(map: &str, byte: usize) -> Option<&str> {
-    for line in map.lines() {
-        let Some((range, part)) = line.split_once(' ') else {
-            continue;
-        };
-        let Some((start, end)) = range.split_once("..") else {
-            continue;
-        };
-        let start: usize = start.parse().ok()?;
-        let end: usize = end.parse().ok()?;
-        if start <= byte && byte < end {
-            return Some(part);
-        }
-    }
-    None
-}
-
 impl<'a> ReportContext<'a> {
     /// What types are written with, by these names.
     fn type_context(self, alloc: Global, names: &'a Names) -> TypeContext<'a> {
@@ -669,7 +644,7 @@ impl FileReport {
         cx: ReportContext<'_>,
         sources: &mut Sources,
         before: usize,
-    ) -> Result<WrittenType, SourceFailure> {
+    ) -> Result<Laid, SourceFailure> {
         let name = cx.options.types.get(before).copied().unwrap_or("");
         let own = Spot::Asked(before, 0);
         let report = match sources.type_written(self.alloc, cx.dl, name) {
@@ -681,30 +656,9 @@ impl FileReport {
             Err(fault) => return Err(failure_of(self.alloc, sources, &fault, own)),
         };
         match lay_out(self.alloc, cx.dl, &report.tree) {
-            Ok(laid) => Ok(WrittenType { report, laid }),
+            Ok(laid) => Ok(laid),
             Err(error) => Err(refusal_of(self.alloc, name, own, error)),
         }
-    }
-
-    /// Writes which part of a type has a byte.
-    fn write_byte(
-        &mut self,
-        cx: ReportContext<'_>,
-        sources: &Sources,
-        before: usize,
-        ty: &WrittenType,
-        byte: usize,
-    ) -> Result<(), SourceFailure> {
-        let called = by_name(sources.names(), &ty.report.shape, &ty.laid);
-        let map = match map_of(self.alloc, cx.dl, &called, &ty.laid) {
-            Ok(map) => format!(in self.alloc; "{map}")?,
-            Err(_) => return Ok(()),
-        };
-        let name = cx.options.types.get(before).copied().unwrap_or("");
-        if let Some(part) = part_at(map.as_str(), byte) {
-            write!(self.text, "byte {byte} of {name}: {part}\n")?;
-        }
-        Ok(())
     }
 
     /// Reports whether each value of the first type that was named is one of the second.
@@ -715,12 +669,8 @@ impl FileReport {
     ) -> Result<(), SourceFailure> {
         let first = self.written_type(cx, sources, 0)?;
         let second = self.written_type(cx, sources, 1)?;
-        let answer = transmute(self.alloc, &first.laid, &second.laid)?;
+        let answer = transmute(self.alloc, &first, &second)?;
         write_transmuted(&mut self.text, &answer)?;
-        if let Some(byte) = first_unset(&answer.goes) {
-            self.write_byte(cx, sources, 0, &first, byte)?;
-            self.write_byte(cx, sources, 1, &second, byte)?;
-        }
         if !is_yes(&answer) {
             self.outcome = self.outcome.worse_of(Outcome::Denied);
         }

@@ -108,19 +108,6 @@ fn write_cells(out: &mut String, cells: &[Option<u8>]) -> Result<(), AllocError>
     out.push_str("\n")
 }
 
-/// The index of the first cell where nothing is initialised.
-pub(crate) fn first_unset(goes: &Goes) -> Option<usize> {
-    let Goes::No(cells) = goes else {
-        return None;
-    };
-    for (index, cell) in cells.iter().enumerate() {
-        if cell.is_none() {
-            return Some(index);
-        }
-    }
-    None
-}
-
 /// Whether each value of the first type is one of the second.
 pub(crate) fn is_yes(answer: &Transmuted) -> bool {
     match &answer.goes {
