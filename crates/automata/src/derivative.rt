@@ -54,6 +54,9 @@ pub(crate) fn derive(
         }
         FormulaNode::Both(g, h) => {
             let first = derive(alloc, formulas, g, letter, end)?;
+            if formulas.node(first.formula) == FormulaNode::Never {
+                return Ok(first);
+            }
             let second = derive(alloc, formulas, h, letter, first.end)?;
             let formula = formulas.conjunction(alloc, first.formula, second.formula)?;
             Ok(Derivative {
