@@ -4,7 +4,7 @@ use Rattle.std.proofs.Math.Nat.{div-eq_of_lt}
 use Rattle.automata.specs.Formula.{Formula, both, either}
 use Rattle.automata.specs.Formulas.{IsMade}
 use Rattle.automata.specs.Nodes.{formula_in}
-use Rattle.automata.specs.Number.{IsAbove, IsBelow, IsBig}
+use Rattle.automata.specs.Number.{IsAbove, IsBelow, IsBig, IsLittle}
 use Rattle.automata.specs.declared.numbers.Bound.{Bound}
 use Rattle.abi_base.specs.declared.endian.Endian.{Endian}
 use Rattle.abi_base.specs.declared.endian.Endian.TheVariants.{Little, Big}
@@ -36,6 +36,21 @@ from_big old new n t i P order is fits made =
       there = made.there;
       reads = big_made (formula_in new i) n (t / 2 ^ (8 * n)) P (div-eq_of_lt fits) made.reads;
     })
+
+pub number_little : (old new : List Formula) (n i : ℕ) (P : ℕ → Type 0) (order : Endian) → order ≡ Little → IsLittle old new n P i → IsFormula old new n (MakeNumber order P) i
+number_little old new n i P order is made =
+    subst (λ o. IsFormula old new n (MakeNumber o P) i) (sym is) (record { kept = made.kept; there = made.there; reads = little_made (formula_in new i) n P made.reads })
+
+pub single_range : (old new : List Formula) (n start end i : ℕ) (order : Endian) → start ≡ end → IsFormula old new n (MakeNumber order (λ m. m ≡ start)) i → IsFormula old new n (MakeNumber order (IsBetween start end)) i
+single_range old new n start end i order e made =
+    made_like old new n i (MakeNumber order (λ m. m ≡ start)) (MakeNumber order (IsBetween start end))
+    (λ u all len. number_like order n (λ m. m ≡ start) (IsBetween start end)
+    (λ m fits. (
+      λ x. inl (omega (arith, e), omega (arith, x), omega (arith, x, e)),
+      λ x. ⊎_elim (λ y. omega (arith, y.1, y.2, e)) (λ y. ⊎_elim (λ z. omega (arith, z.0, e)) (λ z. omega (arith, z.0, e)) y) x,
+    ))
+    u all len)
+    made
 
 module _ (s0 s1 s2 s3 : List Formula) (l h k n start end : ℕ) (order : Endian) (low : IsFormula s0 s1 n (MakeNumber order (λ m. start ≤ m)) l) (high : IsFormula s1 s2 n (MakeNumber order (λ m. m ≤ end)) h) where
   pub straight_range : start ≤ end → IsMade s2 s3 (both (formula_in s2 l) (formula_in s2 h)) k → IsFormula s0 s3 n (MakeNumber order (IsBetween start end)) k

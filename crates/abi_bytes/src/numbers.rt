@@ -1,6 +1,6 @@
 //! Formulas for the numbers that cells make.
 
-ghost use Rattle.std.specs.Prelude.{◌<◌, ◌≤◌, IfOk};
+ghost use Rattle.std.specs.Prelude.{◌≡◌, ◌<◌, ◌≤◌, IfOk};
 ghost use Rattle.automata.specs.Nodes.{formulas_in};
 ghost use Rattle.abi_scalar.specs.Range.{AreWithin, IsBetween, numbers_of};
 ghost use Rattle.abi_bytes.specs.Formulas.{IsFormula};
@@ -61,6 +61,31 @@ fn from(
     }
 }
 
+/// The formula for one number of so many bytes.
+fn number_formula(
+    alloc: Global,
+    formulas: &mut Formulas,
+    order: Endian,
+    width: usize,
+    number: u128,
+) -> Result<usize, AllocError>
+    requires width { width ≤ 16 }
+    requires fits { number < numbers_of width }
+    ensures { IfOk result (IsFormula (formulas_in formulas.old) (formulas_in formulas.new) width
+        (MakeNumber order (λ m. m ≡ number))) }
+{
+    match order {
+        Endian::Little => {
+            let place = formulas.little_number(alloc, width, number)?;
+            Ok(place)
+        }
+        Endian::Big => {
+            let place = formulas.big_number(alloc, width, number)?;
+            Ok(place)
+        }
+    }
+}
+
 /// The formula for the numbers of a range of so many bytes, which goes round where it ends below its start.
 pub(crate) fn range_formula(
     alloc: Global,
@@ -74,6 +99,10 @@ pub(crate) fn range_formula(
     ensures { IfOk result (IsFormula (formulas_in formulas.old) (formulas_in formulas.new) width
         (MakeNumber order (IsBetween range.start range.end))) }
 {
+    if range.start == range.end {
+        let place = number_formula(alloc, formulas, order, width, range.start)?;
+        return Ok(place);
+    }
     let low = from(alloc, formulas, order, width, range.start)?;
     let high = up_to(alloc, formulas, order, width, range.end)?;
     if range.start <= range.end {

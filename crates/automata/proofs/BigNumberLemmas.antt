@@ -162,7 +162,51 @@ module _ (n t d q p : ℕ) (bytes rest : Formula) (is_front : q ≡ front t n) (
             (cases_lt b d),
       )
 
+-- one number is made behind its own front alone
+front_of-big : (n t m : ℕ) (w : List Cell) → AreCells w → MakeBig n (λ x. x ≡ t) m w → m ≡ front t n
+front_of-big zero t m w all h = h ∙ sym (front-zero t)
+front_of-big (suc n) t m [] all h = absurd h
+front_of-big (suc n) t m (None ∷ w) all h = absurd h
+front_of-big (suc n) t m (Some b ∷ w) all h =
+    let byte : b < 256 = All-head IsCell (Some b) w all in
+    let e : front t (suc n) ≡ front t n / 256 = front-suc t n in
+    let next : 256 * m + b ≡ front t n = front_of-big n t (256 * m + b) w (All-tail IsCell (Some b) w all) h in
+    omega (arith, next, e, byte)
+
+number_cell : (n t d q p : ℕ) (rest : Formula) → q ≡ front t n → d ≡ q % 256 → p ≡ q / 256 → ((w : List Cell) → AreCells w → (Reads rest w ↔ MakeBig n (λ x. x ≡ t) q w)) →
+    (w : List Cell) → AreCells w → (Reads (run d (d + 1) rest) w ↔ MakeBig (suc n) (λ x. x ≡ t) p w)
+number_cell n t d q p rest is_front is_digit is_before reads [] all = (λ h. h, λ h. absurd h)
+number_cell n t d q p rest is_front is_digit is_before reads (None ∷ w) all = (λ h. omega (arith, h.0.1, is_digit), λ h. absurd h)
+number_cell n t d q p rest is_front is_digit is_before reads (Some b ∷ w) all =
+    let tail : AreCells w = All-tail IsCell (Some b) w all in
+    let byte : b < 256 = All-head IsCell (Some b) w all in (
+      λ h.
+          let here : 256 * p + b ≡ q = omega (arith, h.0.0, h.0.1, is_digit, is_before) in
+          subst (λ m. MakeBig n (λ x. x ≡ t) m w) (sym here) ((reads w tail).0 h.1),
+      λ h.
+          let here : 256 * p + b ≡ q = front_of-big n t (256 * p + b) w tail h ∙ sym is_front in
+          let same : b ≡ d = omega (arith, here, is_digit, is_before, byte) in
+          ((omega (arith, same), omega (arith, same)), (reads w tail).1 (subst (λ m. MakeBig n (λ x. x ≡ t) m w) here h)),
+    )
+
 -- ---- the formulas
+
+pub big_number_more : (fs0 fs1 fs2 : List Formula) (n w t d r i : ℕ) → suc n ≡ w → d ≡ t / 2 ^ (8 * n) % 256 → IsBig fs0 fs1 n (λ m. m ≡ t) (t / 2 ^ (8 * n)) r →
+    IsMade fs1 fs2 (run d (d + 1) (formula_in fs1 r)) i → IsBig fs0 fs2 w (λ m. m ≡ t) (t / 2 ^ (8 * w)) i
+big_number_more fs0 fs1 fs2 n w t d r i long digit rest made =
+    let before : front t n / 256 ≡ t / 2 ^ (8 * w) = sym (front-suc t n) ∙ ap (λ k. t / 2 ^ (8 * k)) long in
+    let step = number_cell n t d (front t n) (front t n / 256) (formula_in fs1 r) refl digit refl rest.reads in
+    subst (λ k. IsBig fs0 fs2 k (λ m. m ≡ t) (t / 2 ^ (8 * w)) i) long
+    (subst (λ p. IsBig fs0 fs2 (suc n) (λ m. m ≡ t) p i) before (record {
+      kept = Keeps-trans fs0 fs1 fs2 rest.kept made.kept;
+      there = made.there;
+      reads = λ v all. (λ h. (step v all).0 ((made.same v).0 h), λ h. (made.same v).1 ((step v all).1 h));
+    }))
+
+pub big_number_none : (fs0 fs1 : List Formula) (i t w : ℕ) → w ≡ 0 → IsMade fs0 fs1 any i → IsBig fs0 fs1 w (λ m. m ≡ t) (t / 2 ^ (8 * w)) i
+big_number_none fs0 fs1 i t w none made =
+    subst (λ k. IsBig fs0 fs1 k (λ m. m ≡ t) (t / 2 ^ (8 * k)) i) (sym none)
+    (record { kept = made.kept; there = made.there; reads = λ w all. (λ h. front-zero t, λ h. (made.same w).1 tt) })
 
 module _ (fs0 fs1 fs2 fs3 : List Formula) (n w t d r b i : ℕ) (long : suc n ≡ w) (digit : d ≡ t / 2 ^ (8 * n) % 256) (bytes : AreBytes fs1 fs2 n b) where
   before : front t n / 256 ≡ t / 2 ^ (8 * w)

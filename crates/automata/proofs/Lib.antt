@@ -1,5 +1,6 @@
 pub mod NodesLemmas
 pub mod ReadsLemmas
+pub mod FirstLemmas
 pub mod VisitsLemmas
 pub mod NumberLemmas
 pub mod BigNumberLemmas

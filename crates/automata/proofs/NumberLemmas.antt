@@ -6,7 +6,7 @@ use Rattle.automata.specs.Cell.{Cell, IsCell, AreCells}
 use Rattle.automata.specs.Formula.{Formula, any, never, run, either, Reads, Same}
 use Rattle.automata.specs.Nodes.{formula_in}
 use Rattle.automata.specs.Formulas.{Keeps, IsMade}
-use Rattle.automata.specs.Number.{MakeLittle, ReadsLittle, IsBelow, IsAbove}
+use Rattle.automata.specs.Number.{MakeLittle, ReadsLittle, IsLittle, IsBelow, IsAbove}
 use Rattle.automata.specs.declared.numbers.Bound.{Bound}
 use Rattle.automata.proofs.NodesLemmas.{Keeps-trans, Keeps-at, Keeps-there}
 
@@ -144,3 +144,40 @@ split_made s0 s1 s2 s3 i j k at below from there one two both =
         λ h. (both.same w).1 (⊎_elim (λ x. inl ((first w).1 x)) (λ x. inr ((second w).1 x)) h),
       );
     }
+
+-- ---- one number
+
+made_some : (n : ℕ) (P : ℕ → Type 0) (w : List Cell) → MakeLittle n P w → (r : ℕ) × P r
+made_some zero P w h = (0, h)
+made_some (suc n) P [] h = absurd h
+made_some (suc n) P (None ∷ w) h = absurd h
+made_some (suc n) P (Some b ∷ w) h =
+    let r = made_some n (λ r. P (b + 256 * r)) w h in
+    (b + 256 * r.0, r.1)
+
+number_cell : (f : Formula) (n digit high t : ℕ) → t ≡ digit + 256 * high → digit < 256 → ReadsLittle f n (λ r. r ≡ high) → ReadsLittle (run digit (digit + 1) f) (suc n) (λ m. m ≡ t)
+number_cell f n digit high t is small reads [] all = (λ h. h, λ h. absurd h)
+number_cell f n digit high t is small reads (None ∷ w) all = (λ h. omega (arith, h.0.1, small), λ h. absurd h)
+number_cell f n digit high t is small reads (Some b ∷ w) all =
+    let rest : AreCells w = All-tail IsCell (Some b) w all in
+    let byte : b < 256 = All-head IsCell (Some b) w all in (
+      λ h. make_like n (λ r. r ≡ high) (λ r. b + 256 * r ≡ t) w (λ r e. omega (arith, e, is, h.0.0, h.0.1)) ((reads w rest).0 h.1),
+      λ h.
+          let some = made_some n (λ r. b + 256 * r ≡ t) w h in
+          let same : b ≡ digit = omega (arith, some.1, is, byte, small) in
+          ((omega (arith, same), omega (arith, same)), (reads w rest).1 (make_like n (λ r. b + 256 * r ≡ t) (λ r. r ≡ high) w (λ r e. omega (arith, e, is, same)) h)),
+    )
+
+pub number_more : (fs0 fs1 fs2 : List Formula) (n digit high t r i : ℕ) → t ≡ digit + 256 * high → digit < 256 → IsLittle fs0 fs1 n (λ m. m ≡ high) r →
+    IsMade fs1 fs2 (run digit (digit + 1) (formula_in fs1 r)) i → IsLittle fs0 fs2 (suc n) (λ m. m ≡ t) i
+number_more fs0 fs1 fs2 n digit high t r i is small rest made = record {
+  kept = Keeps-trans fs0 fs1 fs2 rest.kept made.kept;
+  there = made.there;
+  reads = reads_same (formula_in fs2 i) (run digit (digit + 1) (formula_in fs1 r)) (suc n) (λ m. m ≡ t) made.same (number_cell (formula_in fs1 r) n digit high t is small rest.reads);
+}
+
+pub number_zero : (fs0 fs1 : List Formula) (i t : ℕ) → t ≤ 0 → IsMade fs0 fs1 any i → IsLittle fs0 fs1 0 (λ m. m ≡ t) i
+number_zero fs0 fs1 i t none made = record { kept = made.kept; there = made.there; reads = reads_any fs1 i any (λ m. m ≡ t) made.same refl (omega (arith, none)) }
+
+pub number_none : (fs0 fs1 : List Formula) (i t : ℕ) → 0 < t → IsMade fs0 fs1 never i → IsLittle fs0 fs1 0 (λ m. m ≡ t) i
+number_none fs0 fs1 i t some made = record { kept = made.kept; there = made.there; reads = reads_never fs1 i never (λ m. m ≡ t) made.same refl (λ h. omega (arith, h, some)) }

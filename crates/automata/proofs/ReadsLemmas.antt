@@ -1,12 +1,14 @@
 -- What formulas read.
-use Rattle.std.proofs.Common.{Bool, true, false, MatchBool, ◌≡◌, ◌↔◌, ℕ, zero, suc, ◌<◌, ◌≤◌, List, [], ◌∷◌, drop, length, arith, refl, sym, ap, ◌∙◌, subst, inl, inr, ⊎_elim}
+use Rattle.std.proofs.Common.{Bool, true, false, MatchBool, ◌≡◌, ◌↔◌, ℕ, zero, suc, ◌+◌, ◌-◌, ◌<◌, ◌≤◌, List, [], ◌∷◌, drop, length, arith, refl, sym, ap, ◌∙◌, subst, inl, inr, ⊎_elim}
+use Rattle.std.proofs.lemmas.List.{drop-drop}
 use Rattle.automata.specs.Cell.{Cell, letter_of}
 use Rattle.automata.specs.Formula.{Formula, any, never, run, both, either, gap, each, HoldsEach, IsOn, Reads, Same}
 use Rattle.automata.specs.Nodes.{formula_in}
-use Rattle.automata.specs.Formulas.{IsMade}
+use Rattle.automata.specs.Formulas.{IsMade, IsShared}
 use Rattle.automata.specs.Derivative.{IsBehind, IsDerivative}
 use Rattle.automata.specs.declared.derivative.Derivative.{Derivative}
-use Rattle.automata.proofs.NodesLemmas.{Keeps-refl, Keeps-trans, Keeps-at}
+use Rattle.automata.specs.declared.formulas.SharedGap.{SharedGap}
+use Rattle.automata.proofs.NodesLemmas.{Keeps-refl, Keeps-trans, Keeps-at, Keeps-there}
 
 -- ---- formulas that read the same
 
@@ -225,10 +227,80 @@ each_end : (P : List Cell → Type 0) (n size : ℕ) → P [] → HoldsEach P n 
 each_end P zero size h = tt
 each_end P (suc n) size h = (h, subst (HoldsEach P n size) (sym (drop_none size [] refl)) (each_end P n size h))
 
-each_first : (P : List Cell → Type 0) (n size : ℕ) (w : List Cell) → 0 < n → HoldsEach P n size w → P w
+pub each_first : (P : List Cell → Type 0) (n size : ℕ) (w : List Cell) → 0 < n → HoldsEach P n size w → P w
 each_first P zero size w some h = absurd (omega arith)
 each_first P (suc n) size w some h = h.0
 
 pub end_each : (x f : Formula) (n size : ℕ) (r : Bool) → x ≡ each n size f → 0 < n → MatchBool r (Reads f []) (Reads f [] → ⊥) → MatchBool r (Reads x []) (Reads x [] → ⊥)
 end_each x f n size true is some h = subst (λ y. Reads y []) (sym is) (each_end (Reads f) n size h)
 end_each x f n size false is some h = λ r. h (each_first (Reads f) n size [] some (subst (λ y. Reads y []) is r))
+
+-- ---- gaps that two formulas share
+
+gap_split : (n m k : ℕ) (f : Formula) → n ≡ m + k → Same (gap n f) (gap m (gap k f))
+gap_split n m k f e w =
+    let same : drop k (drop m w) ≡ drop n w = drop-drop k m w ∙ ap (λ i. drop i w) (omega (arith, e)) in
+    (λ h. subst (Reads f) (sym same) h, λ h. subst (Reads f) same h)
+
+gap_same : (n : ℕ) (f g : Formula) → Same f g → Same (gap n f) (gap n g)
+gap_same n f g same w = same (drop n w)
+
+same_trans : (f g h : Formula) → Same f g → Same g h → Same f h
+same_trans f g h one two w = (λ r. (two w).0 ((one w).0 r), λ r. (one w).1 ((two w).1 r))
+
+same_sym : (f g : Formula) → Same f g → Same g f
+same_sym f g one w = ((one w).1, (one w).0)
+
+-- two gaps, taken as the lesser and the rest of each
+pub shared_gaps : (s0 s1 s2 : List Formula) (f g x y n m k i j : ℕ) → x < length s0 → y < length s0 → formula_in s0 f ≡ gap n (formula_in s0 x) → formula_in s0 g ≡ gap m (formula_in s0 y) →
+    k ≤ n → k ≤ m → IsMade s0 s1 (gap (n - k) (formula_in s0 x)) i → IsMade s1 s2 (gap (m - k) (formula_in s1 y)) j → IsShared s0 s2 f g (record { count = k; first = i; second = j })
+shared_gaps s0 s1 s2 f g x y n m k i j x_there y_there is_f is_g le_n le_m one two = record {
+  kept = Keeps-trans s0 s1 s2 one.kept two.kept;
+  first_there = Keeps-there s1 s2 two.kept i one.there;
+  second_there = two.there;
+  first =
+      let X : Formula = formula_in s0 x in
+      let inner : Same (gap (n - k) X) (formula_in s2 i) =
+      subst (λ z. Same (gap (n - k) X) z) (sym (Keeps-at s1 s2 two.kept i one.there)) (same_sym (formula_in s1 i) (gap (n - k) X) one.same) in
+      subst (λ z. Same z (gap k (formula_in s2 i))) (sym is_f)
+      (same_trans (gap n X) (gap k (gap (n - k) X)) (gap k (formula_in s2 i)) (gap_split n k (n - k) X (omega (arith, le_n))) (gap_same k (gap (n - k) X) (formula_in s2 i) inner));
+  second =
+      let Y : Formula = formula_in s0 y in
+      let same_y : formula_in s1 y ≡ Y = Keeps-at s0 s1 one.kept y y_there in
+      let inner : Same (gap (m - k) Y) (formula_in s2 j) =
+      subst (λ z. Same (gap (m - k) z) (formula_in s2 j)) same_y (same_sym (formula_in s2 j) (gap (m - k) (formula_in s1 y)) two.same) in
+      subst (λ z. Same z (gap k (formula_in s2 j))) (sym is_g)
+      (same_trans (gap m Y) (gap k (gap (m - k) Y)) (gap k (formula_in s2 j)) (gap_split m k (m - k) Y (omega (arith, le_m))) (gap_same k (gap (m - k) Y) (formula_in s2 j) inner));
+}
+
+-- no gap is shared
+pub shared_none : (fs : List Formula) (f g : ℕ) → f < length fs → g < length fs → IsShared fs fs f g (record { count = 0; first = f; second = g })
+shared_none fs f g f_there g_there = record {
+  kept = Keeps-refl fs;
+  first_there = f_there;
+  second_there = g_there;
+  first = gap_none 0 (formula_in fs f) refl;
+  second = gap_none 0 (formula_in fs g) refl;
+}
+
+-- what two formulas say, behind the gap that they share
+module _ (s0 s1 s2 s3 : List Formula) (f g i k : ℕ) (s : SharedGap) (shared : IsShared s0 s1 f g s) where
+  pub both_shared : IsMade s1 s2 (both (formula_in s1 s.first) (formula_in s1 s.second)) i → IsMade s2 s3 (gap s.count (formula_in s2 i)) k → IsMade s0 s3 (both (formula_in s0 f) (formula_in s0 g)) k
+  both_shared inner made = record {
+    kept = Keeps-trans s0 s1 s3 shared.kept (Keeps-trans s1 s2 s3 inner.kept made.kept);
+    there = made.there;
+    same = λ w. (
+      λ h. let r = (inner.same (drop s.count w)).0 ((made.same w).0 h) in ((shared.first w).1 r.0, (shared.second w).1 r.1),
+      λ h. (made.same w).1 ((inner.same (drop s.count w)).1 ((shared.first w).0 h.0, (shared.second w).0 h.1)),
+    );
+  }
+
+  pub either_shared : IsMade s1 s2 (either (formula_in s1 s.first) (formula_in s1 s.second)) i → IsMade s2 s3 (gap s.count (formula_in s2 i)) k → IsMade s0 s3 (either (formula_in s0 f) (formula_in s0 g)) k
+  either_shared inner made = record {
+    kept = Keeps-trans s0 s1 s3 shared.kept (Keeps-trans s1 s2 s3 inner.kept made.kept);
+    there = made.there;
+    same = λ w. (
+      λ h. ⊎_elim (λ x. inl ((shared.first w).1 x)) (λ x. inr ((shared.second w).1 x)) ((inner.same (drop s.count w)).0 ((made.same w).0 h)),
+      λ h. (made.same w).1 ((inner.same (drop s.count w)).1 (⊎_elim (λ x. inl ((shared.first w).0 x)) (λ x. inr ((shared.second w).0 x)) h)),
+    );
+  }

@@ -3,6 +3,7 @@ pub mod Formula
 pub mod Nodes
 pub mod Formulas
 pub mod Derivative
+pub mod First
 pub mod Visits
 pub mod Inclusion
 pub mod Number

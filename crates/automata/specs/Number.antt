@@ -17,6 +17,12 @@ MakeLittle (suc n) P (Some b ∷ w) = MakeLittle n (λ r. P (b + 256 * r)) w
 abbrev pub ReadsLittle : Formula → (n : ℕ) → (ℕ → Type 0) → Type 0
 ReadsLittle f n P = (w : List Cell) → AreCells w → (Reads f w ↔ MakeLittle n P w)
 
+-- a formula for such cells
+pub record IsLittle (old new : List Formula) (n : ℕ) (P : ℕ → Type 0) (place : ℕ) : Type 0 where
+  pub kept : Keeps old new
+  pub there : place < length new
+  pub reads : ReadsLittle (formula_in new place) n P
+
 -- formulas for the numbers of n bytes below a number, and for these and the number itself
 pub record IsBelow (old new : List Formula) (n t : ℕ) (b : Bound) : Type 0 where
   pub kept : Keeps old new

@@ -1,6 +1,6 @@
 //! Formulas for cells that make a number, the greatest byte first.
 
-ghost use Rattle.std.specs.Prelude.{◌*◌, ◌/◌, ◌^◌, ◌<◌, ◌≤◌, IfOk, length};
+ghost use Rattle.std.specs.Prelude.{◌≡◌, ◌*◌, ◌/◌, ◌^◌, ◌<◌, ◌≤◌, IfOk, length};
 ghost use Rattle.automata.specs.Formula.{either, run};
 ghost use Rattle.automata.specs.Formulas.{IsMade};
 ghost use Rattle.automata.specs.Nodes.{formula_in, formulas_in};
@@ -111,6 +111,27 @@ impl Formulas {
             next: bytes,
         };
         let place = self.either_cell(alloc, at, above)?;
+        Ok(place)
+    }
+
+    /// The formula for the last bytes, so many, of one number, whose bytes before these are as its own are.
+    pub fn big_number(
+        &mut self,
+        alloc: Global,
+        width: usize,
+        number: u128,
+    ) -> Result<usize, AllocError>
+        requires { width ≤ 16 }
+        ensures { IfOk result (IsBig (formulas_in self.old) (formulas_in self.new) width (λ m. m ≡ number)
+            (number / 2 ^ (8 * width))) }
+    {
+        if width == 0 {
+            let place = self.any_cells(alloc)?;
+            return Ok(place);
+        }
+        let next = self.big_number(alloc, width - 1, number)?;
+        let digit = (number / (1u128 << (8 * (width - 1))) % 256) as u16;
+        let place = self.run(alloc, digit, digit + 1, next)?;
         Ok(place)
     }
 }

@@ -4,6 +4,7 @@ ghost use Rattle.std.specs.Prelude.{◌<◌, IfOk, length};
 ghost use Rattle.automata.specs.Derivative.{IsDerivative};
 ghost use Rattle.automata.specs.Nodes.{formula_in, formulas_in};
 
+use crate::first::end_beside;
 use crate::formulas::Formulas;
 use crate::node::FormulaNode;
 use std::alloc::{AllocError, Global};
@@ -28,6 +29,10 @@ pub(crate) fn derive(
     requires letter { letter < end }
     ensures { IfOk result (IsDerivative (formulas_in formulas.old) (formulas_in formulas.new) (formula_in (formulas_in formulas.old) f) letter end) }
 {
+    if let Some(past) = end_beside(formulas.first_letters(f), letter, end) {
+        let formula = formulas.no_cells(alloc)?;
+        return Ok(Derivative { formula, end: past });
+    }
     match formulas.node(f) {
         FormulaNode::Any => Ok(Derivative { formula: f, end }),
         FormulaNode::Never => Ok(Derivative { formula: f, end }),

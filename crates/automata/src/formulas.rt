@@ -1,11 +1,13 @@
 //! Formulas, each kept once.
 
 ghost use Rattle.std.specs.Prelude.{◌≡◌, ◌<◌, [], length, IfOk, IfSome, IsTrue};
+ghost use Rattle.automata.specs.First.{HasFirst};
 ghost use Rattle.automata.specs.Formula.{any, both, each, either, gap, never, run};
-ghost use Rattle.automata.specs.Formulas.{IsMade};
+ghost use Rattle.automata.specs.Formulas.{IsMade, IsShared};
 ghost use Rattle.automata.specs.Nodes.{IsNode, formula_in, formulas_in, meaning};
 ghost use Rattle.automata.specs.declared.node.FormulaNode.{FormulaNode as OneNode};
 
+use crate::first::{Letters, first_letters_of};
 use crate::node::{FormulaNode, number_of};
 use std::alloc::{AllocError, Global};
 use std::marker::Model;
@@ -16,19 +18,29 @@ const FIRST_CHAINS: usize = 64;
 /// How many chains there are at most.
 const MOST_CHAINS: usize = 1 << 22;
 
-/// Formulas, each of which is made of earlier ones and kept once. To find one, they are in chains by a number made of their
-/// parts: of each chain the newest formula is known, and of each formula the one before it in its chain, by one more than its
-/// place, and 0 where there is none.
+/// Formulas, each of which is made of earlier ones and kept once, with what is known of its first letters. To find one, they
+/// are in chains by a number made of their parts: of each chain the newest formula is known, and of each formula the one before
+/// it in its chain, by one more than its place, and 0 where there is none.
 #[derive(Drop)]
 pub struct Formulas {
     nodes: Vec<FormulaNode>,
+    firsts: Vec<Option<Letters>>,
     newest: Vec<usize>,
     before: Vec<usize>,
 }
 
+/// So many cells of any kind, and two formulas behind them.
+#[derive(Clone, Copy)]
+struct SharedGap {
+    count: u64,
+    first: usize,
+    second: usize,
+}
+
 impl Model for Formulas {
     ghost use Rattle.std.specs.Prelude.{List, ◌<◌, ◌≤◌, length};
-    ghost use Rattle.automata.specs.Nodes.{AreNodes};
+    ghost use Rattle.automata.specs.First.{HaveFirsts};
+    ghost use Rattle.automata.specs.Nodes.{AreNodes, formulas_in};
     ghost use Rattle.automata.specs.declared.node.FormulaNode.{FormulaNode as OneNode};
 
     ghost Value = { List OneNode };
@@ -36,7 +48,8 @@ impl Model for Formulas {
     ghost view = { λ a. a.nodes.items };
 
     ghost invariant = { λ a. AreNodes a.nodes.items × (0 < length a.newest.items)
-        × (length a.nodes.items ≤ length a.before.items) };
+        × (length a.nodes.items ≤ length a.before.items) × (length a.nodes.items ≤ length a.firsts.items)
+        × HaveFirsts (formulas_in a.nodes.items) a.firsts.items };
 }
 
 /// Whether the node is that of any cells.
@@ -61,6 +74,7 @@ impl Formulas {
         let newest = vec![in alloc; 0usize; FIRST_CHAINS]?;
         Ok(Formulas {
             nodes: Vec::new(alloc),
+            firsts: Vec::new(alloc),
             newest,
             before: Vec::new(alloc),
         })
@@ -80,6 +94,14 @@ impl Formulas {
         ensures earlier { IsNode place result }
     {
         self.nodes[place]
+    }
+
+    /// The first letters of what the formula at a place reads; `None` where nothing is known of them.
+    pub(crate) fn first_letters(&self, place: usize) -> Option<Letters>
+        requires { place < length (formulas_in self.now) }
+        ensures { HasFirst (formula_in (formulas_in self.now) place) result }
+    {
+        self.firsts[place]
     }
 
     /// Puts the node at a place into its chain, in front of the newest one.
@@ -128,6 +150,9 @@ impl Formulas {
         ensures { IfOk result (IsMade (formulas_in self.old) (formulas_in self.new) (meaning (formulas_in self.old) node)) }
     {
         let place = self.nodes.len();
+        self.firsts.truncate(place);
+        let first = first_letters_of(node, &self.firsts);
+        self.firsts.push(first)?;
         self.before.push(0)?;
         self.nodes.push(node)?;
         Ok(place)
@@ -184,6 +209,31 @@ impl Formulas {
         Ok(place)
     }
 
+    /// The gap that two formulas begin with, and what they read behind it.
+    fn share_gap(&mut self, alloc: Global, f: usize, g: usize) -> Result<SharedGap, AllocError>
+        requires first { f < length (formulas_in self.old) }
+        requires second { g < length (formulas_in self.old) }
+        ensures { IfOk result (IsShared (formulas_in self.old) (formulas_in self.new) f g) }
+    {
+        if let FormulaNode::Gap(one, behind_one) = self.node(f) {
+            if let FormulaNode::Gap(other, behind_other) = self.node(g) {
+                let count = one.min(other);
+                let first = self.gap(alloc, one - count, behind_one)?;
+                let second = self.gap(alloc, other - count, behind_other)?;
+                return Ok(SharedGap {
+                    count,
+                    first,
+                    second,
+                });
+            }
+        }
+        Ok(SharedGap {
+            count: 0,
+            first: f,
+            second: g,
+        })
+    }
+
     /// What both formulas read.
     pub fn conjunction(&mut self, alloc: Global, f: usize, g: usize) -> Result<usize, AllocError>
         requires first { f < length (formulas_in self.old) }
@@ -199,7 +249,9 @@ impl Formulas {
         if first == FormulaNode::Any || second == FormulaNode::Never {
             return Ok(g);
         }
-        let place = self.place_of(alloc, FormulaNode::Both(f, g))?;
+        let shared = self.share_gap(alloc, f, g)?;
+        let both = self.place_of(alloc, FormulaNode::Both(shared.first, shared.second))?;
+        let place = self.gap(alloc, shared.count, both)?;
         Ok(place)
     }
 
@@ -218,7 +270,9 @@ impl Formulas {
         if first == FormulaNode::Never || second == FormulaNode::Any {
             return Ok(g);
         }
-        let place = self.place_of(alloc, FormulaNode::Either(f, g))?;
+        let shared = self.share_gap(alloc, f, g)?;
+        let either = self.place_of(alloc, FormulaNode::Either(shared.first, shared.second))?;
+        let place = self.gap(alloc, shared.count, either)?;
         Ok(place)
     }
 

@@ -9,6 +9,7 @@ mod big_numbers;
 mod cell;
 mod derivative;
 mod end;
+mod first;
 mod formulas;
 mod inclusion;
 mod node;

@@ -1,10 +1,10 @@
 //! Formulas for cells that make a number.
 
-ghost use Rattle.std.specs.Prelude.{◌<◌, ◌≤◌, IfOk, length};
+ghost use Rattle.std.specs.Prelude.{◌≡◌, ◌<◌, ◌≤◌, IfOk, length};
 ghost use Rattle.automata.specs.Formula.{either, run};
 ghost use Rattle.automata.specs.Formulas.{IsMade};
 ghost use Rattle.automata.specs.Nodes.{formula_in, formulas_in};
-ghost use Rattle.automata.specs.Number.{IsAbove, IsBelow};
+ghost use Rattle.automata.specs.Number.{IsAbove, IsBelow, IsLittle};
 
 use crate::formulas::Formulas;
 use std::alloc::{AllocError, Global};
@@ -91,5 +91,28 @@ impl Formulas {
         let strict = self.split(alloc, digit + 1, rest.strict, rest.loose)?;
         let loose = self.split(alloc, digit, rest.strict, rest.loose)?;
         Ok(Bound { strict, loose })
+    }
+
+    /// The formula for one number of so many bytes, the least first.
+    pub fn little_number(
+        &mut self,
+        alloc: Global,
+        width: usize,
+        number: u128,
+    ) -> Result<usize, AllocError>
+        ensures { IfOk result (IsLittle (formulas_in self.old) (formulas_in self.new) width (λ m. m ≡ number)) }
+    {
+        if width == 0 {
+            if number > 0 {
+                let place = self.no_cells(alloc)?;
+                return Ok(place);
+            }
+            let place = self.any_cells(alloc)?;
+            return Ok(place);
+        }
+        let next = self.little_number(alloc, width - 1, number / 256)?;
+        let digit = (number % 256) as u16;
+        let place = self.run(alloc, digit, digit + 1, next)?;
+        Ok(place)
     }
 }
