@@ -1,5 +1,5 @@
-/* numbers ASKED STACK_KB: asks for layouts by numbers, from four threads at once, each with so much stack, and reads and writes the value whose
-   bytes are 0. Each is asked with no room, and then with room for all, with one item too few, with exactly enough and with more, in blocks of
+/* numbers ASKED STACK_KB: asks for layouts by numbers, from four threads at once, each with so much stack, reads and writes the value whose
+   bytes are 0, and asks what may be done with the bytes. Each is asked with no room, and then with room for all, with one item too few, with exactly enough and with more, in blocks of
    their own, so that the address sanitizer sees what is read or written beside one; what is lent has to be the same, and nothing else of a block
    may change. Prints what is wrong, and how many answers were looked at; the status is 0 where none is wrong. scripts/try_library writes ASKED:
    for each the length of a data layout string, in four bytes, the least first, the string, the count of a type's numbers, likewise, and these in
@@ -27,9 +27,9 @@ static void *must(void *made) {
 
 static size_t number(const uint8_t *at) { return at[0] | at[1] << 8 | at[2] << 16 | (size_t)at[3] << 24; }
 
-/* A question, by what it hands in: the string and the type; and a value, or bytes. */
+/* A question, by what it hands in: the string and the type; and a value, bytes, or another type. */
 typedef struct {
-    enum { LAYOUT, WRITE, READ } what;
+    enum { LAYOUT, WRITE, READ, BYTES, TRANSMUTE } what;
     const uint8_t *string;
     const uint64_t *type;
     const void *given;
@@ -41,6 +41,10 @@ static uint8_t ask(const question *it, void *room, size_t room_len, size_t *need
         return abi_c_lay_out(it->string, it->string_len, it->type, it->count, room, room_len, needed);
     if (it->what == WRITE)
         return abi_c_write_value(it->string, it->string_len, it->type, it->count, it->given, it->given_len, room, room_len, needed);
+    if (it->what == BYTES)
+        return abi_c_bytes(it->string, it->string_len, it->type, it->count, room, room_len, needed);
+    if (it->what == TRANSMUTE)
+        return abi_c_transmute(it->string, it->string_len, it->type, it->count, it->given, it->given_len, room, room_len, needed);
     return abi_c_read_value(it->string, it->string_len, it->type, it->count, it->given, it->given_len, room, room_len, needed);
 }
 
@@ -107,6 +111,26 @@ static void go_back(work *all, question it, size_t size) {
     free(zeros);
 }
 
+/* Asks what may be done with the type's bytes, and whether its values are its own. */
+static void ask_bytes(work *all, question it) {
+    uint8_t status, status_of_both;
+    size_t len = 0, len_of_both = 0;
+    uint64_t first = 0, both[3] = {0};
+    it.what = BYTES;
+    uint8_t *answers = whole_answer(all, &it, &len, &status);
+    memcpy(&first, answers, len ? sizeof first : 0);
+    it.what = TRANSMUTE, it.given = it.type, it.given_len = it.count;
+    uint8_t *answer = whole_answer(all, &it, &len_of_both, &status_of_both);
+    memcpy(both, answer, len_of_both == 3 ? sizeof both : 0);
+    if (status != RUSTC_ABI_LAID_OUT || len < 6 || first > RUSTC_ABI_TOO_LARGE || status_of_both != RUSTC_ABI_LAID_OUT || len_of_both != 3 ||
+        both[1] != RUSTC_ABI_YES || both[2]) {
+        all->wrong++;
+        puts("numbers.c: no answer about bytes, or a type whose values aren't its own");
+    }
+    free(answer);
+    free(answers);
+}
+
 static void *go_over(void *given) {
     work *all = given;
     for (const uint8_t *at = all->begin; at < all->end;) {
@@ -121,8 +145,10 @@ static void *go_over(void *given) {
         memcpy(&size, whole, len ? sizeof size : 0);
         all->wrong += !len;
         /* (an array without bytes may have too many elements to be read) */
-        if (status == RUSTC_ABI_LAID_OUT && size > 0 && size <= MOST_READ)
+        if (status == RUSTC_ABI_LAID_OUT && size > 0 && size <= MOST_READ) {
             go_back(all, it, size);
+            ask_bytes(all, it);
+        }
         free(whole);
         free(type);
         free(string);

@@ -2,7 +2,7 @@
 """structured.py LIBRARY [COUNT [SEED]]: tries the calls by numbers of the shared library at LIBRARY against its texts: of COUNT types at random
 (20,000, where it isn't told) it asks for the layout of the same type by text and by numbers, and writes the lines of the text anew from the
 numbers. Of the values that bytes at random hold each has to be read as the same from what is written of it, and some have bytes as C and Rust
-have them. Prints the first that differs, or how many agreed; the status is 0 where all did."""
+have them. What may be done with bytes has to agree with the values that are read, and of some types it is known. Prints the first that differs, or how many agreed; the status is 0 where all did."""
 import os, random, struct, sys
 
 sys.dont_write_bytecode = True
@@ -205,6 +205,58 @@ NONE = [
     (Type.enum([(0, []), (1, [U64])]), Variant(2, ())), (Type.union([U8], C), Shared(b"")), (Type.struct([U8]), State(0, (), ())),
 ]
 
+NUMBER = lambda which, signed, start, end: Type.scalar(Scalar(Primitive(0, which, signed), start, end))
+HALF = Type.enum([(0, []), (1, [NUMBER(0, False, 0, 252)]), (2, []), (3, [])])
+
+#: Types under the default data layout, and whether zeros hold a value of them, all bytes do, and all that hold one are initialised: found by
+#: trying all bytes.
+USES = [
+    (Type.pair(Scalar(Primitive(0, 0), 0, 1), Scalar(Primitive(0, 0, True), 0, 255)), "yes no yes"), (NUMBER(1, True, 18429, 18428), "yes yes yes"),
+    (NUMBER(0, True, 195, 164), "yes no yes"), (NUMBER(1, False, 24808, 36166), "no no yes"), (Type.never(), "no no yes"), (HALF, "yes no no"),
+    (Type.enum([(it, []) for it in range(252, 256)], Repr(int="u8")), "no no yes"), (Type.enum([(0, []), (1, [])], Repr(align=2)), "yes no no"),
+    (Type.struct([Type.scalar(Scalar(Primitive(0, 0)))], Repr(packed=1, align=2)), "yes yes no"), (Type.coroutine([], [], [[], []]), "yes no yes"),
+]
+
+#: Two types, and whether each value of the first is one of the second, with the least bytes that show a no; found so, too.
+GOES = [
+    (BOOL, U8, "yes"), (NUMBER(0, True, 0, 9), U16, "other size"), (U8, BOOL, "no", 2), (NUMBER(0, False, 255, 0), U8, "yes"), (U8, NUMBER(0, True, 42, 48), "no", 0),
+    (Type.array(2, NUMBER(0, False, 1, 2)), NUMBER(1, False, 256, 767), "yes"), (Type.struct([U8, U8]), U16, "yes"), (Type.union([U16]), Type.array(2, U8), "no", 0, None),
+    (BOOL, Type.enum([(0, []), (1, [BOOL])]), "yes"), (NUMBER(1, False, 256, 767), NUMBER(1, False, 1, 257), "no", 1, 2),
+    (Type.scalar(Scalar(Primitive(2, 0), 0, (1 << 64) - 1)), U64, "yes"),
+]
+
+
+def worked_bytes(layouts):
+    """What is wrong with the types of which it is known what may be done with their bytes."""
+    for it, wanted in USES:
+        found = layouts.bytes_of("", it)
+        words = " ".join(answer.word for answer in (found.is_from_zeros, found.is_from_bytes, found.is_into_bytes))
+        if words != wanted:
+            return f"{it} has the answers {words}, and not {wanted}"
+    for a, b, word, *cells in GOES:
+        found = layouts.transmute("", a, b)
+        if (found.goes.word, list(found.goes.cells)) != (word, cells) or found.has_pointer != (a.numbers[:3] == (0, 0, 2)):
+            return f"{found} is answered for {a} and {b}"
+    refusals = [((b"\xff", U8, U8), (2, [0])), ((b"", U8, Type((11,))), (2, [1])), ((b"e-p:7:8", U8, U8), (1, [1])), ((b"", Type.union([]), Type((11,))), (1, [12]))]
+    for asked, wanted in refusals:
+        found = layouts.transmute_numbers(asked[0], asked[1].numbers, asked[2].numbers)
+        if found != wanted:
+            return f"{found} is answered for {asked}"
+    return None
+
+
+def uses_agree(layouts, string, it, size):
+    """What is wrong with the answers about a type's bytes, by the values that are read from these."""
+    found, content = layouts.bytes_of(string, it), lambda cells: bytes(cell or 0 for cell in cells)
+    if bool(found.is_from_zeros) != (layouts.read_value(string, it, bytes(size)) is not None):
+        return f"zeros: {found.is_from_zeros}"
+    if not found.is_from_bytes and layouts.read_value(string, it, content(found.is_from_bytes.cells)) is not None:
+        return f"bytes: {found.is_from_bytes}"
+    cells = found.is_into_bytes.cells
+    if not found.is_into_bytes and (None not in cells or layouts.read_value(string, it, content(cells)) is None):
+        return f"initialised: {found.is_into_bytes}"
+    return None if layouts.transmute(string, it, it).goes else "its values aren't its own"
+
 
 def worked_values(layouts):
     """What is wrong with the values whose bytes are known, and with what is none."""
@@ -232,6 +284,9 @@ def read_back(layouts, dice, string, text, it):
     layout = layouts.lay_out(string, it)
     if layout.size > 256 or any(many in text for many in (f"array {1 << 40} ", f"array {(1 << 64) - 1} ", "array 300 array 300 ")):
         return 0, None
+    wrong = uses_agree(layouts, string, it, layout.size)
+    if wrong:
+        return 0, wrong
     found = 0
     for among in ([0], [0, 1], range(256)):
         content = bytes(dice.choice(among) for _ in range(layout.size))
@@ -270,7 +325,7 @@ def main():
     count = int(sys.argv[2]) if len(sys.argv) > 2 else 20000
     seed = int(sys.argv[3]) if len(sys.argv) > 3 else 0
     layouts, dice, statuses, values = rustc_abi.load(library), random.Random(seed), {}, 0
-    wrong = worked_values(layouts)
+    wrong = worked_values(layouts) or worked_bytes(layouts)
     if wrong:
         print(f"structured: {wrong}")
         return 1

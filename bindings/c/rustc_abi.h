@@ -1,5 +1,5 @@
-/* Type layouts: the calculator of `./layout` and `./map` as two calls, text in and text out, and three by numbers: of
-   layouts, and of values and their bytes.
+/* Type layouts: the calculator of `./layout` and `./map` as two calls, text in and text out, and five by numbers: of
+   layouts, of values and their bytes, and of what may be done with bytes.
    docs/EMBEDDING.md has how it is linked, docs/FORMATS.md the format of inputs and answers, docs/NUMBERS.md the numbers.
 
    Of all calls:
@@ -7,7 +7,7 @@
      and is only read.
    - The caller owns all memory, before and after. A call keeps no pointer, and frees what it takes for itself.
    - No pointer may be null, even beside a length of 0. What is written, `needed` and the room before it (`output`, `layout`,
-     `bytes` or `value`), may overlap nothing else that is handed in.
+     `bytes`, `value` or `answer`), may overlap nothing else that is handed in.
    - Calls share nothing: threads may call at once, each with an `output` and a `needed` of its own. No call is made
      from a signal handler. Memory is from malloc, realloc and free. A call wants stack, more for a deeper type: 2 MB were
      enough for types nested as deep as can be. */
@@ -90,6 +90,16 @@ enum {
     RUSTC_ABI_NOT_VALUED = 2 /* no value has the numbers that is nested in at most 200 others */
 };
 
+/* The first number of an answer about bytes. Behind it stand how many cells show it, and these: bytes, and
+   `RUSTC_ABI_NOTHING` where none is initialised. */
+enum {
+    RUSTC_ABI_YES = 0,
+    RUSTC_ABI_NO = 1,
+    RUSTC_ABI_OTHER_SIZE = 2, /* of two types that aren't as large */
+    RUSTC_ABI_TOO_LARGE = 3,  /* it would take more than 2^22 steps */
+    RUSTC_ABI_NOTHING = 256
+};
+
 /* A scalar in a layout. A number of 128 bits is two, low half first. */
 struct rustc_abi_scalar {
     uint64_t form;             /* 0 for none, 1 for one with a range, 2 for a union's */
@@ -161,6 +171,24 @@ uint8_t abi_c_write_value(const uint8_t *data_layout, size_t data_layout_len, co
    `*needed` and `value` are as `*needed` and `layout` of `abi_c_lay_out`. */
 uint8_t abi_c_read_value(const uint8_t *data_layout, size_t data_layout_len, const uint64_t *type, size_t type_len,
                          const uint8_t *bytes, size_t bytes_len, uint64_t *value, size_t value_len, size_t *needed);
+
+/* Asks what may be done with the bytes of the type that has these numbers. Answers the status. What is lent are three
+   answers: whether zero bytes hold a value, whether all bytes do, with bytes that hold none, and whether all that hold one
+   are initialised, with cells that hold one and of which one isn't; beside `RUSTC_ABI_REFUSED` and
+   `RUSTC_ABI_UNREADABLE` it is one number, which of them.
+
+   `*needed` and `answer` are as `*needed` and `layout` of `abi_c_lay_out`. */
+uint8_t abi_c_bytes(const uint8_t *data_layout, size_t data_layout_len, const uint64_t *type, size_t type_len,
+                    uint64_t *answer, size_t answer_len, size_t *needed);
+
+/* Asks whether each value of the first type is one of the second, so that it may be taken from the first one's bytes.
+   Answers the status. What is lent is 1 where some number of the two is a pointer, and else 0, and behind it the answer,
+   with cells that hold the first type and not the second; beside `RUSTC_ABI_REFUSED` and `RUSTC_ABI_UNREADABLE` it is
+   one number, which of them, of the first type that has no layout.
+
+   `*needed` and `answer` are as `*needed` and `layout` of `abi_c_lay_out`. */
+uint8_t abi_c_transmute(const uint8_t *data_layout, size_t data_layout_len, const uint64_t *first, size_t first_len,
+                        const uint64_t *second, size_t second_len, uint64_t *answer, size_t answer_len, size_t *needed);
 
 #ifdef __cplusplus
 }

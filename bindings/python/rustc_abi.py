@@ -9,6 +9,7 @@
     layout = layouts.lay_out("e-p:64:64-i64:64", Type.struct([U8, U32]))
     print(layout.size, layout.fields.offsets, layout.padding)
     written = layouts.write_value("e-p:64:64-i64:64", Type.struct([U8, U32]), Many((Number(7), Number(8))))
+    may_be_zero = layouts.bytes_of("e-p:64:64-i64:64", Type.struct([U8, U32])).is_from_zeros
 
 docs/FORMATS.md has the format of types and of answers, docs/NUMBERS.md the numbers behind the objects.
 """
@@ -16,8 +17,9 @@ docs/FORMATS.md has the format of types and of answers, docs/NUMBERS.md the numb
 from __future__ import annotations
 
 import ctypes
+import itertools
 from dataclasses import dataclass
-from typing import Any, Iterable, NamedTuple, Optional, Sequence, Union
+from typing import Any, Iterable, Iterator, NamedTuple, Optional, Sequence, Union
 
 # A room that is enough for most answers, in bytes.
 ROOM = 4096
@@ -58,6 +60,8 @@ class Layouts:
         self._lay_out = _declared(library.abi_c_lay_out, 2)
         self._write_value = _declared(library.abi_c_write_value, 3)
         self._read_value = _declared(library.abi_c_read_value, 3)
+        self._bytes = _declared(library.abi_c_bytes, 2)
+        self._transmute = _declared(library.abi_c_transmute, 3)
 
     def layout(self, data_layout: str, type: str) -> Answer:
         """The size, the alignment, the offsets, the variants, the niche and the padding of a type.
@@ -104,6 +108,21 @@ class Layouts:
         _raise_for(status, numbers)
         return _value_of(numbers)
 
+    def bytes_of(self, data_layout: Union[str, bytes], type: Type) -> ByteAnswers:
+        """What may be done with the bytes of a type. Else as `lay_out`."""
+        status, numbers = self.bytes_numbers(_encoded(data_layout), type.numbers)
+        _raise_for(status, numbers)
+        rest = iter(numbers)
+        return ByteAnswers(_byte_answer(rest), _byte_answer(rest), _byte_answer(rest))
+
+    def transmute(self, data_layout: Union[str, bytes], first: Type, second: Type) -> Transmuted:
+        """Whether each value of the first type is one of the second. Else as `lay_out`, for the first of both that has no layout."""
+        status, numbers = self.transmute_numbers(_encoded(data_layout), first.numbers, second.numbers)
+        _raise_for(status, numbers)
+        rest = iter(numbers)
+        has_pointer = next(rest) == 1
+        return Transmuted(_byte_answer(rest), has_pointer)
+
     def lay_out_numbers(self, data_layout: bytes, numbers: Sequence[int]) -> tuple[int, list[int]]:
         """The status and the numbers that are answered to a data layout string and the numbers of a type, as docs/NUMBERS.md tells them.
         `ValueError` where a number has more than 64 bits."""
@@ -116,6 +135,14 @@ class Layouts:
     def read_value_numbers(self, data_layout: bytes, numbers: Sequence[int], content: bytes) -> tuple[int, list[int]]:
         """The same of bytes: the status, and the numbers of the value that they hold."""
         return _lent(self._read_value, ctypes.c_uint64, data_layout, _words(numbers), (ctypes.c_uint8 * len(content))(*content))
+
+    def bytes_numbers(self, data_layout: bytes, numbers: Sequence[int]) -> tuple[int, list[int]]:
+        """The same of what may be done with the bytes of a type: the status, and the numbers of three answers."""
+        return _lent(self._bytes, ctypes.c_uint64, data_layout, _words(numbers))
+
+    def transmute_numbers(self, data_layout: bytes, first: Sequence[int], second: Sequence[int]) -> tuple[int, list[int]]:
+        """The same of two types, whether each value of the first is one of the second."""
+        return _lent(self._transmute, ctypes.c_uint64, data_layout, _words(first), _words(second))
 
 
 # ---- types
@@ -407,6 +434,47 @@ def _value_of(numbers: Sequence[int]) -> Value:
         return Shared(bytes(next(rest) for _ in range(next(rest))))
 
     return one()
+
+
+# ---- bytes
+
+@dataclass(frozen=True)
+class ByteAnswer:
+    """Whether something is so of the bytes of types."""
+
+    #: `"yes"` or `"no"`; `"other size"` of two types that aren't as large; `"too large"` where it would take more than 2^22 steps.
+    word: str
+    #: Where it isn't so, what shows it: bytes, and `None` where nothing is initialised.
+    cells: tuple[Optional[int], ...] = ()
+
+    def __bool__(self) -> bool:
+        return self.word == "yes"
+
+
+@dataclass(frozen=True)
+class ByteAnswers:
+    """What may be done with the bytes of a type."""
+
+    #: Whether zero bytes hold a value.
+    is_from_zeros: ByteAnswer
+    #: Whether all bytes, as many as it is large, hold a value.
+    is_from_bytes: ByteAnswer
+    #: Whether all that hold a value are initialised.
+    is_into_bytes: ByteAnswer
+
+
+@dataclass(frozen=True)
+class Transmuted:
+    """Whether each value of one type is one of another."""
+
+    goes: ByteAnswer
+    #: Whether some number of the two types is a pointer, which is more than its bytes.
+    has_pointer: bool
+
+
+def _byte_answer(rest: Iterator[int]) -> ByteAnswer:
+    word = ("yes", "no", "other size", "too large")[next(rest)]
+    return ByteAnswer(word, tuple(None if it == 256 else it for it in itertools.islice(rest, next(rest))))
 
 
 # ---- layouts

@@ -43,6 +43,26 @@ extern "C" {
         value_len: usize,
         needed: *mut usize,
     ) -> u8;
+    fn abi_c_bytes(
+        data_layout: *const u8,
+        data_layout_len: usize,
+        ty: *const u64,
+        ty_len: usize,
+        answer: *mut u64,
+        answer_len: usize,
+        needed: *mut usize,
+    ) -> u8;
+    fn abi_c_transmute(
+        data_layout: *const u8,
+        data_layout_len: usize,
+        first: *const u64,
+        first_len: usize,
+        second: *const u64,
+        second_len: usize,
+        answer: *mut u64,
+        answer_len: usize,
+        needed: *mut usize,
+    ) -> u8;
 }
 
 /// A call: what is asked, where the answer goes if it fits, and its status with its length.
@@ -123,6 +143,27 @@ pub(crate) fn read_value(data_layout: &[u8], ty: &[u64], bytes: &[u8]) -> (u8, V
         unsafe {
             let (bytes, count) = (bytes.as_ptr(), bytes.len());
             abi_c_read_value(string.as_ptr(), string.len(), ty.as_ptr(), ty.len(), bytes, count, room.as_mut_ptr(), room.len(), needed)
+        }
+    })
+}
+
+/// The status and the numbers that are answered to the numbers of a type, of what may be done with its bytes.
+pub(crate) fn bytes_of(data_layout: &[u8], ty: &[u64]) -> (u8, Vec<u64>) {
+    lent(|room: &mut [u64], needed| {
+        let string = data_layout;
+        // SAFETY: as in `lay_out`.
+        unsafe { abi_c_bytes(string.as_ptr(), string.len(), ty.as_ptr(), ty.len(), room.as_mut_ptr(), room.len(), needed) }
+    })
+}
+
+/// The status and the numbers that are answered to the numbers of two types.
+pub(crate) fn transmute(data_layout: &[u8], first: &[u64], second: &[u64]) -> (u8, Vec<u64>) {
+    lent(|room: &mut [u64], needed| {
+        let string = data_layout;
+        // SAFETY: as in `lay_out`.
+        unsafe {
+            let (second, count) = (second.as_ptr(), second.len());
+            abi_c_transmute(string.as_ptr(), string.len(), first.as_ptr(), first.len(), second, count, room.as_mut_ptr(), room.len(), needed)
         }
     })
 }

@@ -1,5 +1,5 @@
 //! Type layouts: the calculator of `./layout` and `./map` over the archive `librustc_abi.a`, text in and text out, and
-//! [`lay_out`], [`write_value`] and [`read_value`], by values of Rust.
+//! [`lay_out`], [`write_value`], [`read_value`], [`bytes_of`] and [`transmute`], by values of Rust.
 //!
 //! ```
 //! let answer = rustc_abi_text::layout("e-p:64:64-i64:64", "struct C ( u8 u32 )");
@@ -11,11 +11,13 @@
 //! type, and the 2 MB that Rust gives a thread were enough for types nested as deep as can be.
 #![deny(unsafe_op_in_unsafe_fn)]
 
+mod bytes;
 mod call;
 mod layouts;
 mod types;
 mod values;
 
+pub use bytes::{bytes_of, transmute, ByteAnswer, ByteAnswers, Transmuted};
 pub use layouts::{lay_out, BackendRepr, DataLayout, Error, Fields, Layout, Niche, TagEncoding, VariantLayout, Variants};
 pub use types::{Float, Integer, IntegerType, Primitive, Repr, ScalableElt, Scalar, Type, WrappingRange};
 pub use values::{read_value, write_value, Value};

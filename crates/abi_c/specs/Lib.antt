@@ -6,5 +6,7 @@ pub mod Flat
 pub mod LaidType
 -- what is answered to a value, or to bytes, of a type
 pub mod FlatValues
--- types, values and layouts as numbers
+-- what is answered of the bytes of types
+pub mod FlatBytes
+-- types, values, layouts and answers about bytes as numbers
 pub mod Numbers

@@ -12,3 +12,5 @@ pub mod FlatLayout
 -- values as numbers, and the value that numbers begin with
 pub mod FlatValue
 pub mod FrontValue
+-- answers about bytes as numbers
+pub mod FlatCells

@@ -5,6 +5,7 @@
 mod lend;
 
 // Types, values and layouts as numbers, and what is answered to these.
+mod bytes;
 mod flat;
 mod laid_type;
 mod numbers;
@@ -15,9 +16,11 @@ ghost use Rattle.abi_text.specs.Output.{IsOutputOf, Output};
 ghost use Rattle.abi_text.specs.Report.{ReportsLayout};
 ghost use Rattle.abi_map.specs.Map.{ReportsMap};
 ghost use Rattle.abi_c.specs.Flat.{IsLayoutReply, IsLentReply};
+ghost use Rattle.abi_c.specs.FlatBytes.{IsBytesOf, IsReplyOfTwo, IsTransmuteOf};
 ghost use Rattle.abi_c.specs.FlatValues.{IsReadOf, IsReplyOfLaid, IsWrittenOf};
 ghost use Rattle.abi_c.specs.Lent.{IsLentAnswer};
 
+use crate::bytes::{answer_bytes, answer_transmute};
 use crate::flat::answer_numbers;
 use crate::lend::lend;
 use crate::values::{answer_read, answer_write};
@@ -159,6 +162,64 @@ pub extern "C" fn abi_c_read_value(
         }
         Err(_) => {
             lend(&[0u64], value, needed);
+            1
+        }
+    }
+}
+
+/// Answers what may be done with the bytes of the type with these numbers, and the status of `abi_c_lay_out`: 0 where it
+/// has a layout, and then three answers are lent: whether zero bytes hold a value of it, whether all bytes do, and whether
+/// all that hold one are initialised; and else the number of `abi_c_lay_out`. `docs/NUMBERS.md` has an answer's numbers.
+///
+/// `needed` is how many numbers there are. They stand at the front of `answer` where they fit, and nothing behind them
+/// changes; else `answer` stays as it was. Where memory is wanting the status is 1, and the number 0.
+#[unsafe(no_mangle)]
+pub extern "C" fn abi_c_bytes(
+    alloc: Global,
+    data_layout: &[u8],
+    tree: &[u64],
+    answer: &mut [u64],
+    needed: &mut usize,
+) -> u8
+    ensures { IsLentReply (IsReplyOfLaid IsBytesOf data_layout.now tree.now) result answer.old answer.new needed.new }
+{
+    match answer_bytes(alloc, data_layout, tree) {
+        Ok(found) => {
+            lend(found.numbers.as_slice(), answer, needed);
+            found.status
+        }
+        Err(_) => {
+            lend(&[0u64], answer, needed);
+            1
+        }
+    }
+}
+
+/// Answers whether each value of the type with the first numbers is one of the type with the second ones, and the status
+/// of `abi_c_lay_out`: 0 where both have a layout, and then 1 is lent where some number of the two is a pointer and else
+/// 0, and the answer behind it; and else the number of `abi_c_lay_out` for the first type that has none.
+///
+/// `needed` is how many numbers there are. They stand at the front of `answer` where they fit, and nothing behind them
+/// changes; else `answer` stays as it was. Where memory is wanting the status is 1, and the number 0.
+#[unsafe(no_mangle)]
+pub extern "C" fn abi_c_transmute(
+    alloc: Global,
+    data_layout: &[u8],
+    first: &[u64],
+    second: &[u64],
+    answer: &mut [u64],
+    needed: &mut usize,
+) -> u8
+    ensures { IsLentReply (IsReplyOfTwo IsTransmuteOf data_layout.now first.now second.now)
+        result answer.old answer.new needed.new }
+{
+    match answer_transmute(alloc, data_layout, first, second) {
+        Ok(found) => {
+            lend(found.numbers.as_slice(), answer, needed);
+            found.status
+        }
+        Err(_) => {
+            lend(&[0u64], answer, needed);
             1
         }
     }

@@ -20,4 +20,4 @@ pub(crate) use error::ReadError;
 pub(crate) use layout::write_layout;
 pub(crate) use tree::read_tree;
 pub(crate) use value::read_flat_value;
-pub(crate) use write_value::write_flat_value;
+pub(crate) use write_value::{write_bytes, write_flat_value};

@@ -8,8 +8,8 @@ use crate::numbers::layout::write_wide;
 use abi_tree::Value;
 use std::alloc::{AllocError, Global};
 
-/// Adds a union's bytes behind their count.
-fn write_bytes(out: &mut Vec<u64>, bytes: &[u8]) -> Result<(), AllocError>
+/// Adds bytes behind their count.
+pub(crate) fn write_bytes(out: &mut Vec<u64>, bytes: &[u8]) -> Result<(), AllocError>
     ensures { OnOk result (out.new.items ≡ out.old.items ++ (length bytes.now ∷ bytes.now)) }
 {
     out.push(bytes.len() as u64)?;
