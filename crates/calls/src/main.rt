@@ -3,6 +3,7 @@
 #![tactic(auto)]
 
 mod answer;
+mod bytes;
 mod changes;
 mod command;
 mod data_layouts;

@@ -1,9 +1,10 @@
-//! Calls of laid-out types: what handles of them report, their padding, and their values.
+//! Calls of laid-out types: what handles of them report, their padding, their values, and their bytes.
 
 ghost use Rattle.std.specs.Prelude.{IsTrue};
 ghost use Rattle.abi_tree.specs.Handles.{IsHandle};
 ghost use Rattle.abi_types.specs.Ty.Runs.{IsVariantIndex};
 
+use crate::bytes::{answer_transmute, write_byte_answers};
 use crate::command::Command;
 use crate::layouts::{Layout, laid_type};
 use crate::print::write_runs;
@@ -100,9 +101,11 @@ enum TypeCall {
     Read,
     Decider,
     AllInhabited,
+    Bytes,
+    Transmute,
 }
 
-const TYPE_CALLS: [(&[u8], TypeCall); 8] = [
+const TYPE_CALLS: [(&[u8], TypeCall); 10] = [
     (b"uniform", TypeCall::Uniform),
     (b"padding", TypeCall::Padding),
     (b"laid-padding", TypeCall::LaidPadding),
@@ -111,10 +114,17 @@ const TYPE_CALLS: [(&[u8], TypeCall); 8] = [
     (b"read", TypeCall::Read),
     (b"decider", TypeCall::Decider),
     (b"all-inhabited", TypeCall::AllInhabited),
+    (b"bytes", TypeCall::Bytes),
+    (b"transmute", TypeCall::Transmute),
 ];
 
 /// Answers a call on a laid-out type.
-fn answer(command: &mut Command, asked: TypeCall, laid: &Laid) -> Result<(), Refusal> {
+fn answer(
+    dl: &TargetDataLayout,
+    command: &mut Command,
+    asked: TypeCall,
+    laid: &Laid,
+) -> Result<(), Refusal> {
     match asked {
         TypeCall::Uniform => write_uniform(command, laid.root()),
         TypeCall::Padding => return write_padding(command, laid.root()),
@@ -124,6 +134,8 @@ fn answer(command: &mut Command, asked: TypeCall, laid: &Laid) -> Result<(), Ref
         TypeCall::Read => return answer_read(command, laid),
         TypeCall::Decider => return Ok(write_decider(command, laid)?),
         TypeCall::AllInhabited => command.write_truth(laid.all_inhabited()),
+        TypeCall::Bytes => return Ok(write_byte_answers(command, laid)?),
+        TypeCall::Transmute => return answer_transmute(dl, command, laid),
     }
     Ok(())
 }
@@ -135,7 +147,7 @@ fn call_on_type(
     asked: TypeCall,
 ) -> Result<(), Refusal> {
     let laid = laid_type(dl, command)?;
-    answer(command, asked, &laid)
+    answer(dl, command, asked, &laid)
 }
 
 /// Answers the call; whether it is one of these.

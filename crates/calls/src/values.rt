@@ -5,7 +5,8 @@ mod words;
 
 use crate::command::Command;
 use crate::stop::{Name, Refusal};
-use crate::values::print::{write_bytes, write_meant};
+use crate::values::print::write_meant;
+pub(crate) use crate::values::print::{write_bytes, write_cells};
 use crate::values::words::{bytes, value};
 use rustc_abi::{Laid, Value, ValueError, read_value, write_value};
 use std::alloc::{AllocError, Global};

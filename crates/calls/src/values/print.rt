@@ -22,6 +22,19 @@ pub(crate) fn write_bytes(command: &mut Command, bytes: &[u8]) {
     }
 }
 
+/// Writes that something isn't so, and the cells that show it, each by two hexadecimal digits, or by `--` where nothing is
+/// initialised.
+pub(crate) fn write_cells(command: &mut Command, cells: &[Option<u8>]) {
+    command.write("no");
+    for cell in cells {
+        command.write(" ");
+        match cell {
+            Some(byte) => write_bytes(command, &[*byte]),
+            None => command.write("--"),
+        }
+    }
+}
+
 /// Writes values between parentheses.
 #[cycle(meant)]
 fn write_each(command: &mut Command, values: &[Value]) {
