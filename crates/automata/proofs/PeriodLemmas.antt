@@ -1,12 +1,15 @@
 -- How far formulas look, and repetitions that fall into periods.
-use Rattle.std.proofs.Common.{◌≡◌, ◌↔◌, ℕ, zero, suc, ◌+◌, ◌-◌, ◌*◌, ◌≤◌, List, [], ◌∷◌, length, take, drop, arith, sym, ap, ◌∙◌, subst, inl, inr, ⊎_elim, length-take, length-drop}
+use Rattle.std.proofs.Common.{Option, Some, None, IfSome, ◌≡◌, ◌↔◌, ℕ, zero, suc, ◌+◌, ◌-◌, ◌*◌, ◌<◌, ◌≤◌, List, [], ◌∷◌, ◌++◌, length, take, drop, arith, sym, ap, ◌∙◌, subst, inl, inr, ⊎_elim, length-append, append_assoc, length-take, length-drop}
 use Rattle.std.proofs.Math.Nat.{suc-mul}
-use Rattle.std.proofs.lemmas.List.{drop-drop, drop-take}
-use Rattle.std.proofs.lemmas.List.Elements.{All-drop, All-take}
+use Rattle.std.proofs.Math.Seq.{drop-append_seam, take-append_seam}
+use Rattle.std.proofs.lemmas.List.{append-nil, drop-drop, drop-take}
+use Rattle.std.proofs.lemmas.List.Elements.{All-append, All-drop, All-nil, All-take}
 use Rattle.automata.specs.Cell.{Cell, IsCell, AreCells}
 use Rattle.automata.specs.Formula.{Formula, any, never, run, both, either, gap, each, HoldsEach, Reads, Same}
-use Rattle.automata.specs.Inclusion.{Includes}
-use Rattle.automata.specs.Reach.{ArePeriods, reach}
+use Rattle.automata.specs.Inclusion.{Includes, IsDecided, IsInclusion, IsOnlyIn}
+use Rattle.automata.specs.Reach.{ArePeriods, IsOfPeriods, copies, reach}
+use Rattle.automata.specs.declared.inclusion.Inclusion.{Inclusion}
+use Rattle.automata.specs.declared.inclusion.Inclusion.TheVariants.{Included, Missing, TooLarge}
 use Rattle.automata.specs.declared.periods.Periods.{Periods}
 use Rattle.automata.specs.declared.periods.Repeated.{Repeated}
 
@@ -121,3 +124,86 @@ included left right p f g one other size are long within_left within_right same_
     let through = each_period A B p.size step p.count w all (omega (arith, len, long)) (subst (λ n. HoldsEach A p.count n w) (sym are.left_size) first) in
     subst (λ n. HoldsEach (Reads g) n right.size w) (sym are.right_count)
     ((each_nested (Reads g) p.count p.right right.size w).1 (subst (λ n. HoldsEach B p.count n w) are.right_size through))
+
+-- ---- cells, so often one behind another
+
+pub copies_more : (n : ℕ) (w : List Cell) → copies n w ++ w ≡ copies (suc n) w
+copies_more zero w = sym (append-nil w)
+copies_more (suc n) w = append_assoc w (copies n w) w ∙ ap (λ v. w ++ v) (copies_more n w)
+
+copies_length : (n p : ℕ) (w : List Cell) → length w ≡ p → length (copies n w) ≡ n * p
+copies_length zero p w e = omega arith
+copies_length (suc n) p w e = omega (arith, length-append w (copies n w), e, copies_length n p w e, suc-mul n p)
+
+copies_cells : (n : ℕ) (w : List Cell) → AreCells w → AreCells (copies n w)
+copies_cells zero w all = All-nil IsCell
+copies_cells (suc n) w all = All-append IsCell w (copies n w) all (copies_cells n w all)
+
+take_one : (p : ℕ) (w v : List Cell) → length w ≡ p → take p (w ++ v) ≡ w
+take_one p w v e = ap (λ n. take n (w ++ v)) (sym e) ∙ take-append_seam w v
+
+drop_one : (p : ℕ) (w v : List Cell) → length w ≡ p → drop p (w ++ v) ≡ v
+drop_one p w v e = ap (λ n. drop n (w ++ v)) (sym e) ∙ drop-append_seam w v
+
+-- what reads some cells reads them in front of others, and the other way round
+one_first : (f : Formula) (p : ℕ) (w v : List Cell) → reach f ≤ p → length w ≡ p → (Reads f (w ++ v) ↔ Reads f w)
+one_first f p w v le e =
+    let long : p ≤ length (w ++ v) = omega (arith, length-append w v, e) in
+    let first = reads_first f p (w ++ v) le long in
+    let same = take_one p w v e in
+    (λ h. subst (Reads f) same (first.0 h), λ h. first.1 (subst (Reads f) (sym same) h))
+
+each_copy : (f : Formula) (p : ℕ) (w : List Cell) → reach f ≤ p → length w ≡ p → Reads f w → (n : ℕ) → HoldsEach (Reads f) n p (copies n w)
+each_copy f p w le e h zero = tt
+each_copy f p w le e h (suc n) =
+    ((one_first f p w (copies n w) le e).1 h, subst (HoldsEach (Reads f) n p) (sym (drop_one p w (copies n w) e)) (each_copy f p w le e h n))
+
+first_copy : (f : Formula) (p : ℕ) (w : List Cell) → reach f ≤ p → length w ≡ p → (n : ℕ) → 0 < n → HoldsEach (Reads f) n p (copies n w) → Reads f w
+first_copy f p w le e zero some h = absurd (omega arith)
+first_copy f p w le e (suc n) some h = (one_first f p w (copies n w) le e).0 h.0
+
+pub apart : (left right : Repeated) (p : Periods) (f g one other : Formula) (size : ℕ) → ArePeriods left right p → size ≡ p.count * p.size → 0 < p.count → reach f ≤ left.size → reach g ≤ right.size →
+    Same one (each p.left left.size f) → Same other (each p.right right.size g) → (own : List Cell) → IsOnlyIn one other p.size own →
+    IsOnlyIn (each left.count left.size f) (each right.count right.size g) size (copies p.count own)
+apart left right p f g one other size are long some within_left within_right same_one same_other own (cells, len, held, none) =
+    let a : Formula = each p.left left.size f in
+    let b : Formula = each p.right right.size g in
+    let low : reach a ≤ p.size = omega (arith, reach_each p.left left.size f within_left, are.left_size) in
+    let high : reach b ≤ p.size = omega (arith, reach_each p.right right.size g within_right, are.right_size) in
+    let all = copies p.count own in (
+      copies_cells p.count own cells,
+      omega (arith, copies_length p.count p.size own len, long),
+      subst (λ n. HoldsEach (Reads f) n left.size all) (sym are.left_count)
+          ((each_nested (Reads f) p.count p.left left.size all).1
+          (subst (λ n. HoldsEach (Reads a) p.count n all) are.left_size (each_copy a p.size own low len ((same_one own).0 held) p.count))),
+      λ h.
+          let nested = (each_nested (Reads g) p.count p.right right.size all).0 (subst (λ n. HoldsEach (Reads g) n right.size all) are.right_count h) in
+          none ((same_other own).1 (first_copy b p.size own high len p.count some (subst (λ n. HoldsEach (Reads b) p.count n all) (sym are.right_size) nested))),
+    )
+
+-- what one period says is so of all
+pub of_periods : (left right : Repeated) (p : Periods) (f g one other : Formula) (size : ℕ) (inclusion all : Inclusion) → ArePeriods left right p → size ≡ p.count * p.size → 0 < p.count →
+    reach f ≤ left.size → reach g ≤ right.size → Same one (each p.left left.size f) → Same other (each p.right right.size g) → IsInclusion one other p.size inclusion → IsOfPeriods p.count inclusion all →
+    IsDecided (each left.count left.size f) (each right.count right.size g) size all
+of_periods left right p f g one other size Included Included are long some within_left within_right same_one same_other is of_it =
+    included left right p f g one other size are long within_left within_right same_one same_other is
+of_periods left right p f g one other size (Missing own) (Missing cells) are long some within_left within_right same_one same_other is of_it =
+    subst (IsOnlyIn (each left.count left.size f) (each right.count right.size g) size) (sym of_it)
+    (apart left right p f g one other size are long some within_left within_right same_one same_other own.items is)
+of_periods left right p f g one other size Included (Missing cells) are long some within_left within_right same_one same_other is of_it = absurd of_it
+of_periods left right p f g one other size Included TooLarge are long some within_left within_right same_one same_other is of_it = absurd of_it
+of_periods left right p f g one other size (Missing own) Included are long some within_left within_right same_one same_other is of_it = absurd of_it
+of_periods left right p f g one other size (Missing own) TooLarge are long some within_left within_right same_one same_other is of_it = absurd of_it
+of_periods left right p f g one other size TooLarge all are long some within_left within_right same_one same_other is of_it = absurd of_it
+
+pub decided_is : (f g : Formula) (size : ℕ) (answer : Inclusion) → IsDecided f g size answer → IsInclusion f g size answer
+decided_is f g size Included is = is
+decided_is f g size (Missing cells) is = is
+decided_is f g size TooLarge is = tt
+
+pub decided_small : (f g : Formula) (size : ℕ) (answer : Inclusion) → IsDecided f g size answer → answer ≡ TooLarge → ⊥
+decided_small f g size answer is e = subst (IsDecided f g size) e is
+
+pub of_found : (o : Option Inclusion) (P Q : Inclusion → Type 0) → ((answer : Inclusion) → P answer → Q answer) → IfSome o P → IfSome o Q
+of_found None P Q step h = tt
+of_found (Some answer) P Q step h = step answer h

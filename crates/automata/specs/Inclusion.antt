@@ -24,3 +24,8 @@ abbrev pub IsInclusion : (f g : Formula) → (size : ℕ) → Inclusion → Type
 IsInclusion f g size Included = Includes f g size
 IsInclusion f g size (Missing cells) = IsOnlyIn f g size cells.items
 IsInclusion f g size TooLarge = ⊤
+
+-- the same, and it is told which
+abbrev pub IsDecided : (f g : Formula) → (size : ℕ) → Inclusion → Type 0
+IsDecided f g size TooLarge = ⊥
+IsDecided f g size answer = IsInclusion f g size answer

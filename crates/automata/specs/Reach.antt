@@ -1,7 +1,10 @@
 -- How far formulas look, and formulas that are repeated.
-use Rattle.std.specs.Prelude.{◌≡◌, ℕ, zero, suc, ◌+◌, ◌*◌, ◌<◌, ◌≤◌, List, get_or, length, max}
+use Rattle.std.specs.Prelude.{◌≡◌, ℕ, zero, suc, ◌+◌, ◌*◌, ◌<◌, ◌≤◌, ◌++◌, List, [], get_or, length, max, ⊤}
+use Rattle.automata.specs.Cell.{Cell}
 use Rattle.automata.specs.Formula.{Formula, any, never, run, both, either, gap, each}
 use Rattle.automata.specs.Nodes.{formula_in}
+use Rattle.automata.specs.declared.inclusion.Inclusion.{Inclusion}
+use Rattle.automata.specs.declared.inclusion.Inclusion.TheVariants.{Included, Missing}
 use Rattle.automata.specs.declared.periods.Periods.{Periods}
 use Rattle.automata.specs.declared.periods.Repeated.{Repeated}
 
@@ -35,3 +38,14 @@ pub record ArePeriods (left right : Repeated) (p : Periods) : Type 0 where
   pub right_count : right.count ≡ p.count * p.right
   pub left_size : p.size ≡ p.left * left.size
   pub right_size : p.size ≡ p.right * right.size
+
+-- cells, so often one behind another
+abbrev pub copies : ℕ → List Cell → List Cell
+copies zero w = []
+copies (suc n) w = w ++ copies n w
+
+-- what is said of so many periods, where this is said of one
+abbrev pub IsOfPeriods : (count : ℕ) → (one all : Inclusion) → Type 0
+IsOfPeriods count Included Included = ⊤
+IsOfPeriods count (Missing own) (Missing cells) = cells.items ≡ copies count own.items
+IsOfPeriods count _ _ = ⊥

@@ -3,15 +3,18 @@
 ghost use Rattle.std.specs.Prelude.{◌≡◌, ◌*◌, ◌<◌, ◌≤◌, IfOk, IfSome, IsTrue, List, OnOk, length};
 ghost use Rattle.automata.specs.Formula.{Formula, each};
 ghost use Rattle.automata.specs.Formulas.{Keeps};
-ghost use Rattle.automata.specs.Inclusion.{AreTooMany, Includes, IsInclusion};
+ghost use Rattle.automata.specs.Inclusion.{AreTooMany, IsDecided, IsInclusion};
 ghost use Rattle.automata.specs.Nodes.{formula_in, formulas_in};
-ghost use Rattle.automata.specs.Reach.{ArePeriods, AreReaches, IsRepeated, reach};
+ghost use Rattle.automata.specs.Reach.{ArePeriods, AreReaches, IsOfPeriods, IsRepeated, copies, reach};
 
 use crate::formulas::Formulas;
 use crate::inclusion::{Inclusion, compare_cells};
 use crate::node::FormulaNode;
 use crate::reach::reaches;
 use std::alloc::{AllocError, Global};
+
+/// Where one period shows a no, the cells of all are told where there are at most so many.
+const MOST_CELLS: u64 = 1 << 26;
 
 /// So often a formula, each time so many cells further on.
 #[derive(Clone, Copy)]
@@ -103,82 +106,111 @@ fn is_within(reaches: &Vec<u64>, f: usize, size: u64) -> bool
     reaches[f] < 18446744073709551615 && reaches[f] <= size
 }
 
-/// Whether a comparison says that one formula reads all that another reads.
-fn is_included(inclusion: &Inclusion) -> bool
-    ensures { IsTrue result → inclusion.now ≡ Inclusion.Included }
+/// Cells, so often one behind another.
+fn copies_of(
+    alloc: Global,
+    cells: &Vec<Option<u8>>,
+    count: u64,
+) -> Result<Vec<Option<u8>>, AllocError>
+    ensures { IfOk result (λ all. all.items ≡ copies count cells.now.items) }
+{
+    let mut all = Vec::new(alloc);
+    for _ in 0..count {
+        all.extend_from_slice(cells.as_slice())?;
+    }
+    Ok(all)
+}
+
+/// What the comparison of one period says of so many, which have so many cells; `None` where it says nothing, or where the cells
+/// that it would tell are too many.
+fn inclusion_of_periods(
+    alloc: Global,
+    inclusion: Inclusion,
+    count: u64,
+    size: u64,
+) -> Result<Option<Inclusion>, AllocError>
+    ensures { IfOk result (λ found. IfSome found (IsOfPeriods count inclusion)) }
 {
     match inclusion {
-        Inclusion::Included => true,
-        Inclusion::Missing(_) => false,
-        Inclusion::TooLarge => false,
+        Inclusion::Included => Ok(Some(Inclusion::Included)),
+        Inclusion::Missing(cells) => {
+            if size > MOST_CELLS {
+                return Ok(None);
+            }
+            let all = copies_of(alloc, &cells, count)?;
+            Ok(Some(Inclusion::Missing(all)))
+        }
+        Inclusion::TooLarge => Ok(None),
     }
 }
 
 /// Whether each of some periods, of which there are at least two, is as long as it has to be.
 fn are_several(p: Periods, size: u64) -> bool
     ensures size { IsTrue result → size ≡ p.count * p.size }
+    ensures count { IsTrue result → 0 < p.count }
     ensures left { IsTrue result → 0 < p.left }
     ensures right { IsTrue result → 0 < p.right }
 {
     p.count > 1 && p.left > 0 && p.right > 0 && is_product(size, p.count, p.size)
 }
 
-/// Whether one repetition reads all that another reads, where one period says it. `false` says nothing.
-fn is_included_by_period(
+/// Whether one repetition reads all that another reads, where one period says it.
+fn compare_by_period(
     alloc: Global,
     formulas: &mut Formulas,
     left: Repeated,
     right: Repeated,
     size: u64,
-) -> Result<bool, AllocError>
+) -> Result<Option<Inclusion>, AllocError>
     requires left { left.element < length (formulas_in formulas.old) }
     requires right { right.element < length (formulas_in formulas.old) }
-    ensures included { IfOk result (λ yes. IsTrue yes →
-        Includes (each left.count left.size (formula_in (formulas_in formulas.old) left.element))
-        (each right.count right.size (formula_in (formulas_in formulas.old) right.element)) size) }
+    ensures inclusion { IfOk result (λ found. IfSome found (IsDecided
+        (each left.count left.size (formula_in (formulas_in formulas.old) left.element))
+        (each right.count right.size (formula_in (formulas_in formulas.old) right.element)) size)) }
     ensures kept { OnOk result (Keeps (formulas_in formulas.old) (formulas_in formulas.new)) }
 {
     let p = match periods_of(left, right) {
         Some(p) => p,
-        None => return Ok(false),
+        None => return Ok(None),
     };
     if !are_several(p, size) {
-        return Ok(false);
+        return Ok(None);
     }
     let reaches = reaches(alloc, formulas)?;
     if !is_within(&reaches, left.element, left.size) {
-        return Ok(false);
+        return Ok(None);
     }
     if !is_within(&reaches, right.element, right.size) {
-        return Ok(false);
+        return Ok(None);
     }
     let one = formulas.repetition(alloc, p.left, left.size, left.element)?;
     let other = formulas.repetition(alloc, p.right, right.size, right.element)?;
     let inclusion = compare_cells(alloc, formulas, one, other, p.size)?;
-    Ok(is_included(&inclusion))
+    let found = inclusion_of_periods(alloc, inclusion, p.count, size)?;
+    Ok(found)
 }
 
-/// The same of any two formulas: `false` where they aren't repetitions.
-fn is_included_by_periods(
+/// The same of any two formulas: `None` where they aren't repetitions, too.
+fn compare_by_periods(
     alloc: Global,
     formulas: &mut Formulas,
     left: usize,
     right: usize,
     size: u64,
-) -> Result<bool, AllocError>
+) -> Result<Option<Inclusion>, AllocError>
     requires left { left < length (formulas_in formulas.old) }
     requires right { right < length (formulas_in formulas.old) }
-    ensures included { IfOk result (λ yes. IsTrue yes → Includes (formula_in (formulas_in formulas.old) left)
-        (formula_in (formulas_in formulas.old) right) size) }
+    ensures inclusion { IfOk result (λ found. IfSome found (IsDecided (formula_in (formulas_in formulas.old) left)
+        (formula_in (formulas_in formulas.old) right) size)) }
     ensures kept { OnOk result (Keeps (formulas_in formulas.old) (formulas_in formulas.new)) }
 {
     if let Some(one) = repetition_of(formulas, left) {
         if let Some(other) = repetition_of(formulas, right) {
-            let included = is_included_by_period(alloc, formulas, one, other, size)?;
-            return Ok(included);
+            let found = compare_by_period(alloc, formulas, one, other, size)?;
+            return Ok(found);
         }
     }
-    Ok(false)
+    Ok(None)
 }
 
 /// Whether the second formula reads all lists of so many cells that the first one reads. Two repetitions are compared by a
@@ -199,8 +231,8 @@ pub fn compare(
         AreTooMany (formulas_in formulas.new) left right) }
     ensures kept { OnOk result (Keeps (formulas_in formulas.old) (formulas_in formulas.new)) }
 {
-    if is_included_by_periods(alloc, formulas, left, right, size)? {
-        return Ok(Inclusion::Included);
+    if let Some(inclusion) = compare_by_periods(alloc, formulas, left, right, size)? {
+        return Ok(inclusion);
     }
     let inclusion = compare_cells(alloc, formulas, left, right, size)?;
     Ok(inclusion)
