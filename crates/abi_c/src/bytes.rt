@@ -22,7 +22,7 @@ use abi_tree::Laid;
 use std::alloc::{AllocError, Global};
 
 /// The letter of a cell: a byte, or 256 where nothing is initialised.
-fn letter(cell: Option<u8>) -> u64
+fn letter_of(cell: Option<u8>) -> u64
     ensures { result ≡ letter_of cell }
 {
     match cell {
@@ -37,7 +37,7 @@ fn write_cells(out: &mut Vec<u64>, answer: u64, cells: &[Option<u8>]) -> Result<
 {
     out.extend_from_slice(&[answer, cells.len() as u64])?;
     for cell in cells {
-        out.push(letter(*cell))?;
+        out.push(letter_of(*cell))?;
     }
     Ok(())
 }

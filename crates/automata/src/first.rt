@@ -41,8 +41,8 @@ fn letters_around(one: Option<Letters>, other: Option<Letters>) -> Option<Letter
     }
 }
 
-#[tactic(auto, using(crate::proofs::FirstLemmas::first_each))]
 /// The first letters of what a node reads, by those of the formulas that it is made of.
+#[tactic(auto, using(crate::proofs::FirstLemmas::first_each))]
 pub(crate) fn first_letters_of(node: FormulaNode, firsts: &Vec<Option<Letters>>) -> Option<Letters>
     requires { IsNode (length firsts.now.items) node }
     ensures { (fs : List Formula) → HaveFirsts fs firsts.now.items → HasFirst (meaning fs node) result }
