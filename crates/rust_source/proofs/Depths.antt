@@ -10,7 +10,7 @@ use Rattle.rust_source.specs.Cursor.{comma_passed, fault, is_done, is_next, is_k
 use Rattle.rust_source.specs.Operators.{next_operator}
 use Rattle.rust_source.specs.Reading.{read_on}
 use Rattle.rust_source.specs.Syntax.{ArgumentRead, ExprRead, SegmentRead, TypeRead, cast, tuple, type_list}
-use Rattle.rust_source.specs.Terms.{Readers, Known, argument_more, arguments_from, arguments_on, cast_from, choice_read, choice_with, done, expr_from, expr_on, expr_read, expr_with, readers, operand, parameter_type, parameter_types_from, path_from, path_on, fault_next, segment_read, tuple_behind, tuple_on, type_read, type_next, values_from}
+use Rattle.rust_source.specs.Terms.{Readers, Known, argument_more, arguments_from, arguments_on, cast_from, choice_read, choice_with, done, expr_from, expr_on, expr_read, expr_with, is_method_next, method_read, methods_from, readers, operand, parameter_type, parameter_types_from, path_from, path_on, fault_next, segment_read, tuple_behind, tuple_on, type_read, type_next, values_from}
 use Rattle.rust_source.proofs.Turns.{none_left, turns}
 
 pub type_less : (depth_left left : ℕ) (c : Cursor) (names : Known) → left + 1 ≡ depth_left → type_read depth_left c names ≡ type_next (readers left) c names
@@ -73,6 +73,12 @@ module _ (R : Readers) (n i : ℕ) where
 
   pub path_done : (in_type is_global : Bool) (all : List SegmentRead) (c : Cursor) (names : Known) → n ≤ i → path_from R in_type is_global (n - i) all c names ≡ fault_next ExpectedName c names
   path_done in_type is_global all c names past = ap (λ k. path_from R in_type is_global k all c names) (none_left n i past)
+
+  pub methods_more : (e : ExprRead) (c : Cursor) (names : Known) → i < n → methods_from R (n - i) e c names ≡ (if is_method_next c then read_on (λ (called : ExprRead × Cursor) ns. methods_from R (n - (i + 1)) called.0 called.1 ns) (method_read R e c names) else done (e, c) names)
+  methods_more e c names more = ap (λ k. methods_from R k e c names) (turns n i more)
+
+  pub methods_done : (e : ExprRead) (c : Cursor) (names : Known) → n ≤ i → methods_from R (n - i) e c names ≡ fault_next TooDeep c names
+  methods_done e c names past = ap (λ k. methods_from R k e c names) (none_left n i past)
 
   pub cast_more : (e : ExprRead) (c : Cursor) (names : Known) → i < n → cast_from R (n - i) e c names ≡ (if is_keyword_next c keyword.As then read_on (λ (t : TypeRead × Cursor) ns. cast_from R (n - (i + 1)) (cast e t.0 (place c)) t.1 ns) (R.type_in (passed c 1) names) else done (e, c) names)
   cast_more e c names more = ap (λ k. cast_from R k e c names) (turns n i more)

@@ -18,7 +18,7 @@ use Rattle.rust_source.specs.declared.tokens.token.TokenKind.{TokenKind}
 use Rattle.rust_source.specs.declared.tokens.token.TokenKind.TheVariants as kind
 use Rattle.rust_source.specs.Attributes.{attributes_read}
 use Rattle.rust_source.specs.Constants.{own_constants}
-use Rattle.rust_source.specs.Cursor.{behind_group, expected, inside, is_done, is_next, is_keyword_next, next_kind, passed}
+use Rattle.rust_source.specs.Cursor.{behind_group, expected, inside, is_done, is_named_next, is_next, is_keyword_next, next_kind, passed}
 use Rattle.rust_source.specs.Fields.{by_names, visibility_passed}
 use Rattle.rust_source.specs.Functions.{function_read}
 use Rattle.rust_source.specs.Having.{Having, item_of_module, next_module, noted, using_within, with_item, with_module, with_passed, noted_within}
@@ -85,12 +85,18 @@ may_have_repr c =
 abbrev pub repr_judged : Attributes → Cursor → Result (Unit {0}) SourceFault
 repr_judged said c = if may_have_repr c then Ok tt else misplaced said.repr.at
 
--- what is brought in, behind `use`
-unfoldable pub use_read : Standing → Cursor → Having → Result Cursor SourceFault × Having
-use_read standing c known =
+-- another crate is next under a name of its own, which is brought in as `use ::a as b` does: `extern crate a as b`
+unfoldable pub renames_crate : Cursor → Bool
+renames_crate c =
+    is_keyword_next c keyword.Extern && is_keyword_next (passed c 1) keyword.Crate && is_named_next (passed c 1)
+    && is_keyword_next (passed c 3) keyword.As
+
+-- what is brought in, behind `use`, or behind `extern crate`, whose path is global
+unfoldable pub use_read : (is_global : Bool) → Standing → Cursor → Having → Result Cursor SourceFault × Having
+use_read is_global standing c known =
     read_on (λ d ns. (expected d 59 ExpectedSemicolon, ns))
     (using_within known.1
-    (tree_read most_nested (record { «module» = standing.«module»; visible_in = standing.visible_in; is_global = false }) [] c (known.0, known.1.uses)))
+    (tree_read most_nested (record { «module» = standing.«module»; visible_in = standing.visible_in; is_global = is_global }) [] c (known.0, known.1.uses)))
 
 -- a module of this name, in the one that it stands in
 abbrev pub module_of : Standing → Symbol → (path : Option Symbol) → Module
@@ -104,8 +110,9 @@ module _ (rules : Rules) where
   -- the item that is next, which makes no type and is no constant
   unfoldable pub other_read : Standing → Attributes → Cursor → Having → Result Cursor SourceFault × Having
   other_read standing said c known =
-      if is_keyword_next c keyword.Use then use_read standing (passed c 1) known
-      else read_on (λ _ ns. read_on (λ _ ms. read_on (λ _ ls. over_passed c ls) (trait_read standing c ms)) (function_read standing said c ns)) (own_constants rules standing.«module» c known)
+      if is_keyword_next c keyword.Use then use_read false standing (passed c 1) known
+      else (if renames_crate c then use_read true standing (passed c 2) known
+      else read_on (λ _ ns. read_on (λ _ ms. read_on (λ _ ls. over_passed c ls) (trait_read standing c ms)) (function_read standing said c ns)) (own_constants rules standing.«module» c known))
 
   -- the item that is next, which this was or another one is
   abbrev pub next_item_by : Standing → Attributes → Option DefinitionRead → Cursor → Having → Result Cursor SourceFault × Having

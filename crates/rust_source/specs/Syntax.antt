@@ -1,6 +1,8 @@
 -- Types, paths and expressions as they are read.
-use Rattle.std.specs.Prelude.{ℕ, Bool, List, [], ◌∷◌, Option}
+use Rattle.std.specs.Prelude.{ℕ, Bool, false, List, [], ◌∷◌, Option}
 use Rattle.rust_source.specs.declared.place.Place.{Place}
+use Rattle.rust_source.specs.declared.place.Symbol.{Symbol}
+use Rattle.rust_source.specs.declared.place.TheConstants.Symbol.{UNDERSCORE}
 use Rattle.rust_source.specs.declared.syntax.Argument.{Argument}
 use Rattle.rust_source.specs.declared.syntax.Argument.TheFolds.{fold-Argument, fold-Expr, fold-Path, fold-Segment, fold-Type}
 use Rattle.rust_source.specs.declared.syntax.Argument.TheOpen.{Argument-F, Expr-F, Path-F, Segment-F, Type-F}
@@ -97,6 +99,15 @@ arguments (a ∷ more) = more_arguments a (arguments more)
 abbrev pub exprs : List ExprRead → ExprsRead
 exprs [] = no_exprs
 exprs (e ∷ es) = more_exprs e (exprs es)
+
+-- the path by which a method is called: `_::name`
+abbrev pub method_path : Symbol → Place → PathRead
+method_path name at =
+    path false (more_segments (segment UNDERSCORE.0 at 0 no_arguments) (more_segments (segment name.0 at 0 no_arguments) no_segments))
+
+-- the call of a method, which gives it what it is called on before all else (Rust Reference, "Method-call expressions")
+abbrev pub method : (receiver : ExprRead) → Symbol → Place → (others : List ExprRead) → ExprRead
+method receiver name at others = call (method_path name at) (exprs (receiver ∷ others)) at
 
 -- one layer of each of the program's kinds of syntax, whose parts are seen so already
 abbrev pub layer_argument : Argument-F ArgumentRead ExprRead TypeRead PathRead SegmentRead → ArgumentRead

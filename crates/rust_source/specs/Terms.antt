@@ -14,13 +14,13 @@ use Rattle.rust_source.specs.declared.tokens.token.Bracket.{Bracket}
 use Rattle.rust_source.specs.declared.tokens.token.Bracket.TheVariants as bracket
 use Rattle.rust_source.specs.declared.tokens.token.TokenKind.{TokenKind}
 use Rattle.rust_source.specs.declared.tokens.token.TokenKind.TheVariants as kind
-use Rattle.rust_source.specs.Cursor.{behind_group, comma_passed, expected, fault, inside, is_done, is_lifetime, is_next, is_nth, is_nth_pair, is_pair, is_keyword_next, next_kind, passed, place}
+use Rattle.rust_source.specs.Cursor.{behind_group, comma_passed, expected, fault, inside, is_done, is_group, is_lifetime, is_named_next, is_next, is_nth, is_nth_pair, is_pair, is_keyword_next, next_kind, passed, place}
 use Rattle.rust_source.specs.Operators.{all_joined, next_operator, operator_put, with_operators}
 use Rattle.rust_source.specs.Lifetimes.{lifetimes_given}
 use Rattle.rust_source.specs.Passing.{bounds}
-use Rattle.rust_source.specs.Reading.{Reading, read_on, path_name, read_as}
+use Rattle.rust_source.specs.Reading.{Reading, read_on, name, path_name, read_as}
 use Rattle.rust_source.specs.Simple.{after_path, before_function, begins_function, begins_path, ends_variadic, is_extern, is_literal, is_variadic, literal_read, most_nested, parameter_begun, pointed, pointings, signed_literal, signs, simple}
-use Rattle.rust_source.specs.Syntax.{ArgumentRead, ExprRead, PathRead, SegmentRead, TypeRead, arguments, array, binding, call, cast, choice, constant, dyn, exprs, function, of_const, of_type, other_expr, path, segment, segments, slice, tuple, type_list}
+use Rattle.rust_source.specs.Syntax.{ArgumentRead, ExprRead, PathRead, SegmentRead, TypeRead, arguments, array, binding, call, cast, choice, constant, dyn, exprs, function, method, of_const, of_type, other_expr, path, segment, segments, slice, tuple, type_list}
 
 -- names that have numbers
 abbrev pub Known : Type 0
@@ -107,6 +107,10 @@ expr_on go_on os ws c (Some o) names =
 -- the argument that a literal is, with the operators before it
 abbrev pub constant_read : Cursor → Result (ArgumentRead × Cursor) SourceFault
 constant_read c = read_as (λ (e : ExprRead × Cursor). (of_const e.0, e.1)) (signed_literal c)
+
+-- the call of a method is next, behind what it is called on: `.name(..)`
+unfoldable pub is_method_next : Cursor → Bool
+is_method_next c = is_next c 46 && is_named_next c && is_group (passed c 2) bracket.Round
 
 module _ (R : Readers) where
   -- the expression that all tokens make that are left, `Unevaluated` where they make none that is read
@@ -300,10 +304,30 @@ module _ (R : Readers) where
       then read_on (λ (t : TypeRead × Cursor) ns. cast_from limit (cast e t.0 (place c)) t.1 ns) (R.type_in (passed c 1) names)
       else done (e, c) names
 
+  abbrev pub method_in : (receiver : ExprRead) → Symbol × Place → Cursor → Option Cursor → Known → Reading (ExprRead × Cursor)
+  method_in receiver n c None names = fault_next ExpectedExpression c names
+  method_in receiver n c (Some i) names = read_on (λ es ns. done (method receiver n.0 n.1 es, behind_group c) ns) (expressions_in i names)
+
+  -- the call of a method whose `.` is next
+  unfoldable pub method_read : (receiver : ExprRead) → Reader ExprRead
+  method_read receiver c names =
+      read_on (λ (n : (Symbol × Place) × Cursor) ns. method_in receiver n.0 n.1 (inside n.1 bracket.Round) ns) (name (passed c 1) names)
+
+  -- an operand with the calls of methods behind it; there are less than `limit`
+  abbrev pub methods_from : (limit : ℕ) → ExprRead → Reader ExprRead
+  methods_from zero e c names = fault_next TooDeep c names
+  methods_from (suc limit) e c names =
+      if is_method_next c then read_on (λ (called : ExprRead × Cursor) ns. methods_from limit called.0 called.1 ns) (method_read e c names)
+      else done (e, c) names
+
+  -- the operand that is next, without operators, with the calls of methods behind it
+  unfoldable pub called : Reader ExprRead
+  called c names = read_on (λ (e : ExprRead × Cursor) ns. methods_from most_nested e.0 e.1 ns) (primary c names)
+
   -- the operand that is next, with the operators before it and the casts behind
   unfoldable pub operand : Reader ExprRead
   operand c names =
-      read_on (λ s ns. read_on (λ (e : ExprRead × Cursor) ms. cast_from most_nested (with_operators e.0 s.0) e.1 ms) (primary s.1 ns)) (signs c, names)
+      read_on (λ s ns. read_on (λ (e : ExprRead × Cursor) ms. cast_from most_nested (with_operators e.0 s.0) e.1 ms) (called s.1 ns)) (signs c, names)
 
   -- an expression, behind these operands and operators, both the last first
   abbrev pub expr_from : (limit : ℕ) → List ExprRead → List Waiting → Reader ExprRead

@@ -30,8 +30,8 @@ pub enum Unevaluated {
     Associated,
     /// `_`.
     Inferred,
-    /// A string, a float, a block of statements, a `match`, a closure, a method's call, a field, an index, a list, or
-    /// what else is no constant that is read here.
+    /// A string, a float, a block of statements, a `match`, a closure, a field, an index, a list, or what else is no
+    /// constant that is read here.
     Expression,
 }
 
@@ -143,7 +143,8 @@ pub enum Expr {
     Bool(bool, Place),
     /// A constant, or one of a type, as `u8::MAX`.
     Path(Path),
-    /// A call of what a path names, its arguments, and where it begins.
+    /// A call of what a path names, its arguments, and where it begins. A method's, `A.name(B)`, is one of `_::name` with
+    /// the arguments `A` and `B`, where the method's name stands.
     Call(Path, Vec<Expr>, Place),
     /// An operator before its operand, and where the operator stands.
     Unary(Unary, Box<Expr>, Place),

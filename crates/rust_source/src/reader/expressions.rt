@@ -7,23 +7,24 @@ ghost use Rattle.rust_source.specs.Cursor.{next_kind, token_text};
 ghost use Rattle.rust_source.specs.Literals.{char_code, number_written};
 ghost use Rattle.rust_source.specs.Reading.{Reads, read_as};
 ghost use Rattle.rust_source.specs.Simple.{byte_read, char_read, is_literal, literal_read, literal_of, most_nested, number_read, sign_of, signed_literal, signs};
-ghost use Rattle.rust_source.specs.Syntax.{cast, choice, expr_of, type_of};
-ghost use Rattle.rust_source.specs.Terms.{bracketed, cast_from, choice_behind, choice_read, choice_with, else_read, expr_read, expr_with, readers, is_always_reported, operand, primary, value, expressions_in, whole};
+ghost use Rattle.rust_source.specs.Syntax.{cast, choice, expr_of, method, method_path, no_arguments, path_as_read, segment, segment_of, type_of};
+ghost use Rattle.rust_source.specs.Terms.{bracketed, cast_from, choice_behind, choice_read, choice_with, else_read, expr_read, expr_with, called, is_method_next, method_read, methods_from, readers, is_always_reported, operand, primary, value, expressions_in, whole};
 ghost use Rattle.rust_source.specs.Tokens.{Yields};
 
 use crate::fault::{SourceFault, SourceFaultKind};
 use crate::names::Names;
-use crate::place::Place;
+use crate::place::{Place, Symbol};
 use crate::reader::cursor::{
-    Cursor, expect_comma, fault, is_done, next_kind, nth, pass, place, take_group, take_word,
-    text_of,
+    Cursor, expect_comma, fault, is_done, is_group, is_named_next, is_next, next_kind, nth, pass,
+    place, take_group, take_word, text_of,
 };
 use crate::reader::depth::{most_nested, one_level_deeper};
 use crate::reader::literals::{Number, char_code, number_of};
+use crate::reader::naming::take_name;
 use crate::reader::operators::{Waiting, join_all, next_operator, put_operator, with_signs};
 use crate::reader::paths::read_path;
 use crate::reader::types::read_type;
-use crate::syntax::{Expr, IntegerKind, Type, Unary, Unevaluated};
+use crate::syntax::{Expr, IntegerKind, Path, Segment, Type, Unary, Unevaluated};
 use crate::tokens::bytes_after;
 use crate::tokens::keyword::Keyword;
 use crate::tokens::token::{Bracket, Token, TokenKind};
@@ -171,9 +172,122 @@ fn read_operand(
         (operand (readers depth_left) cursor.old (texts names.old)) (texts names.new) result }
 {
     let signs = take_signs(names.alloc(), cursor)?;
-    let first = read_primary(names, cursor, depth_left)?;
+    let first = read_called(names, cursor, depth_left)?;
     let operand = with_signs(names.alloc(), first, signs)?;
     read_casts(names, cursor, operand, depth_left)
+}
+
+/// An operand without operators, with the calls of methods behind it.
+#[cycle(terms)]
+#[tactic(auto, unfolding(crate::specs::Terms::called))]
+fn read_called(
+    names: &mut Names,
+    cursor: &mut Cursor<'_>,
+    depth_left: u32,
+) -> Result<Expr, SourceFault>
+    ensures { Reads (λ value. (expr_of value, cursor.new))
+        (called (readers depth_left) cursor.old (texts names.old)) (texts names.new) result }
+{
+    let first = read_primary(names, cursor, depth_left)?;
+    read_methods(names, cursor, first, depth_left)
+}
+
+/// Whether the call of a method is next, behind what it is called on.
+#[tactic(auto, unfolding(crate::specs::Terms::is_method_next))]
+fn is_method_next(cursor: &Cursor<'_>) -> bool
+    ensures { result ≡ is_method_next cursor.now }
+{
+    let mut behind_name = *cursor;
+    pass(&mut behind_name, 2);
+    is_next(cursor, b'.') && is_named_next(cursor) && is_group(&behind_name, Bracket::Round)
+}
+
+/// An operand with the calls of methods behind it.
+#[cycle(terms)]
+#[tactic(auto, using(crate::proofs::Depths::methods_more, crate::proofs::Depths::methods_done))]
+fn read_methods(
+    names: &mut Names,
+    cursor: &mut Cursor<'_>,
+    operand: Expr,
+    depth_left: u32,
+) -> Result<Expr, SourceFault>
+    ensures { Reads (λ value. (expr_of value, cursor.new))
+        (methods_from (readers depth_left) most_nested (expr_of operand) cursor.old (texts names.old)) (texts names.new) result }
+{
+    let mut operand = operand;
+    let turns = most_nested();
+    for turn in 0..turns {
+        if !is_method_next(cursor) {
+            return Ok(operand);
+        }
+        operand = read_method(names, cursor, operand, depth_left)?;
+    }
+    Err(fault(cursor, SourceFaultKind::TooDeep))
+}
+
+/// The call of a method whose `.` is next.
+#[cycle(terms)]
+#[tactic(auto, unfolding(crate::specs::Terms::method_read))]
+fn read_method(
+    names: &mut Names,
+    cursor: &mut Cursor<'_>,
+    receiver: Expr,
+    depth_left: u32,
+) -> Result<Expr, SourceFault>
+    ensures { Reads (λ value. (expr_of value, cursor.new))
+        (method_read (readers depth_left) (expr_of receiver) cursor.old (texts names.old)) (texts names.new) result }
+{
+    pass(cursor, 1);
+    let (name, at) = take_name(names, cursor)?;
+    let Some(mut inside) = take_group(cursor, Bracket::Round) else {
+        return Err(fault(cursor, SourceFaultKind::ExpectedExpression));
+    };
+    let others = read_values(names, &mut inside, depth_left)?;
+    call_of_method(names.alloc(), receiver, name, at, others)
+}
+
+/// One name of the path by which a method is called.
+fn method_segment(alloc: Global, name: Symbol, at: Place) -> Segment
+    ensures { segment_of result ≡ segment name.0 at 0 no_arguments }
+{
+    Segment {
+        name,
+        at,
+        lifetimes: 0,
+        arguments: Vec::new(alloc),
+    }
+}
+
+/// The path by which a method is called, whose name stands at this place.
+fn path_of_method(alloc: Global, name: Symbol, at: Place) -> Result<Path, SourceFault>
+    ensures ok { IfOk result (λ path. path_as_read path ≡ method_path name at) }
+    ensures err { IfErr result (λ fault. fault.kind ≡ SourceFaultKind.OutOfMemory) }
+{
+    let mut segments = Vec::new(alloc);
+    segments.push(method_segment(alloc, Symbol::UNDERSCORE, at))?;
+    segments.push(method_segment(alloc, name, at))?;
+    Ok(Path {
+        is_global: false,
+        segments,
+    })
+}
+
+/// The call of a method on what stands before it, with what else it is given.
+fn call_of_method(
+    alloc: Global,
+    receiver: Expr,
+    name: Symbol,
+    at: Place,
+    others: Vec<Expr>,
+) -> Result<Expr, SourceFault>
+    ensures ok { IfOk result
+        (λ whole. expr_of whole ≡ method (expr_of receiver) name at (map expr_of others.items)) }
+    ensures err { IfErr result (λ fault. fault.kind ≡ SourceFaultKind.OutOfMemory) }
+{
+    let path = path_of_method(alloc, name, at)?;
+    let mut arguments = others;
+    arguments.insert(0, receiver)?;
+    Ok(Expr::Call(path, arguments, at))
 }
 
 /// An operand, cast to a type behind an `as` that stands at this place.

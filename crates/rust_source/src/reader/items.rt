@@ -5,7 +5,7 @@ ghost use Rattle.rust_source.specs.Cursor.{inside, next_kind};
 ghost use Rattle.rust_source.specs.Growth.{KeepsItems};
 ghost use Rattle.rust_source.specs.Having.{item_of_module, with_item};
 ghost use Rattle.rust_source.specs.Items.{item_of, items_as_read};
-ghost use Rattle.rust_source.specs.Modules.{all_read, is_item_word, is_macro, is_passed_over, item_read, items_within, may_have_repr, module_by, module_read, module_within, one_read, other_read, over_passed, passes_kind, path_passed, repr_judged, root_read, standing_read, use_read};
+ghost use Rattle.rust_source.specs.Modules.{all_read, is_item_word, is_macro, is_passed_over, item_read, items_within, may_have_repr, module_by, module_read, module_within, one_read, other_read, over_passed, passes_kind, path_passed, renames_crate, repr_judged, root_read, standing_read, use_read};
 ghost use Rattle.rust_source.specs.Names.{texts};
 ghost use Rattle.rust_source.specs.Reading.{Reads};
 ghost use Rattle.rust_source.specs.Simple.{most_nested};
@@ -18,7 +18,8 @@ use crate::place::Place;
 use crate::reader::attributes::{Attributes, Rules, read_attributes};
 use crate::reader::constants::read_own_constants;
 use crate::reader::cursor::{
-    Cursor, expect, fault, is_done, is_next, is_word, next_kind, nth, pass, take_group, take_word,
+    Cursor, expect, fault, is_done, is_named_next, is_next, is_word, next_kind, nth, pass,
+    take_group, take_word,
 };
 use crate::reader::definition::{Definition, is_union, read_definition};
 use crate::reader::depth::{most_nested, one_level_deeper};
@@ -93,22 +94,38 @@ pub(crate) fn put_item(
     Ok(())
 }
 
-/// Reads what is brought in, behind `use`.
+/// Whether another crate is next under a name of its own: `extern crate a as b`.
+#[tactic(auto, unfolding(crate::specs::Modules::renames_crate))]
+fn renames_crate(cursor: &Cursor<'_>) -> bool
+    ensures { result ≡ renames_crate cursor.now }
+{
+    let mut behind_extern = *cursor;
+    let mut behind_name = *cursor;
+    pass(&mut behind_extern, 1);
+    pass(&mut behind_name, 3);
+    is_word(cursor, Keyword::Extern)
+        && is_word(&behind_extern, Keyword::Crate)
+        && is_named_next(&behind_extern)
+        && is_word(&behind_name, Keyword::As)
+}
+
+/// Reads what is brought in, behind `use`, or behind `extern crate`, whose path is global.
 #[tactic(auto, unfolding(crate::specs::Modules::use_read))]
 fn read_use(
     names: &mut Names,
     items: &mut Items,
     standing: Standing,
+    is_global: bool,
     cursor: &mut Cursor<'_>,
 ) -> Result<(), SourceFault>
     ensures kept { KeepsItems items.old items.new }
-    ensures read { Reads (λ _. cursor.new) (use_read standing cursor.old (texts names.old, items_as_read items.old))
+    ensures read { Reads (λ _. cursor.new) (use_read is_global standing cursor.old (texts names.old, items_as_read items.old))
         (texts names.new, items_as_read items.new) result }
 {
     let place = UsePlace {
         module: standing.module,
         visible_in: standing.visible_in,
-        is_global: false,
+        is_global,
     };
     let context = UseContext {
         place,
@@ -211,7 +228,11 @@ fn read_other(
 {
     let standing = context.standing;
     if take_word(cursor, Keyword::Use) {
-        return read_use(names, items, standing, cursor);
+        return read_use(names, items, standing, false, cursor);
+    }
+    if renames_crate(cursor) {
+        pass(cursor, 2);
+        return read_use(names, items, standing, true, cursor);
     }
     read_own_constants(rules, names, items, standing.module, cursor)?;
     read_function(names, items, standing, &context.said, cursor)?;

@@ -4,7 +4,7 @@ use Rattle.rust_source.specs.Names.{texts}
 use Rattle.rust_source.specs.Operators.{operands_of}
 use Rattle.rust_source.specs.Simple.{most_nested}
 use Rattle.rust_source.specs.Syntax.{argument_of, expr_of, segment_of, type_of}
-use Rattle.rust_source.specs.Terms.{arguments_from, arguments_read, cast_from, expr_from, expr_with, readers, parameter_types, parameter_types_from, path_from, path_read, tuple_behind, tuple_read, expressions_in, values_from}
+use Rattle.rust_source.specs.Terms.{arguments_from, arguments_read, cast_from, expr_from, expr_with, methods_from, readers, parameter_types, parameter_types_from, path_from, path_read, tuple_behind, tuple_read, expressions_in, values_from}
 use Rattle.rust_source.proofs.reader.+terms.Given as goal
 
 abbrev pub decreases-types::read_type : goal.decreases-types::read_type
@@ -62,10 +62,19 @@ abbrev pub decreases-expressions::read_expression : goal.decreases-expressions::
 decreases-expressions::read_expression l = 32 * l.depth_left + 0
 
 abbrev pub decreases-expressions::read_joined : goal.decreases-expressions::read_joined
-decreases-expressions::read_joined l = 32 * l.depth_left + 11
+decreases-expressions::read_joined l = 32 * l.depth_left + 12
 
 abbrev pub decreases-expressions::read_operand : goal.decreases-expressions::read_operand
-decreases-expressions::read_operand l = 32 * l.depth_left + 10
+decreases-expressions::read_operand l = 32 * l.depth_left + 11
+
+abbrev pub decreases-expressions::read_called : goal.decreases-expressions::read_called
+decreases-expressions::read_called l = 32 * l.depth_left + 10
+
+abbrev pub decreases-expressions::read_methods : goal.decreases-expressions::read_methods
+decreases-expressions::read_methods l = 32 * l.depth_left + 3
+
+abbrev pub decreases-expressions::read_method : goal.decreases-expressions::read_method
+decreases-expressions::read_method l = 32 * l.depth_left + 2
 
 abbrev pub decreases-expressions::read_casts : goal.decreases-expressions::read_casts
 decreases-expressions::read_casts l = 32 * l.depth_left + 1
@@ -117,6 +126,11 @@ abbrev pub invariant-expressions::read_joined-loop-turn : goal.invariant-express
 invariant-expressions::read_joined-loop-turn l =
     expr_from (readers l.depth_left) (l.turns - l.turn) (operands_of l.operands.items) (reverse l.waiting.items) l.cursor (texts l.names)
     ≡ expr_with (readers l.depth_left) l.fn.cursor (texts l.fn.names)
+
+abbrev pub invariant-expressions::read_methods-loop-turn : goal.invariant-expressions::read_methods-loop-turn
+invariant-expressions::read_methods-loop-turn l =
+    methods_from (readers l.depth_left) (l.turns - l.turn) (expr_of l.operand) l.cursor (texts l.names)
+    ≡ methods_from (readers l.depth_left) most_nested (expr_of l.fn.operand) l.fn.cursor (texts l.fn.names)
 
 abbrev pub invariant-expressions::read_casts-loop-turn : goal.invariant-expressions::read_casts-loop-turn
 invariant-expressions::read_casts-loop-turn l =
