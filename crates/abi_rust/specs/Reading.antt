@@ -89,6 +89,7 @@ pub record LibraryRead (target : CfgTarget) (old new : Sources) (answer : Result
   pub next : new.next ≡ new.file
   pub first : new.first ≡ length (having new).1.items
   pub passed_over : new.passed_over ≡ (having new).1.passed_over
+  pub types_passed : new.types_passed ≡ (having new).1.types_passed
   pub words : new.words ≡ old.words
   pub files : new.files ≡ old.files
   pub crates : new.crates ≡ old.crates
@@ -101,6 +102,7 @@ pub record HasSameLibrary (old new : Sources) : Type 0 where
   pub std_root : new.std_root ≡ old.std_root
   pub first : new.first ≡ old.first
   pub passed_over : new.passed_over ≡ old.passed_over
+  pub types_passed : new.types_passed ≡ old.types_passed
 
 -- the text of a file was read, behind the texts that were read before, with this answer: those that were there stay in front, and no name is
 -- found before all are read

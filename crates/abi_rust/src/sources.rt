@@ -62,6 +62,8 @@ pub struct Sources {
     first: usize,
     /// How many items of the standard library were passed over.
     passed_over: u64,
+    /// How many types stand in them.
+    types_passed: u64,
 }
 
 impl Sources {
@@ -84,6 +86,7 @@ impl Sources {
             root: 0,
             first: 0,
             passed_over: 0,
+            types_passed: 0,
         })
     }
 
@@ -112,6 +115,7 @@ impl Sources {
         let read = self.read_text(alloc, target, library, Place(0), TextKind::Library);
         self.first = self.items.items.len();
         self.passed_over = self.items.passed_over;
+        self.types_passed = self.items.types_passed;
         read
     }
 
@@ -428,6 +432,13 @@ impl Sources {
         ensures { result ≡ self.now.items.passed_over - self.now.passed_over }
     {
         self.items.passed_over.saturating_sub(self.passed_over)
+    }
+
+    /// How many types stand in these, in bodies and in macros' calls.
+    pub fn types_passed(&self) -> u64
+        ensures { result ≡ self.now.items.types_passed - self.now.types_passed }
+    {
+        self.items.types_passed.saturating_sub(self.types_passed)
     }
 
     /// The names of `cfg` that aren't known and count as false, each once.

@@ -7,6 +7,7 @@ use Rattle.rust_source.specs.declared.reader.types.Pointing.{Pointing}
 use Rattle.rust_source.specs.declared.syntax.Unary.{Unary}
 use Rattle.rust_source.specs.Cursor.{fault, is_next, is_pair, next_kind, passed, place}
 use Rattle.rust_source.specs.Simple.{Signs, names_from, pointing, pointing_step, pointings_from, sign_of, sign_step, signs_from}
+use Rattle.rust_source.specs.Definition.{defines_type, types_from}
 use Rattle.rust_source.specs.Passing.{angles_from, angles_passed, body_by, body_from, bound_by, bounds_from, one_passed, open_behind}
 use Rattle.std.specs.Prelude.{◌==◌, if◌then◌else◌}
 
@@ -33,6 +34,12 @@ body_more n i depth c more = ap (λ k. body_from k depth c) (turns n i more)
 
 pub body_done : (n i depth : ℕ) (c : Cursor) → n ≤ i → body_from (n - i) depth c ≡ c
 body_done n i depth c done = ap (λ k. body_from k depth c) (none_left n i done)
+
+pub types_more : (n i : ℕ) (c : Cursor) → i < n → types_from (n - i) c ≡ (if defines_type c then 1 else 0) + types_from (n - (i + 1)) (passed c 1)
+types_more n i c more = ap (λ k. types_from k c) (turns n i more)
+
+pub types_done : (n i : ℕ) (c : Cursor) → n ≤ i → types_from (n - i) c ≡ 0
+types_done n i c done = ap (λ k. types_from k c) (none_left n i done)
 
 pub pointings_more : (n i : ℕ) (all : List Pointing) (c : Cursor) → i < n → pointings_from (n - i) all c ≡ pointing_step (pointings_from (n - (i + 1))) all (pointing c)
 pointings_more n i all c more = ap (λ k. pointings_from k all c) (turns n i more)

@@ -1,5 +1,5 @@
 -- Items that make types, and constants, as they are written.
-use Rattle.std.specs.Prelude.{ℕ, ◌&&◌, Bool, codes, List, map, Option, None, Some, Result, if◌then◌else◌}
+use Rattle.std.specs.Prelude.{ℕ, zero, suc, ◌+◌, ◌&&◌, ◌||◌, Bool, codes, List, map, Option, None, Some, Result, if◌then◌else◌}
 use Rattle.rust_source.specs.declared.fault.SourceFault.{SourceFault}
 use Rattle.rust_source.specs.declared.fault.SourceFaultKind.TheVariants.{ExpectedColon, ExpectedEquals, ExpectedFields, ExpectedSemicolon}
 use Rattle.rust_source.specs.declared.place.Place.{Place}
@@ -134,6 +134,15 @@ const_read owner c names =
 -- a union is next: the word, and then a name
 unfoldable pub is_union : Cursor → Bool
 is_union c = is_named c (codes "union") && is_named_next c
+
+-- the definition of a type is next: a word that begins one, and its name
+abbrev pub defines_type : Cursor → Bool
+defines_type c = (is_keyword_next c keyword.Struct || is_keyword_next c keyword.Enum) && is_named_next c || is_union c
+
+-- how many types are defined by so many tokens, those within one another too
+abbrev pub types_from : (count : ℕ) → Cursor → ℕ
+types_from zero c = 0
+types_from (suc count) c = (if defines_type c then 1 else 0) + types_from count (passed c 1)
 
 -- an item that is there
 abbrev pub item_there : {S : Type 0} → Result (DefinitionRead × Cursor) SourceFault × S → Result (Option DefinitionRead × Cursor) SourceFault × S

@@ -72,6 +72,9 @@ with_outline m at items =
 abbrev pub with_read : (number : ℕ) → ItemsRead → ItemsRead
 with_read number items = record items { are_read = slice_set items.are_read number true }
 
--- with an item more that is passed over; no more than 2 ^ 64 - 1 are counted
-abbrev pub with_passed : ItemsRead → ItemsRead
-with_passed items = record items { passed_over = min (items.passed_over + 1) (2 ^ 64 - 1) }
+-- with an item more that is passed over, which has so many types; no more than 2 ^ 64 - 1 are counted
+abbrev pub with_passed : (types : ℕ) → ItemsRead → ItemsRead
+with_passed types items = record items {
+  passed_over = min (items.passed_over + 1) (2 ^ 64 - 1);
+  types_passed = min (items.types_passed + types) (2 ^ 64 - 1);
+}

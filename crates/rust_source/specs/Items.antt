@@ -94,11 +94,12 @@ pub record ItemsRead : Type 0 where
   pub uses : List UseRead
   pub owners : List PathRead
   pub passed_over : ℕ
+  pub types_passed : ℕ
   pub unknown : List Symbol
 
 -- nothing is read
 abbrev pub no_items : ItemsRead
-no_items = record { modules = []; are_read = []; outlines = []; items = []; uses = []; owners = []; passed_over = 0; unknown = [] }
+no_items = record { modules = []; are_read = []; outlines = []; items = []; uses = []; owners = []; passed_over = 0; types_passed = 0; unknown = [] }
 
 -- the program's field as the definitions see it, and so on
 abbrev pub field_of : Field → FieldRead
@@ -163,5 +164,6 @@ items_as_read i = record {
   uses = map use_of i.uses.items;
   owners = map path_as_read i.owners.items;
   passed_over = i.passed_over;
+  types_passed = i.types_passed;
   unknown = i.unknown_cfgs.items;
 }

@@ -31,7 +31,7 @@ use Rattle.rust_source.specs.Terms.{done, fault_next}
 use Rattle.rust_source.specs.Traits.{trait_read}
 use Rattle.rust_source.specs.Uses.{tree_read}
 use Rattle.rust_source.specs.Visibility.{rules_in, visibility_read}
-use Rattle.rust_source.specs.Definition.{DefinitionRead, is_union, definition_read}
+use Rattle.rust_source.specs.Definition.{DefinitionRead, is_union, definition_read, types_from}
 
 -- what follows names and `:`, of at most so many
 abbrev pub path_passed_from : (limit : ℕ) → Cursor → Cursor
@@ -71,9 +71,10 @@ passes_kind _ = false
 unfoldable pub is_passed_over : Cursor → Bool
 is_passed_over c = passes_kind (next_kind c) || is_item_word c || is_macro c
 
--- an item that makes no type is passed over, and counted
+-- an item that makes no type is passed over, and counted, with the types that stand in it
 unfoldable pub over_passed : Cursor → Having → Result Cursor SourceFault × Having
-over_passed c known = if is_passed_over c then done (item_passed c) (known.0, with_passed known.1) else fault_next ExpectedItem c known
+over_passed c known =
+    if is_passed_over c then done (item_passed c) (known.0, with_passed (types_from ((item_passed c).at - c.at) c) known.1) else fault_next ExpectedItem c known
 
 -- what is next may have a `repr`: a struct, an enum, a union, or a macro's call, which may make one
 unfoldable pub may_have_repr : Cursor → Bool

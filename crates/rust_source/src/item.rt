@@ -202,6 +202,9 @@ pub struct Items {
     pub owners: Vec<Path>,
     /// How many items were passed over, since they make no type and are no constant.
     pub passed_over: u64,
+    /// How many types are defined within these, in bodies and in macros' calls, by their words: what a macro makes of them
+    /// isn't known.
+    pub types_passed: u64,
     /// Names of `cfg` that aren't known here, and count as false, each once.
     pub unknown_cfgs: Vec<Symbol>,
 }

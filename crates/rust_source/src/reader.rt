@@ -83,6 +83,7 @@ impl Items {
             uses: Vec::new(alloc),
             owners: Vec::new(alloc),
             passed_over: 0,
+            types_passed: 0,
             unknown_cfgs: Vec::new(alloc),
         }
     }

@@ -233,6 +233,8 @@ struct SourceSet<'a> {
     sources: Sources,
     files: CrateFiles<'a>,
     faults: Vec<ModuleFault>,
+    /// Why other crates can't be read, whose names aren't known then.
+    unread: Vec<ModuleFault>,
     /// How many modules in other files were looked for.
     searched: usize,
     /// How much of it is of the first crate, which is reported on, where others are read.
@@ -339,6 +341,36 @@ impl SourceSet<'_> {
         }
     }
 
+    /// Notes why another crate can't be read; fails where it is for want of memory. The modules that are still to be looked for
+    /// are that crate's, which nobody names.
+    fn put_unread(&mut self, failure: SourceFailure) -> Result<(), SourceFailure> {
+        self.searched = self.sources.outlines().len();
+        match failure {
+            SourceFailure::Fault(at, text) => {
+                self.unread
+                    .push(ModuleFault { at, text })
+                    .map_err(AllocError::from)?;
+                Ok(())
+            }
+            other => Err(other),
+        }
+    }
+
+    /// Reads another crate, and answers the number of its root module; none where it can't be read, which is noted.
+    fn try_crate(
+        &mut self,
+        cx: ReadContext<'_>,
+        package: &PackageCrate,
+    ) -> Result<Option<u32>, SourceFailure> {
+        match self.read_crate(cx, package) {
+            Ok(root) => Ok(root),
+            Err(failure) => {
+                self.put_unread(failure)?;
+                Ok(None)
+            }
+        }
+    }
+
     /// Lets crates name others, each by the number of its root module; one that isn't read has no name.
     fn name_crates(
         &mut self,
@@ -366,7 +398,7 @@ impl SourceSet<'_> {
             let root = if number == 0 {
                 Some(self.files.module)
             } else {
-                self.read_crate(cx, package)?
+                self.try_crate(cx, package)?
             };
             roots.push(root).map_err(AllocError::from)?;
         }
@@ -697,6 +729,26 @@ impl FileReport {
         Ok(())
     }
 
+    /// Notes why other crates can't be read.
+    fn note_unread(
+        &mut self,
+        cx: ReportContext<'_>,
+        unread: &[ModuleFault],
+    ) -> Result<(), AllocError> {
+        for fault in unread {
+            write_failure(
+                &mut self.notes,
+                cx.options,
+                cx.files,
+                fault.at,
+                fault.text.as_str(),
+            )?;
+            self.notes
+                .push_str("note: so the names of its crate aren't known\n")?;
+        }
+        Ok(())
+    }
+
     /// Reports on the types that were read.
     fn add_types(
         &mut self,
@@ -729,6 +781,7 @@ impl FileReport {
             triple: cx.triple,
         };
         self.add_faults(cx, &set.faults)?;
+        self.note_unread(cx, &set.unread)?;
         let first = match set.first {
             Some(first) => first,
             None => FirstCrate::of(&set.sources, &set.files),
@@ -748,6 +801,7 @@ impl FileReport {
             sources: Sources::new(self.alloc)?,
             files: CrateFiles::new(self.alloc, file),
             faults: Vec::new(self.alloc),
+            unread: Vec::new(self.alloc),
             searched: 0,
             first: None,
         };

@@ -10,6 +10,7 @@ use std::alloc::{AllocError, Global};
 pub(crate) struct FirstCrate {
     files: usize,
     passed_over: u64,
+    types_passed: u64,
     unknown_cfgs: usize,
 }
 
@@ -19,6 +20,7 @@ impl FirstCrate {
         FirstCrate {
             files: files.count(),
             passed_over: sources.passed_over(),
+            types_passed: sources.types_passed(),
             unknown_cfgs: sources.unknown_cfgs().len(),
         }
     }
@@ -59,6 +61,13 @@ fn write_counts(
         write!(
             notes,
             "types: {count} items that define no type are passed over\n"
+        )?;
+    }
+    let types = first.types_passed;
+    if types > 0 {
+        write!(
+            notes,
+            "types: {types} types stand in macros and bodies, which aren't read\n"
         )?;
     }
     let unknown = sources.unknown_cfgs();

@@ -1,12 +1,12 @@
 //! Items that make types, and constants, as they are written.
 
-ghost use Rattle.std.specs.Prelude.{◌≡◌};
+ghost use Rattle.std.specs.Prelude.{◌≡◌, ◌-◌};
 ghost use Rattle.std.specs.Option.{option_map};
 ghost use Rattle.rust_source.specs.Cursor.{is_constant};
 ghost use Rattle.rust_source.specs.Items.{constant_of};
 ghost use Rattle.rust_source.specs.Names.{texts};
 ghost use Rattle.rust_source.specs.Reading.{Reads};
-ghost use Rattle.rust_source.specs.Definition.{alias_head, alias_read, const_read, const_typed, enum_read, head_of, head_read, head_where, is_union, struct_read, struct_tail, tail_read, union_read, where_asked, definition_of, definition_read};
+ghost use Rattle.rust_source.specs.Definition.{alias_head, alias_read, const_read, const_typed, enum_read, head_of, head_read, head_where, is_union, struct_read, struct_tail, tail_read, union_read, where_asked, definition_of, definition_read, defines_type, types_from};
 
 use crate::fault::{SourceFault, SourceFaultKind};
 use crate::item::{Const, ItemKind, Parameter};
@@ -228,6 +228,31 @@ pub(crate) fn is_union(cursor: &Cursor<'_>) -> bool
     ensures { result ≡ is_union cursor.now }
 {
     is_named(cursor, "union") && is_named_next(cursor)
+}
+
+/// Whether the definition of a type is next: a word that begins one, and its name.
+fn defines_type(cursor: &Cursor<'_>) -> bool
+    ensures { result ≡ defines_type cursor.now }
+{
+    (is_word(cursor, Keyword::Struct) || is_word(cursor, Keyword::Enum)) && is_named_next(cursor)
+        || is_union(cursor)
+}
+
+/// How many types are defined by the tokens up to this one, those within one another too.
+#[tactic(auto, using(crate::proofs::Turns::types_more, crate::proofs::Turns::types_done))]
+pub(crate) fn count_types(cursor: &Cursor<'_>, end: usize) -> usize
+    ensures { result ≡ types_from (end - cursor.now.at) cursor.now }
+{
+    let mut inside = *cursor;
+    let mut count = 0;
+    let turns = end.saturating_sub(cursor.at);
+    for turn in 0..turns {
+        if defines_type(&inside) {
+            count += 1;
+        }
+        pass(&mut inside, 1);
+    }
+    count
 }
 
 /// Whether a constant with a name is next.

@@ -21,7 +21,7 @@ use crate::reader::cursor::{
     Cursor, expect, fault, is_done, is_named_next, is_next, is_word, next_kind, nth, pass,
     take_group, take_word,
 };
-use crate::reader::definition::{Definition, is_union, read_definition};
+use crate::reader::definition::{Definition, count_types, is_union, read_definition};
 use crate::reader::depth::{most_nested, one_level_deeper};
 use crate::reader::fields::pass_visibility;
 use crate::reader::functions::read_function;
@@ -198,7 +198,7 @@ fn is_passed_over(cursor: &Cursor<'_>) -> bool
     passes_next(cursor) || is_item_word(cursor) || is_macro(cursor)
 }
 
-/// Passes over an item that makes no type, and counts it.
+/// Passes over an item that makes no type, and counts it, with the types that stand in it.
 #[tactic(auto, unfolding(crate::specs::Modules::over_passed))]
 fn pass_over(names: &Names, items: &mut Items, cursor: &mut Cursor<'_>) -> Result<(), SourceFault>
     ensures kept { KeepsItems items.old items.new }
@@ -208,8 +208,11 @@ fn pass_over(names: &Names, items: &mut Items, cursor: &mut Cursor<'_>) -> Resul
     if !is_passed_over(cursor) {
         return Err(fault(cursor, SourceFaultKind::ExpectedItem));
     }
+    let whole = *cursor;
     pass_item(cursor);
+    let types = count_types(&whole, cursor.at);
     items.passed_over = items.passed_over.saturating_add(1);
+    items.types_passed = items.types_passed.saturating_add(types as u64);
     Ok(())
 }
 
