@@ -21,7 +21,7 @@ use Rattle.rust_source.specs.Operators.{all_joined, next_operator, pairs}
 use Rattle.rust_source.specs.Reading.{bare_text, is_path_name, name, path_name, read_as, word_text}
 use Rattle.rust_source.specs.Simple.{after_path, begins_path, is_literal, literal_read, most_nested, pointing, pointings, signs}
 use Rattle.rust_source.specs.Syntax.{integer, more_segments, named, no_arguments, no_segments, path, segment}
-use Rattle.rust_source.specs.Terms.{arguments_read, expr_with, readers, operand, path_read, primary, segment_read, pointee_read, type_next, whole}
+use Rattle.rust_source.specs.Terms.{arguments_read, called, expr_with, is_method_next, readers, operand, path_read, primary, segment_read, pointee_read, type_next, whole}
 use Rattle.rust_source.specs.Until.{until, up_to}
 use Rattle.rust_source.specs.Uses.{group_read, names_read, path_used, rename_read, tree_read, tree_with}
 use Rattle.rust_source.specs.Definition.{DefinitionRead, enum_read, head_read, head_where, struct_read, tail_read, where_asked}
@@ -92,7 +92,7 @@ module _ (rules : Rules) where
         fields = record { is_unit = true; all = [] };
         discriminant = Some (integer 3 None (record { 0 = 8 }));
       } ∷ []))
-  unfolding first_names enum_read head_where head_read where_asked name bare_text place place_behind_start nth passed is_nth is_nth_pair is_keyword_next is_group inside behind_group text_between parameters_read where_read fields_read variants_in_braces variants_all variant_more variant_read value_read part_attributes attributes_read attributes_said none_said one_attribute attribute_read attribute_with cfg_said predicate_read predicate_with option_read option_answer has_flag word_text visibility_passed until up_to tree_passed whole readers expr_with operand primary is_literal literal_read signs number_written digits_length number_of_digits digits_value integer_kind integer_kinds next_operator pairs all_joined most_nested
+  unfolding first_names enum_read head_where head_read where_asked name bare_text place place_behind_start nth passed is_nth is_nth_pair is_keyword_next is_group inside behind_group text_between parameters_read where_read fields_read variants_in_braces variants_all variant_more variant_read value_read part_attributes attributes_read attributes_said none_said one_attribute attribute_read attribute_with cfg_said predicate_read predicate_with option_read option_answer has_flag word_text visibility_passed until up_to tree_passed whole readers expr_with operand called is_method_next primary is_literal literal_read signs number_written digits_length number_of_digits digits_value integer_kind integer_kinds next_operator pairs all_joined most_nested
   variant_taken_out = refl
 
 -- a::{b, c as d}
