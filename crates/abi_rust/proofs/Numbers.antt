@@ -5,6 +5,10 @@ use Rattle.std.proofs.lemmas.Int.{ints}
 use Rattle.std.proofs.Math.Pow.{pow_mono}
 use Rattle.abi_rust.specs.Operators.{holds_number}
 
+-- a number of more than 128 bits fits no type without a sign
+pub too_great : (k n : ℕ) → k ≤ 128 → 2 ^ 128 ≤ n → holds_number false k (pos n) ≡ false
+too_great k n most wide = let p : 2 ^ k ≤ 2 ^ 128 = pow_mono most in grind (arith, ints)
+
 -- a number of more than 128 bits fits no type
 pub too_wide : (signed : Bool) (k : ℕ) (z : ℤ) → k ≤ 128 → 2 ^ 128 ≤ unsigned_abs z → holds_number signed k z ≡ false
 too_wide false k (pos n) most wide = let p : 2 ^ k ≤ 2 ^ 128 = pow_mono most in grind (arith, ints)

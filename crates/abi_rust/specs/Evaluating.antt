@@ -1,5 +1,5 @@
 -- The value of a constant expression.
-use Rattle.std.specs.Prelude.{◌≡◌, ℕ, zero, suc, ◌-◌, ◌^◌, ◌&&◌, ◌||◌, not, nat_eq, is_some, slice_get, Bool, true, false, cond, List, [], ◌∷◌, length, ℤ, pos, neg_ℤ, ◌+ℤ◌, int_lt, Option, Some, None, Ok, Err, if◌then◌else◌}
+use Rattle.std.specs.Prelude.{◌≡◌, ℕ, zero, suc, ◌-◌, ◌&&◌, ◌||◌, not, nat_eq, is_some, slice_get, Bool, true, false, List, [], ◌∷◌, length, ℤ, pos, neg_ℤ, ◌+ℤ◌, int_lt, Option, Some, None, Ok, Err, if◌then◌else◌}
 use Rattle.std.specs.Option.{option_and_then, option_map, option_or}
 use Rattle.rust_source.specs.declared.item.Item.{Item}
 use Rattle.rust_source.specs.declared.item.ItemKind.{ItemKind}
@@ -15,13 +15,19 @@ use Rattle.rust_source.specs.declared.syntax.IntegerKind.{IntegerKind}
 use Rattle.rust_source.specs.declared.syntax.IntegerKind.TheVariants.{I32, Isize, U8, U32, Usize}
 use Rattle.rust_source.specs.declared.syntax.Path.{Path, out-Path}
 use Rattle.rust_source.specs.declared.syntax.Segment.{Segment, out-Segment}
-use Rattle.rust_source.specs.declared.syntax.«Type».{«Type» as Written}
+use Rattle.rust_source.specs.declared.syntax.«Type».{«Type» as Written, Array', Reference'}
 use Rattle.rust_source.specs.declared.syntax.Unary.{Unary}
 use Rattle.rust_source.specs.declared.syntax.Unary.TheVariants.{Minus}
 use Rattle.rust_source.specs.declared.syntax.Unevaluated.TheVariants.{Associated, Expression}
 use Rattle.abi_rust.specs.declared.fault.FaultKind.{FaultKind}
 use Rattle.abi_rust.specs.declared.fault.FaultKind.TheVariants.{Ambiguous, EnumCast, Private, Unevaluated, UnknownConstant, WrongType}
 use Rattle.abi_rust.specs.declared.fault.Stop.TheVariants.{Fault, Size}
+use Rattle.abi_rust.specs.declared.lengths.LengthExpr.{LengthExpr}
+use Rattle.abi_rust.specs.declared.methods.IntegerCall.{IntegerCall}
+use Rattle.abi_rust.specs.declared.methods.Method.{Method}
+use Rattle.abi_rust.specs.declared.methods.Method.TheVariants.{Greatest, Least, Of, OfBoth}
+use Rattle.abi_rust.specs.declared.methods.MethodOfOne.{MethodOfOne}
+use Rattle.abi_rust.specs.declared.methods.MethodOfTwo.{MethodOfTwo}
 use Rattle.abi_rust.specs.declared.paths.Resolution.{Resolution}
 use Rattle.abi_rust.specs.declared.paths.Resolution.TheVariants.{Ambiguous as AmbiguousFound, Hidden, Module, Item as ItemFound}
 use Rattle.abi_rust.specs.declared.paths.Space.TheVariants.{Types, Values}
@@ -30,14 +36,16 @@ use Rattle.abi_rust.specs.declared.ty.Kind.{Kind}
 use Rattle.abi_rust.specs.declared.ty.Kind.TheVariants.{Bool as BoolKind, Char as CharKind, Integer as KindInteger}
 use Rattle.abi_rust.specs.declared.budget.Context.{Context}
 use Rattle.abi_rust.specs.declared.words.Word.TheVariants as word
-use Rattle.abi_rust.specs.Kinds.{constant_named, constant_place, given_named, is_shift, item_at, kind_of_names, kind_of_expr, kind_written, operand_kind, outside, owner_named, single_name}
+use Rattle.abi_rust.specs.Int.{greatest_number, least_number}
+use Rattle.abi_rust.specs.Kinds.{constant_named, constant_place, given_named, integer_call, is_shift, item_at, kind_of_names, kind_of_expr, kind_written, names_method, operand_kind, outside, owner_named, single_name}
 use Rattle.abi_rust.specs.Known.{known_at}
 use Rattle.abi_rust.specs.Meaning.{Meaning, then_meant, fault_at, too_deep}
+use Rattle.abi_rust.specs.Methods.{end_of, kind_beside, made_of_both, made_of_one}
 use Rattle.abi_rust.specs.Names.{found, found_of}
 use Rattle.abi_rust.specs.Operators.{Made, binary_of, bits_of_integer, cast_of, fitted, is_settled, is_signed, is_same_kind, unary_of}
 use Rattle.abi_rust.specs.Places.{last_name, place_of_expr, place_of_path}
 use Rattle.abi_rust.specs.Scope.{module_in}
-use Rattle.abi_rust.specs.Types.{GenericArgRead, Where, of_value}
+use Rattle.abi_rust.specs.Types.{GenericArgRead, Where, of_value, where_of}
 use Rattle.abi_rust.specs.Values.{ValueRead, code, kind_read, number, truth, value_as_read}
 use Rattle.abi_rust.specs.Words.{is_word, is_same_name, symbol_of}
 
@@ -153,14 +161,29 @@ limit_named cx kind name =
     let k = bits_of_integer cx.pointer_bits kind in
     let s = is_signed kind in
     let words = cx.scope.now.words in
-    if is_word words name word.Max then Some (number kind (pos (cond s (2 ^ (k - 1) - 1) (2 ^ k - 1))))
-    else (if is_word words name word.Min then Some (number kind (cond s (neg_ℤ (pos (2 ^ (k - 1)))) (pos 0)))
+    if is_word words name word.Max then Some (number kind (greatest_number s k))
+    else (if is_word words name word.Min then Some (number kind (least_number s k))
     else (if is_word words name word.Bits then Some (number U32 (pos k)) else None))
 
 -- the branch that a condition of this value chooses
 abbrev pub branch_of : ValueRead → (yes no : Expr) → Expr
 branch_of (truth true) l r = l
 branch_of _ l r = r
+
+-- the length of the array that a type is, or points to
+abbrev pub length_written : Written → Option Expr
+length_written (Array' p t q e) = Some e
+length_written (Reference' is_mutable p t) = length_written t
+length_written _ = None
+
+-- the program's length of an array as the definitions see it
+abbrev pub length_read : LengthExpr → Where × Expr
+length_read l = (where_of l.env, l.length.now)
+
+-- it is a call, whose value has a type
+abbrev pub is_call : Expr → Bool
+is_call (Call' p shape all at) = true
+is_call _ = false
 
 -- how expressions are evaluated where they stand, of the type that is wanted
 abbrev pub Evaluator : Type 0
@@ -280,6 +303,40 @@ module _ (cx : Context) where
   abbrev pub right_kind : Where → Binary → ValueRead → Expr → Option Kind
   right_kind w b v r = if is_shift b then kind_of_expr cx.items.now cx.scope.now w r else Some (kind_read v)
 
+  -- an expression has a type of its own, as a method is called on one
+  abbrev pub has_own_type : Where → Expr → Bool
+  has_own_type w e = is_some (kind_of_expr cx.items.now cx.scope.now w e) || is_call e
+
+  -- a path is that of the method `len`
+  abbrev pub is_len : Option Segment → Bool
+  is_len None = false
+  is_len (Some s) = is_word cx.scope.now.words (out-Segment s).name word.Len
+
+  abbrev pub asks_length : Path → Bool
+  asks_length p = names_method (out-Path p).segments.items && is_len (last_name p)
+
+  abbrev pub length_of_kind : ℕ → Item → ItemKind → Option (Where × Expr)
+  length_of_kind n it (ConstItem c) = option_map (λ e. (constant_place cx.scope.now n it, e)) (length_written c.ty)
+  length_of_kind n it _ = None
+
+  abbrev pub length_of_item : ℕ → Option Item → Option (Where × Expr)
+  length_of_item n None = None
+  length_of_item n (Some it) = length_of_kind n it it.kind
+
+  abbrev pub length_of_named : Where → Path → Option ℕ → Option (Where × Expr)
+  length_of_named w p None = None
+  length_of_named w p (Some n) = if is_some (value_given w p) then None else length_of_item n (item_at cx.items.now cx.scope.now n)
+
+  -- the length of the array that a constant is, or points to, and where it stands
+  abbrev pub length_of : Where → Expr → Option (Where × Expr)
+  length_of w (PathExpr p) = length_of_named w p (constant_named cx.items.now cx.scope.now w p)
+  length_of w _ = None
+
+  -- the least or the greatest number of a type, which is called on nothing
+  abbrev pub end_value : Place → (is_greatest : Bool) → (kind : Option IntegerKind) → List Expr → Meaning ValueRead
+  end_value at is_greatest (Some kind) [] = Ok (end_of cx.pointer_bits is_greatest kind)
+  end_value at is_greatest kind es = fault_at at (Unevaluated Expression)
+
   -- the number that stands so far behind it
   abbrev pub counted_on : Item → (behind : ℕ) → ValueRead → Meaning ValueRead
   counted_on it behind (number kind z) =
@@ -360,9 +417,44 @@ module _ (cx : Context) where
     unfoldable pub path_value : Where → Path → Meaning ValueRead
     path_value w p = path_value_by w p (value_given w p)
 
-    -- a call without arguments
-    abbrev pub is_bare : Expr → Bool
-    is_bare e = elim (out-Expr e) as (λ _. Bool) [ layer.Call p all at ↦ nat_eq (length all.items) 0 | _ ↦ false ]
+    -- what a method is called on: of the type that its path names, or of one of its own
+    abbrev pub receiver_value : Where → (kind : Option IntegerKind) → Place → Expr → Meaning ValueRead
+    receiver_value w (Some kind) at e = E w e (Some (KindInteger kind))
+    receiver_value w None at e = if has_own_type w e then E w e None else fault_at at (Unevaluated Expression)
+
+    abbrev pub other_value : Where → MethodOfTwo → Place → Expr → ValueRead → Meaning ValueRead
+    other_value w m at e v = then_meant (λ u. made_at at (made_of_both cx.pointer_bits m v u)) (E w e (kind_beside m v))
+
+    abbrev pub one_value : Where → Place → MethodOfOne → (kind : Option IntegerKind) → List Expr → Meaning ValueRead
+    one_value w at m kind (a ∷ []) = then_meant (λ v. made_at at (made_of_one cx.pointer_bits m v)) (receiver_value w kind at a)
+    one_value w at m kind es = fault_at at (Unevaluated Expression)
+
+    abbrev pub both_value : Where → Place → MethodOfTwo → (kind : Option IntegerKind) → List Expr → Meaning ValueRead
+    both_value w at m kind (a ∷ b ∷ []) = then_meant (other_value w m at b) (receiver_value w kind at a)
+    both_value w at m kind es = fault_at at (Unevaluated Expression)
+
+    -- the value of a method of integers that is given these
+    abbrev pub method_value : Where → Place → Method → (kind : Option IntegerKind) → List Expr → Meaning ValueRead
+    method_value w at Least kind es = end_value at false kind es
+    method_value w at Greatest kind es = end_value at true kind es
+    method_value w at (Of m) kind es = one_value w at m kind es
+    method_value w at (OfBoth m) kind es = both_value w at m kind es
+
+    -- the length of an array, which stands at its constant's type
+    abbrev pub length_value : Place → Option (Where × Expr) → Meaning ValueRead
+    length_value at None = fault_at at (Unevaluated Expression)
+    length_value at (Some length) = E length.0 length.1 (Some (KindInteger Usize))
+
+    -- the value of a call: of a method of integers, of `size_of` or `align_of`, or of `len` on a constant that is an array
+    unfoldable pub called_value : Where → Path → List Expr → Place → Option IntegerCall → Meaning ValueRead
+    called_value w p es at (Some called) = method_value w at called.method called.kind es
+    called_value w p [] at None = call w p at
+    called_value w p (e ∷ []) at None = length_value at (if asks_length p then length_of w e else None)
+    called_value w p es at None = fault_at at (Unevaluated Expression)
+
+    -- what a call is given
+    abbrev pub arguments_given : Expr → List Expr
+    arguments_given e = elim (out-Expr e) as (λ _. List Expr) [ layer.Call p all at ↦ all.items | _ ↦ [] ]
 
     -- the value of an expression, of whatever type
     abbrev pub value_by : Where → (wanted : Option Kind) → Expr → Meaning ValueRead
@@ -371,7 +463,7 @@ module _ (cx : Context) where
     value_by w wanted (BoolExpr b at) = Ok (truth b)
     value_by w wanted (PathExpr p) = path_value w p
     value_by w wanted (Call' p shape all at) =
-        if is_bare (Call' p shape all at) then call w p at else fault_at at (Unevaluated Expression)
+        called_value w p (arguments_given (Call' p shape all at)) at (integer_call cx.items.now cx.scope.now w p)
     value_by w wanted (Unary' u p e at) = unary_value w u e wanted
     value_by w wanted (Binary' b p l q r at) = binary_value w b l r wanted
     value_by w wanted (Cast' p e q t at) = cast_value w e t at

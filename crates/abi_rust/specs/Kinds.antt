@@ -9,7 +9,7 @@ use Rattle.rust_source.specs.declared.item.Parameter.{Parameter}
 use Rattle.rust_source.specs.declared.item.ParameterKind.{ParameterKind}
 use Rattle.rust_source.specs.declared.item.ParameterKind.TheVariants.{Const as ConstParameter, «Type» as TypeParameter}
 use Rattle.rust_source.specs.declared.place.Symbol.{Symbol}
-use Rattle.rust_source.specs.declared.place.TheConstants.Symbol.{SELF_TYPE}
+use Rattle.rust_source.specs.declared.place.TheConstants.Symbol.{SELF_TYPE, UNDERSCORE}
 use Rattle.rust_source.specs.declared.syntax.Binary.{Binary}
 use Rattle.rust_source.specs.declared.syntax.Binary.TheVariants as operator
 use Rattle.rust_source.specs.declared.syntax.Expr.{Expr, Integer as IntegerExpr, Char as CharExpr, Bool as BoolExpr, Path as PathExpr, Call', Unary', Binary', Cast', If', Unevaluated}
@@ -18,6 +18,8 @@ use Rattle.rust_source.specs.declared.syntax.IntegerKind.TheVariants.{U32, Usize
 use Rattle.rust_source.specs.declared.syntax.Path.{Path, out-Path}
 use Rattle.rust_source.specs.declared.syntax.Segment.{Segment, out-Segment}
 use Rattle.rust_source.specs.declared.syntax.«Type».{«Type» as Written, Path as PathType}
+use Rattle.abi_rust.specs.declared.methods.IntegerCall.{IntegerCall}
+use Rattle.abi_rust.specs.declared.methods.Method.{Method}
 use Rattle.abi_rust.specs.declared.paths.Resolution.{Resolution}
 use Rattle.abi_rust.specs.declared.paths.Resolution.TheVariants.{Item as ItemFound, Primitive as PrimitiveFound}
 use Rattle.abi_rust.specs.declared.paths.Space.TheVariants.{Types, Values}
@@ -27,12 +29,13 @@ use Rattle.abi_rust.specs.declared.ty.Kind.TheVariants.{Bool as BoolKind, Char a
 use Rattle.abi_rust.specs.declared.ty.Primitive.{Primitive}
 use Rattle.abi_rust.specs.declared.ty.Primitive.TheVariants.{Bool as BoolType, Char as CharType, Integer as IntegerType}
 use Rattle.abi_rust.specs.declared.words.Word.TheVariants as word
+use Rattle.abi_rust.specs.Methods.{kind_made, suffix_kind}
 use Rattle.abi_rust.specs.Names.{found, found_of, visibility_of_item}
 use Rattle.abi_rust.specs.Places.{last_name}
 use Rattle.abi_rust.specs.Scope.{own_constant, owner_of}
 use Rattle.abi_rust.specs.Types.{GenericArgRead, Where, of_type, primitive}
 use Rattle.abi_rust.specs.Visible.{is_visible}
-use Rattle.abi_rust.specs.Words.{is_word, is_same_name}
+use Rattle.abi_rust.specs.Words.{is_word, is_same_name, method_named}
 
 -- how many aliases may lead from one to another
 unfoldable pub most_aliases : ℕ
@@ -81,6 +84,16 @@ kind_of_primitive CharType = Some CharKind
 kind_of_primitive (IntegerType kind) = Some (KindInteger kind)
 kind_of_primitive _ = None
 
+-- a path is that of a method's call: `_::name`
+abbrev pub names_method : List Segment → Bool
+names_method (s ∷ t ∷ []) = is_same_name (out-Segment s).name UNDERSCORE
+names_method _ = false
+
+-- the type of a call: of a method's, and else that of `size_of`
+abbrev pub kind_of_called : Option IntegerCall → Option Kind
+kind_of_called None = Some (KindInteger Usize)
+kind_of_called (Some called) = kind_made called.method called.kind
+
 -- the type of constants that a parameter is given
 abbrev pub kind_given : Option GenericArgRead → Option Kind
 kind_given (Some (of_type (primitive p))) = kind_of_primitive p
@@ -103,11 +116,6 @@ abbrev pub is_shift : Binary → Bool
 is_shift operator.Shl = true
 is_shift operator.Shr = true
 is_shift _ = false
-
--- the type that a suffix tells
-abbrev pub suffix_kind : Option IntegerKind → Option Kind
-suffix_kind None = None
-suffix_kind (Some kind) = Some (KindInteger kind)
 
 -- the type of an operator's operands: the left one's, or else the right one's, but of a shift the left one's alone
 abbrev pub operands_kind : Binary → (left right : Option Kind) → Option Kind
@@ -279,13 +287,32 @@ module _ (items : Items) (scope : Scope) where
   unfoldable pub path_kind : Where → Path → Option Kind
   path_kind w p = path_kind_in w p (option_and_then (parameter_named w.item) (single_name p))
 
+  -- the call of a method of integers on what is in the path's type, where that is one
+  abbrev pub call_on : Method → Option Kind → Option IntegerCall
+  call_on m (Some (KindInteger kind)) = Some (record { method = m; kind = Some kind })
+  call_on m _ = None
+
+  abbrev pub integer_call_by : Where → Path → Option Method → Option IntegerCall
+  integer_call_by w p None = None
+  integer_call_by w p (Some m) =
+      if names_method (out-Path p).segments.items then Some (record { method = m; kind = None })
+      else call_on m (kind_of_names w p (length (out-Path p).segments.items - 1))
+
+  abbrev pub method_by : Option Segment → Option Method
+  method_by None = None
+  method_by (Some s) = method_named scope.words (out-Segment s).name
+
+  -- the method of integers that a path calls: one of an integer type, as `u8::pow`, or of what stands before its `.`
+  unfoldable pub integer_call : Where → Path → Option IntegerCall
+  integer_call w p = integer_call_by w p (method_by (last_name p))
+
   -- the type of an expression, where its parts tell it
   abbrev pub kind_of_expr : Where → Expr → Option Kind
   kind_of_expr w (IntegerExpr n suffix at) = suffix_kind suffix
   kind_of_expr w (CharExpr code at) = Some CharKind
   kind_of_expr w (BoolExpr b at) = Some BoolKind
   kind_of_expr w (PathExpr p) = path_kind w p
-  kind_of_expr w (Call' p shape all at) = Some (KindInteger Usize)
+  kind_of_expr w (Call' p shape all at) = kind_of_called (integer_call w p)
   kind_of_expr w (Unary' u p e at) = kind_of_expr w e
   kind_of_expr w (Binary' b p l q r at) = if is_test b then Some BoolKind else operands_kind b (kind_of_expr w l) (kind_of_expr w r)
   kind_of_expr w (Cast' p e q t at) = kind_written w t

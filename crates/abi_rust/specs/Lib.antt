@@ -11,6 +11,7 @@ pub mod Kinds
 pub mod Known
 pub mod Meaning
 pub mod Measure
+pub mod Methods
 pub mod Names
 pub mod Operators
 pub mod OwnConstants

@@ -4,6 +4,10 @@ use Rattle.abi_base.specs.declared.float.Float.TheVariants.{F16, F32, F64, F128}
 use Rattle.rust_source.specs.declared.place.Symbol.{Symbol}
 use Rattle.rust_source.specs.declared.syntax.IntegerKind.{IntegerKind}
 use Rattle.rust_source.specs.declared.syntax.IntegerKind.TheVariants.{I8, I16, I32, I64, I128, Isize, U8, U16, U32, U64, U128, Usize}
+use Rattle.abi_rust.specs.declared.methods.Method.{Method}
+use Rattle.abi_rust.specs.declared.methods.Method.TheVariants.{Greatest, Least, Of, OfBoth}
+use Rattle.abi_rust.specs.declared.methods.MethodOfOne.TheVariants as one
+use Rattle.abi_rust.specs.declared.methods.MethodOfTwo.TheVariants as two
 use Rattle.abi_rust.specs.declared.ty.Primitive.{Primitive}
 use Rattle.abi_rust.specs.declared.ty.Primitive.TheVariants.{Bool as BoolType, Char, Str, Integer, Float}
 use Rattle.abi_rust.specs.declared.words.TheConstants.{WORDS}
@@ -11,7 +15,7 @@ use Rattle.abi_rust.specs.declared.words.Word.{Word}
 use Rattle.abi_rust.specs.declared.words.Word.TheVariants as word
 use Rattle.abi_rust.specs.declared.words.Words.{Words}
 
--- the names of primitive types, and then others, in the order of their numbers
+-- the names of primitive types, then others, and then those of methods, in the order of their numbers
 unfoldable pub known_words : List (List ℕ)
 known_words = map (λ w. w.now) WORDS
 
@@ -43,6 +47,7 @@ place_of_word word.Path = 41
 place_of_word word.PathBuf = 42
 place_of_word word.ManuallyDrop = 43
 place_of_word word.Libc = 44
+place_of_word word.Len = 64
 
 -- its number among all names
 unfoldable pub symbol_of : Words → Word → Symbol
@@ -92,6 +97,34 @@ primitive_at n =
 -- the primitive type of this name
 unfoldable pub primitive_named : Words → Symbol → Option Primitive
 primitive_named ws name = primitive_at ((name.0 + 2 ^ 32 - ws.first) % 2 ^ 32)
+
+-- the method of integers whose name stands so far behind the first
+abbrev pub method_at : ℕ → Option Method
+method_at n =
+    if n == 45 then Some (Of one.NextPowerOfTwo)
+    else (if n == 46 then Some (Of one.IsPowerOfTwo)
+    else (if n == 47 then Some (Of one.CountOnes)
+    else (if n == 48 then Some (Of one.LeadingZeros)
+    else (if n == 49 then Some (Of one.TrailingZeros)
+    else (if n == 50 then Some (Of one.Ilog2)
+    else (if n == 51 then Some (OfBoth two.Pow)
+    else (if n == 52 then Some (OfBoth two.DivCeil)
+    else (if n == 53 then Some (OfBoth two.AbsDiff)
+    else (if n == 54 then Some (OfBoth two.SaturatingAdd)
+    else (if n == 55 then Some (OfBoth two.SaturatingSub)
+    else (if n == 56 then Some (OfBoth two.SaturatingMul)
+    else (if n == 57 then Some (OfBoth two.WrappingAdd)
+    else (if n == 58 then Some (OfBoth two.WrappingSub)
+    else (if n == 59 then Some (OfBoth two.WrappingMul)
+    else (if n == 60 then Some (OfBoth two.DivEuclid)
+    else (if n == 61 then Some (OfBoth two.RemEuclid)
+    else (if n == 62 then Some Least
+    else (if n == 63 then Some Greatest
+    else None))))))))))))))))))
+
+-- the method of integers of this name
+unfoldable pub method_named : Words → Symbol → Option Method
+method_named ws name = method_at ((name.0 + 2 ^ 32 - ws.first) % 2 ^ 32)
 
 -- a name of the standard library
 abbrev pub is_std : Words → Symbol → Bool

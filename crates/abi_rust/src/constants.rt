@@ -1,12 +1,16 @@
 //! Constants by their paths: those of modules, and those of types, as `Header::LEN`.
 
 ghost use Rattle.std.specs.Prelude.{◌≡◌};
+ghost use Rattle.std.specs.Option.{option_map};
+ghost use Rattle.abi_rust.specs.Evaluating.{value_given};
 ghost use Rattle.abi_rust.specs.Kinds.{constant_named, constant_place, if_visible, own_named, owner_named};
 ghost use Rattle.abi_rust.specs.Types.{where_of};
+ghost use Rattle.abi_rust.specs.Values.{value_as_read};
 
 use crate::budget::{Context, Env, most_deep};
-use crate::kind::{name_alone, parameter_named};
+use crate::kind::{given_named, name_alone, parameter_named, single_name};
 use crate::paths::{Resolution, Space, find, type_named, visibility_of_item};
+use crate::ty::{ConstValue, GenericArg};
 use crate::visible::is_visible;
 use rust_source::{Item, Path, Symbol};
 
@@ -61,6 +65,16 @@ pub(crate) fn owner_named(
         }
     }
     type_named(cx.items, cx.scope, env.module, path, count)
+}
+
+/// The value that the parameter of this name is given, if it is one.
+pub(crate) fn value_given(cx: &Context<'_, '_>, env: Env<'_>, path: &Path) -> Option<ConstValue>
+    ensures { option_map value_as_read result ≡ value_given cx.now (where_of env.entry) path.now }
+{
+    match given_named(cx, env, single_name(path)?) {
+        Some(GenericArg::Value(value)) => Some(*value),
+        _ => None,
+    }
 }
 
 /// Where the value of the constant of this number stands: in its module, and in the type whose own it is. All depth is

@@ -3,29 +3,33 @@
 ghost use Rattle.std.specs.Prelude.{◌≡◌, IfOk, Ok, Some, nat_eq, length};
 ghost use Rattle.std.specs.Option.{option_copied, option_map};
 ghost use Rattle.indexmap.specs.IndexMap.{get};
-ghost use Rattle.abi_rust.specs.Evaluating.{AreValues, binary_value, branch_of, cast_value, cast_variant, constant_on, constant_value, counted_on, discriminant, discriminant_base, evaluator, operand_value, path_value, right_kind, second_value, typed, unary_value, value_by, value_given, value_with};
-ghost use Rattle.abi_rust.specs.Kinds.{constant_place};
+ghost use Rattle.abi_rust.specs.Evaluating.{AreValues, binary_value, branch_of, called_value, length_read, length_value, cast_value, cast_variant, constant_on, constant_value, counted_on, discriminant, discriminant_base, evaluator, has_own_type, is_call, end_value, both_value, method_value, one_value, operand_value, path_value, receiver_value, right_kind, second_value, typed, unary_value, value_by, value_with};
+ghost use Rattle.abi_rust.specs.Kinds.{constant_place, integer_call};
 ghost use Rattle.abi_rust.specs.Meaning.{Means};
 ghost use Rattle.abi_rust.specs.Scope.{same_key};
 ghost use Rattle.abi_rust.specs.Types.{where_of};
 ghost use Rattle.abi_rust.specs.Values.{IsOfKind, value_as_read};
 
 use crate::budget::{Budget, Context, Env};
-use crate::constants::{constant_named, inside_constant};
+use crate::constants::{constant_named, inside_constant, value_given};
 use crate::discriminants::{check_cast, discriminant_kind, variant_named, written_before};
 use crate::fault::{FaultKind, Stop, stop_at};
 use crate::int::{Int, Width};
 use crate::kind::{
-    BinaryExpr, given_named, is_shift, kind_of, kind_written, operand_kind, outside, single_name,
+    BinaryExpr, integer_call, is_shift, kind_of, kind_written, operand_kind, outside,
 };
+use crate::lengths::{LengthExpr, length_asked};
 use crate::limits::limit;
 use crate::literals::{inner_kind, literal};
+use crate::methods::{
+    IntegerCall, Method, MethodOfOne, MethodOfTwo, end_of, kind_beside, made_of_both, made_of_one,
+};
 use crate::operators::{binary, cast, fitting, is_settled, same_kind, unary};
 use crate::paths::item_at;
 use crate::places::{at_place, place_of, place_of_path};
 use crate::sizes::call;
-use crate::ty::{ConstValue, GenericArg, Kind};
-use rust_source::{Expr, Item, ItemKind, Path, Place, Type, Unary, Unevaluated};
+use crate::ty::{ConstValue, Kind};
+use rust_source::{Expr, IntegerKind, Item, ItemKind, Path, Place, Type, Unary, Unevaluated};
 
 /// An operator before its operand.
 #[derive(Clone, Copy)]
@@ -39,6 +43,22 @@ struct UnaryExpr<'a> {
 struct CastExpr<'a> {
     operand: &'a Expr,
     ty: &'a Type,
+    at: Place,
+}
+
+/// A call: of what a path names, with which arguments, and where.
+#[derive(Clone, Copy)]
+struct CallExpr<'a> {
+    path: &'a Path,
+    arguments: &'a [Expr],
+    at: Place,
+}
+
+/// A method's call: the type whose it is, where its path names one, what it is called on and given, and where.
+#[derive(Clone, Copy)]
+struct MethodExpr<'a> {
+    kind: Option<IntegerKind>,
+    arguments: &'a [Expr],
     at: Place,
 }
 
@@ -119,11 +139,12 @@ fn evaluate_any<'a>(
         Expr::Bool(truth, _) => Ok(ConstValue::Bool(*truth)),
         Expr::Path(path) => evaluate_path(cx, budget, env, path),
         Expr::Call(path, arguments, at) => {
-            if arguments.is_empty() {
-                call(cx, budget, env, path, *at)
-            } else {
-                Err(stop_at(*at, FaultKind::Unevaluated(Unevaluated::Expression)))
-            }
+            let expr = CallExpr {
+                path,
+                arguments,
+                at: *at,
+            };
+            evaluate_call(cx, budget, env, expr)
         }
         Expr::Unary(operator, operand, _) => {
             let expr = UnaryExpr {
@@ -154,6 +175,192 @@ fn evaluate_any<'a>(
         }
         Expr::Unevaluated(what, at) => Err(stop_at(*at, FaultKind::Unevaluated(*what))),
     }
+}
+
+/// The value of a call: of a method of integers, or of `size_of` or `align_of`.
+#[cycle(evaluating)]
+#[tactic(auto, unfolding(crate::specs::Evaluating::called_value))]
+fn evaluate_call<'a>(
+    cx: &Context<'a, '_>,
+    budget: &mut Budget<'a>,
+    env: Env<'_>,
+    expr: CallExpr<'a>,
+) -> Result<ConstValue, Stop>
+    requires { AreValues cx.now (get same_key budget.old.values) }
+    ensures value { Means value_as_read (called_value cx.now (evaluator cx.now env.entry.depth_left) (where_of env.entry)
+        expr.entry.path.now expr.entry.arguments.now expr.entry.at
+        (integer_call cx.now.items.now cx.now.scope.now (where_of env.entry) expr.entry.path.now)) result }
+    ensures kept { IfOk result (λ _. AreValues cx.now (get same_key budget.new.values)) }
+{
+    if let Some(called) = integer_call(cx, env, expr.path) {
+        return evaluate_method(cx, budget, env, called, expr);
+    }
+    match expr.arguments {
+        [] => call(cx, budget, env, expr.path, expr.at),
+        [array] => evaluate_length(
+            cx,
+            budget,
+            env.depth_left,
+            length_asked(cx, env, expr.path, array),
+            expr.at,
+        ),
+        _ => Err(stop_at(expr.at, FaultKind::Unevaluated(Unevaluated::Expression))),
+    }
+}
+
+/// The length of an array, where one is found.
+#[cycle(evaluating)]
+fn evaluate_length<'a>(
+    cx: &Context<'a, '_>,
+    budget: &mut Budget<'a>,
+    depth_left: u32,
+    length: Option<LengthExpr<'a>>,
+    at: Place,
+) -> Result<ConstValue, Stop>
+    requires { AreValues cx.now (get same_key budget.old.values) }
+    ensures value { Means value_as_read (length_value cx.now (evaluator cx.now depth_left) at
+        (option_map length_read length.entry)) result }
+    ensures kept { IfOk result (λ _. AreValues cx.now (get same_key budget.new.values)) }
+{
+    let Some(found) = length else {
+        return Err(stop_at(at, FaultKind::Unevaluated(Unevaluated::Expression)));
+    };
+    let env = Env {
+        depth_left,
+        ..found.env
+    };
+    evaluate(
+        cx,
+        budget,
+        env,
+        found.length,
+        Some(Kind::Integer(IntegerKind::Usize)),
+    )
+}
+
+/// The value of a method of integers that is called.
+#[cycle(evaluating)]
+fn evaluate_method<'a>(
+    cx: &Context<'a, '_>,
+    budget: &mut Budget<'a>,
+    env: Env<'_>,
+    called: IntegerCall,
+    expr: CallExpr<'a>,
+) -> Result<ConstValue, Stop>
+    requires { AreValues cx.now (get same_key budget.old.values) }
+    ensures value { Means value_as_read (method_value cx.now (evaluator cx.now env.entry.depth_left) (where_of env.entry)
+        expr.entry.at called.method called.kind expr.entry.arguments.now) result }
+    ensures kept { IfOk result (λ _. AreValues cx.now (get same_key budget.new.values)) }
+{
+    let expr = MethodExpr {
+        kind: called.kind,
+        arguments: expr.arguments,
+        at: expr.at,
+    };
+    match called.method {
+        Method::Least => end(cx, false, expr),
+        Method::Greatest => end(cx, true, expr),
+        Method::Of(method) => evaluate_of(cx, budget, env, method, expr),
+        Method::OfBoth(method) => evaluate_of_both(cx, budget, env, method, expr),
+    }
+}
+
+/// The least or the greatest number of a type, which is called on nothing.
+fn end(cx: &Context<'_, '_>, is_greatest: bool, expr: MethodExpr<'_>) -> Result<ConstValue, Stop>
+    ensures { Means value_as_read
+        (end_value cx.now expr.entry.at is_greatest expr.entry.kind expr.entry.arguments.now) result }
+{
+    match (expr.kind, expr.arguments.is_empty()) {
+        (Some(kind), true) => Ok(end_of(kind, is_greatest, cx.pointer_bits)),
+        _ => Err(stop_at(expr.at, FaultKind::Unevaluated(Unevaluated::Expression))),
+    }
+}
+
+/// The value of a method that is called on an operand alone.
+#[cycle(evaluating)]
+fn evaluate_of<'a>(
+    cx: &Context<'a, '_>,
+    budget: &mut Budget<'a>,
+    env: Env<'_>,
+    method: MethodOfOne,
+    expr: MethodExpr<'a>,
+) -> Result<ConstValue, Stop>
+    requires { AreValues cx.now (get same_key budget.old.values) }
+    ensures value { Means value_as_read (one_value cx.now (evaluator cx.now env.entry.depth_left) (where_of env.entry)
+        expr.entry.at method expr.entry.kind expr.entry.arguments.now) result }
+    ensures kept { IfOk result (λ _. AreValues cx.now (get same_key budget.new.values)) }
+{
+    match expr.arguments {
+        [operand] => {
+            let value = evaluate_receiver(cx, budget, env, expr, operand)?;
+            at_place(expr.at, made_of_one(method, value, cx.pointer_bits))
+        }
+        _ => Err(stop_at(expr.at, FaultKind::Unevaluated(Unevaluated::Expression))),
+    }
+}
+
+/// The value of a method that is called on an operand and given another.
+#[cycle(evaluating)]
+fn evaluate_of_both<'a>(
+    cx: &Context<'a, '_>,
+    budget: &mut Budget<'a>,
+    env: Env<'_>,
+    method: MethodOfTwo,
+    expr: MethodExpr<'a>,
+) -> Result<ConstValue, Stop>
+    requires { AreValues cx.now (get same_key budget.old.values) }
+    ensures value { Means value_as_read (both_value cx.now (evaluator cx.now env.entry.depth_left) (where_of env.entry)
+        expr.entry.at method expr.entry.kind expr.entry.arguments.now) result }
+    ensures kept { IfOk result (λ _. AreValues cx.now (get same_key budget.new.values)) }
+{
+    match expr.arguments {
+        [operand, other] => {
+            let value = evaluate_receiver(cx, budget, env, expr, operand)?;
+            let other = evaluate(cx, budget, env, other, kind_beside(method, value))?;
+            at_place(expr.at, made_of_both(method, value, other, cx.pointer_bits))
+        }
+        _ => Err(stop_at(expr.at, FaultKind::Unevaluated(Unevaluated::Expression))),
+    }
+}
+
+/// The value of what a method is called on, which is of the type that the method's path names, or has one of its own.
+#[cycle(evaluating)]
+fn evaluate_receiver<'a>(
+    cx: &Context<'a, '_>,
+    budget: &mut Budget<'a>,
+    env: Env<'_>,
+    expr: MethodExpr<'_>,
+    operand: &'a Expr,
+) -> Result<ConstValue, Stop>
+    requires { AreValues cx.now (get same_key budget.old.values) }
+    ensures value { Means value_as_read (receiver_value cx.now (evaluator cx.now env.entry.depth_left) (where_of env.entry)
+        expr.entry.kind expr.entry.at operand.now) result }
+    ensures kept { IfOk result (λ _. AreValues cx.now (get same_key budget.new.values)) }
+{
+    if let Some(kind) = expr.kind {
+        return evaluate(cx, budget, env, operand, Some(Kind::Integer(kind)));
+    }
+    if has_own_type(cx, env, operand) {
+        return evaluate(cx, budget, env, operand, None);
+    }
+    Err(stop_at(expr.at, FaultKind::Unevaluated(Unevaluated::Expression)))
+}
+
+/// Whether it is a call, whose value has a type.
+fn is_call(expr: &Expr) -> bool
+    ensures { result ≡ is_call expr.now }
+{
+    match expr {
+        Expr::Call(_, _, _) => true,
+        _ => false,
+    }
+}
+
+/// Whether an expression has a type of its own, as far as its parts tell it.
+fn has_own_type(cx: &Context<'_, '_>, env: Env<'_>, expr: &Expr) -> bool
+    ensures { result ≡ has_own_type cx.now (where_of env.entry) expr.now }
+{
+    kind_of(cx, env, expr).is_some() || is_call(expr)
 }
 
 /// The branch that a condition chooses.
@@ -401,16 +608,6 @@ fn counted(
             at_place(item.at, fitting(kind, width, next))
         }
         _ => Err(stop_at(item.at, FaultKind::WrongType)),
-    }
-}
-
-/// The value that the parameter of this name is given, if it is one.
-fn value_given(cx: &Context<'_, '_>, env: Env<'_>, path: &Path) -> Option<ConstValue>
-    ensures { option_map value_as_read result ≡ value_given cx.now (where_of env.entry) path.now }
-{
-    match given_named(cx, env, single_name(path)?) {
-        Some(GenericArg::Value(value)) => Some(*value),
-        _ => None,
     }
 }
 

@@ -1,7 +1,7 @@
 //! Integers, and what operators make of them.
 
-ghost use Rattle.std.specs.Prelude.{◌≡◌, ◌↔◌, ◌+◌, ◌-◌, ◌*◌, ◌%◌, ◌^◌, ◌≤◌, ◌<◌, IsTrue, IfSome, IfNone, IsNone, IsSome, ◌+ℤ◌, ◌*ℤ◌, ◌-ℤ◌, ◌<ℤ◌, neg_ℤ, pos, cond, int_lt};
-ghost use Rattle.std.specs.Int.{cast_unsigned, int_div_euclid, w128};
+ghost use Rattle.std.specs.Prelude.{◌≡◌, ◌↔◌, ◌+◌, ◌-◌, ◌*◌, ◌%◌, ◌^◌, ◌≤◌, ◌<◌, ℤ, IsTrue, IfSome, IfNone, IsNone, IsSome, ◌+ℤ◌, ◌*ℤ◌, ◌-ℤ◌, ◌<ℤ◌, neg_ℤ, pos, cond, false, int_lt};
+ghost use Rattle.std.specs.Int.{cast_unsigned, int_div_euclid, int_pow, int_rem_euclid, w128};
 ghost use Rattle.std.specs.Int.RustNames.{int_div, int_rem, unsigned_abs};
 
 use rust_source::IntegerKind;
@@ -25,7 +25,7 @@ pub(crate) struct Width {
 }
 
 impl Width {
-    ghost use Rattle.abi_rust.specs.Int.{Has, wrapped, number_of_int};
+    ghost use Rattle.abi_rust.specs.Int.{Has, nearest_number, wrapped, number_of_int};
     ghost use Rattle.abi_rust.specs.Operators.{bits_of_integer, holds_number, is_signed};
 
     /// The width of an integer type, under pointers of this many bits, of which 1 to 128 count.
@@ -111,7 +111,7 @@ impl Width {
 
     /// The lowest of these bits, as many as the type has.
     #[tactic(auto, using(crate::proofs::Bits::and_mask))]
-    fn low(self, bits: u128) -> u128
+    pub(crate) fn low(self, bits: u128) -> u128
         ensures { result ≡ bits % 2 ^ self.bits }
     {
         bits & self.mask()
@@ -126,6 +126,58 @@ impl Width {
             return Int::positive(low);
         }
         Int::new(true, self.mask() - low + 1)
+    }
+
+    /// The width of the type without a sign that has as many bits.
+    pub(crate) fn unsigned(self) -> Width
+        ensures bits { result.bits ≡ self.bits }
+        ensures signed { result.is_signed ≡ false }
+    {
+        Width {
+            bits: self.bits,
+            is_signed: false,
+        }
+    }
+
+    /// The type's number that is nearest to a number.
+    fn nearest(self, int: Int) -> Int
+        ensures { number_of_int result ≡ nearest_number self.is_signed self.bits (number_of_int int) }
+    {
+        if int.is_below(self.min()) {
+            self.min()
+        } else if self.max().is_below(int) {
+            self.max()
+        } else {
+            int
+        }
+    }
+
+    /// The type's number that is nearest to a number of more than 128 bits, which is negative or isn't.
+    fn nearest_end(self, is_negative: bool) -> Int
+        ensures { (z : ℤ) → 2 ^ 128 ≤ unsigned_abs z → int_lt z (pos 0) ≡ is_negative →
+            number_of_int result ≡ nearest_number self.is_signed self.bits z }
+    {
+        if is_negative { self.min() } else { self.max() }
+    }
+
+    /// The type's number that is nearest to a sum.
+    pub(crate) fn nearest_sum(self, a: Int, b: Int) -> Int
+        ensures { number_of_int result ≡ nearest_number self.is_signed self.bits (number_of_int a +ℤ number_of_int b) }
+    {
+        match a.plus(b) {
+            Some(sum) => self.nearest(sum),
+            None => self.nearest_end(a.is_negative),
+        }
+    }
+
+    /// The type's number that is nearest to a product.
+    pub(crate) fn nearest_product(self, a: Int, b: Int) -> Int
+        ensures { number_of_int result ≡ nearest_number self.is_signed self.bits (number_of_int a *ℤ number_of_int b) }
+    {
+        match a.times(b) {
+            Some(product) => self.nearest(product),
+            None => self.nearest_end(a.is_negative != b.is_negative),
+        }
     }
 }
 
@@ -212,6 +264,55 @@ impl Int {
     {
         let magnitude = self.magnitude.checked_rem(other.magnitude)?;
         Some(Int::new(self.is_negative, magnitude))
+    }
+
+    /// The quotient whose remainder isn't negative, or none for a divisor that is zero.
+    pub(crate) fn over_euclid(self, other: Int) -> Option<Int>
+        ensures some { IfSome result (λ quotient. number_of_int quotient
+            ≡ int_div_euclid (number_of_int self) (number_of_int other)) }
+        ensures none { IsNone result ↔ (number_of_int other ≡ pos 0) }
+    {
+        if other.magnitude == 0 {
+            return None;
+        }
+        if !self.is_negative {
+            return Some(Int::new(other.is_negative, self.magnitude / other.magnitude));
+        }
+        let magnitude = (self.magnitude - 1) / other.magnitude;
+        Some(Int::new(!other.is_negative, magnitude.checked_add(1)?))
+    }
+
+    /// What that quotient leaves, or none for a divisor that is zero.
+    pub(crate) fn left_over_euclid(self, other: Int) -> Option<Int>
+        ensures some { IfSome result (λ rest. number_of_int rest
+            ≡ int_rem_euclid (number_of_int self) (number_of_int other)) }
+        ensures none { IsNone result ↔ (number_of_int other ≡ pos 0) }
+    {
+        if other.magnitude == 0 {
+            return None;
+        }
+        if !self.is_negative {
+            return Some(Int::positive(self.magnitude % other.magnitude));
+        }
+        let over = (self.magnitude - 1) % other.magnitude;
+        Some(Int::positive(other.magnitude - 1 - over))
+    }
+
+    /// The number as a power's exponent, without its sign, or none where it has more than 32 bits.
+    pub(crate) fn exponent(self) -> Option<u32>
+        ensures some { IfSome result (λ exponent. unsigned_abs (number_of_int self) ≡ exponent) }
+        ensures none { IfNone result (2 ^ 32 ≤ unsigned_abs (number_of_int self)) }
+    {
+        u32::try_from(self.magnitude).ok()
+    }
+
+    /// The number to the power, or none where it has more than 128 bits.
+    pub(crate) fn power(self, exponent: u32) -> Option<Int>
+        ensures some { IfSome result (λ power. number_of_int power ≡ int_pow (number_of_int self) exponent) }
+        ensures none { IfNone result (2 ^ 128 ≤ unsigned_abs (int_pow (number_of_int self) exponent)) }
+    {
+        let magnitude = self.magnitude.checked_pow(exponent)?;
+        Some(Int::new(self.is_negative && exponent % 2 == 1, magnitude))
     }
 
     /// The number times two to the power, in the lowest bits of a type, or none for a power that the type hasn't.

@@ -3,13 +3,14 @@
 ghost use Rattle.std.specs.Prelude.{◌≡◌, IfSome, slice_get};
 ghost use Rattle.std.specs.Option.{option_and_then, option_copied, option_map};
 ghost use Rattle.rust_source.specs.declared.syntax.Path.{out-Path};
-ghost use Rattle.abi_rust.specs.Kinds.{constant_type, given_named, is_given, is_parameter_of, is_shift, is_test, kind_of_names, kind_found, kind_given, kind_of_expr, kind_of_primitive, kind_written, limit_type, name_alone, number_from, operand_kind, operands_kind, outside, parameter_named, parameter_type, parameters_of, path_kind, single_name};
+ghost use Rattle.abi_rust.specs.Kinds.{constant_type, given_named, integer_call, is_given, is_parameter_of, is_shift, is_test, kind_of_called, kind_of_names, kind_found, kind_given, kind_of_expr, kind_of_primitive, kind_written, limit_type, name_alone, names_method, number_from, operand_kind, operands_kind, outside, parameter_named, parameter_type, parameters_of, path_kind, single_name};
 ghost use Rattle.abi_rust.specs.Places.{last_name};
 ghost use Rattle.abi_rust.specs.Resolving.{most_deep};
 ghost use Rattle.abi_rust.specs.Types.{given_of, where_of};
 
 use crate::budget::{Context, Env, most_deep};
 use crate::constants::{constant_named, inside_constant};
+use crate::methods::{IntegerCall, kind_made};
 use crate::paths::{Resolution, find_prefix, found_by, item_at, most_aliases};
 use crate::ty::{GenericArg, Kind, Primitive, Ty};
 use crate::words::Word;
@@ -185,7 +186,7 @@ pub(crate) fn kind_of(cx: &Context<'_, '_>, env: Env<'_>, expr: &Expr) -> Option
         Expr::Char(_, _) => Some(Kind::Char),
         Expr::Bool(_, _) => Some(Kind::Bool),
         Expr::Path(path) => kind_of_path(cx, env, path),
-        Expr::Call(_, _, _) => Some(Kind::Integer(IntegerKind::Usize)),
+        Expr::Call(path, _, _) => kind_of_call(cx, env, path),
         Expr::Unary(_, operand, _) => kind_of(cx, env, operand),
         Expr::Binary(operator, left, right, _) => {
             if is_test(*operator) {
@@ -206,6 +207,43 @@ pub(crate) fn kind_of(cx: &Context<'_, '_>, env: Env<'_>, expr: &Expr) -> Option
             kind_of(cx, env, right)
         }
         Expr::Unevaluated(_, _) => None,
+    }
+}
+
+/// Whether a path is that of a method's call.
+pub(crate) fn names_method(path: &Path) -> bool
+    ensures { result ≡ names_method (out-Path path.now).segments.items }
+{
+    path.segments.len() == 2 && path.segments[0].name == Symbol::UNDERSCORE
+}
+
+/// The method of integers that a path calls, if it does.
+#[tactic(auto, unfolding(crate::specs::Kinds::integer_call))]
+pub(crate) fn integer_call(cx: &Context<'_, '_>, env: Env<'_>, path: &Path) -> Option<IntegerCall>
+    ensures { result ≡ integer_call cx.now.items.now cx.now.scope.now (where_of env.entry) path.now }
+{
+    let last = path.segments.last()?;
+    let method = cx.scope.words.method(last.name)?;
+    if names_method(path) {
+        return Some(IntegerCall { method, kind: None });
+    }
+    match kind_at(cx, env, path, path.segments.len().saturating_sub(1)) {
+        Some(Kind::Integer(kind)) => Some(IntegerCall {
+            method,
+            kind: Some(kind),
+        }),
+        _ => None,
+    }
+}
+
+/// The type of a call: of a method's, as far as its path tells it, and else that of `size_of`.
+fn kind_of_call(cx: &Context<'_, '_>, env: Env<'_>, path: &Path) -> Option<Kind>
+    ensures { result
+        ≡ kind_of_called (integer_call cx.now.items.now cx.now.scope.now (where_of env.entry) path.now) }
+{
+    match integer_call(cx, env, path) {
+        Some(called) => kind_made(called),
+        None => Some(Kind::Integer(IntegerKind::Usize)),
     }
 }
 

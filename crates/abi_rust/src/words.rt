@@ -2,15 +2,16 @@
 
 ghost use Rattle.std.specs.Prelude.{◌≡◌, IfOk, OnOk, codes, map};
 ghost use Rattle.rust_source.specs.Names.{added, all_added, number_of_name, texts, word_of};
-ghost use Rattle.abi_rust.specs.Words.{integer_at, is_std, is_word, known_words, primitive_named, symbol_of};
+ghost use Rattle.abi_rust.specs.Words.{integer_at, is_std, is_word, known_words, method_named, primitive_named, symbol_of};
 
+use crate::methods::{Method, MethodOfOne, MethodOfTwo};
 use crate::ty::Primitive;
 use abi_base::Float;
 use rust_source::{IntegerKind, Names, Symbol};
 use std::alloc::AllocError;
 
-/// The names of primitive types, and then others, in the order of their numbers.
-static WORDS: [&str; 45] = [
+/// The names of primitive types, then others, and then those of methods, in the order of their numbers.
+static WORDS: [&str; 65] = [
     "bool",
     "char",
     "str",
@@ -56,6 +57,26 @@ static WORDS: [&str; 45] = [
     "PathBuf",
     "ManuallyDrop",
     "libc",
+    "next_power_of_two",
+    "is_power_of_two",
+    "count_ones",
+    "leading_zeros",
+    "trailing_zeros",
+    "ilog2",
+    "pow",
+    "div_ceil",
+    "abs_diff",
+    "saturating_add",
+    "saturating_sub",
+    "saturating_mul",
+    "wrapping_add",
+    "wrapping_sub",
+    "wrapping_mul",
+    "div_euclid",
+    "rem_euclid",
+    "min_value",
+    "max_value",
+    "len",
 ];
 
 /// The names that have a meaning of their own, by how far they stand behind the first of them.
@@ -93,6 +114,7 @@ pub(crate) enum Word {
     PathBuf = 42,
     ManuallyDrop = 43,
     Libc = 44,
+    Len = 64,
 }
 
 impl Words {
@@ -137,6 +159,35 @@ impl Words {
             17 => Some(Primitive::Float(Float::F64)),
             18 => Some(Primitive::Float(Float::F128)),
             number => Some(Primitive::Integer(integer_numbered(number)?)),
+        }
+    }
+
+    /// The method of integers of this name, if there is one.
+    #[tactic(auto, unfolding(crate::specs::Words::method_named))]
+    pub(crate) fn method(self, name: Symbol) -> Option<Method>
+        ensures { result ≡ method_named self name }
+    {
+        match name.0.wrapping_sub(self.first) {
+            45 => Some(Method::Of(MethodOfOne::NextPowerOfTwo)),
+            46 => Some(Method::Of(MethodOfOne::IsPowerOfTwo)),
+            47 => Some(Method::Of(MethodOfOne::CountOnes)),
+            48 => Some(Method::Of(MethodOfOne::LeadingZeros)),
+            49 => Some(Method::Of(MethodOfOne::TrailingZeros)),
+            50 => Some(Method::Of(MethodOfOne::Ilog2)),
+            51 => Some(Method::OfBoth(MethodOfTwo::Pow)),
+            52 => Some(Method::OfBoth(MethodOfTwo::DivCeil)),
+            53 => Some(Method::OfBoth(MethodOfTwo::AbsDiff)),
+            54 => Some(Method::OfBoth(MethodOfTwo::SaturatingAdd)),
+            55 => Some(Method::OfBoth(MethodOfTwo::SaturatingSub)),
+            56 => Some(Method::OfBoth(MethodOfTwo::SaturatingMul)),
+            57 => Some(Method::OfBoth(MethodOfTwo::WrappingAdd)),
+            58 => Some(Method::OfBoth(MethodOfTwo::WrappingSub)),
+            59 => Some(Method::OfBoth(MethodOfTwo::WrappingMul)),
+            60 => Some(Method::OfBoth(MethodOfTwo::DivEuclid)),
+            61 => Some(Method::OfBoth(MethodOfTwo::RemEuclid)),
+            62 => Some(Method::Least),
+            63 => Some(Method::Greatest),
+            _ => None,
         }
     }
 

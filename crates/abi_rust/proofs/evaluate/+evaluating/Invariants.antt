@@ -35,5 +35,23 @@ decreases-evaluate_path l = 8 * l.env.depth_left + 3
 abbrev pub decreases-evaluate_cast : goal.decreases-evaluate_cast
 decreases-evaluate_cast l = 8 * l.env.depth_left + 4
 
+abbrev pub decreases-evaluate_receiver : goal.decreases-evaluate_receiver
+decreases-evaluate_receiver l = 8 * l.env.depth_left + 1
+
+abbrev pub decreases-evaluate_length : goal.decreases-evaluate_length
+decreases-evaluate_length l = 8 * l.depth_left + 1
+
+abbrev pub decreases-evaluate_of : goal.decreases-evaluate_of
+decreases-evaluate_of l = 8 * l.env.depth_left + 2
+
+abbrev pub decreases-evaluate_of_both : goal.decreases-evaluate_of_both
+decreases-evaluate_of_both l = 8 * l.env.depth_left + 2
+
+abbrev pub decreases-evaluate_method : goal.decreases-evaluate_method
+decreases-evaluate_method l = 8 * l.env.depth_left + 3
+
+abbrev pub decreases-evaluate_call : goal.decreases-evaluate_call
+decreases-evaluate_call l = 8 * l.env.depth_left + 4
+
 abbrev pub decreases-evaluate_any : goal.decreases-evaluate_any
 decreases-evaluate_any l = 8 * l.env.depth_left + 5

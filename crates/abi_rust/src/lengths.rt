@@ -1,0 +1,88 @@
+//! The lengths of arrays that constants are.
+
+ghost use Rattle.std.specs.Prelude.{◌≡◌, None, if◌then◌else◌};
+ghost use Rattle.std.specs.Option.{option_copied, option_map};
+ghost use Rattle.abi_rust.specs.Evaluating.{asks_length, length_of, length_of_item, length_read, length_written};
+ghost use Rattle.abi_rust.specs.Kinds.{item_at};
+ghost use Rattle.abi_rust.specs.Types.{where_of};
+
+use crate::budget::{Context, Env};
+use crate::constants::{constant_named, inside_constant, value_given};
+use crate::kind::names_method;
+use crate::paths::item_at;
+use crate::words::Word;
+use rust_source::{Expr, ItemKind, Path, Type};
+
+/// An array's length, and where it stands.
+#[derive(Clone, Copy)]
+pub(crate) struct LengthExpr<'a> {
+    pub(crate) env: Env<'static>,
+    pub(crate) length: &'a Expr,
+}
+
+/// Whether a path is that of the method `len`.
+fn asks_length(cx: &Context<'_, '_>, path: &Path) -> bool
+    ensures { result ≡ asks_length cx.now path.now }
+{
+    match path.segments.last() {
+        Some(last) => names_method(path) && cx.scope.words.is(last.name, Word::Len),
+        None => false,
+    }
+}
+
+/// The length of the array that a type is, or points to.
+fn length_written(ty: &Type) -> Option<&Expr>
+    ensures { option_copied result ≡ length_written ty.now }
+{
+    match ty {
+        Type::Array(_, length) => Some(length),
+        Type::Reference(_, pointee) => length_written(pointee),
+        _ => None,
+    }
+}
+
+/// The length of the array that a constant is, or points to.
+fn length_of_constant<'a>(cx: &Context<'a, '_>, number: u32) -> Option<LengthExpr<'a>>
+    ensures { option_map length_read result ≡ length_of_item cx.now number
+        (item_at cx.now.items.now cx.now.scope.now number) }
+{
+    let item = item_at(cx.items, number)?;
+    match &item.kind {
+        ItemKind::Const(constant) => Some(LengthExpr {
+            env: inside_constant(cx, number, item),
+            length: length_written(&constant.ty)?,
+        }),
+        _ => None,
+    }
+}
+
+/// The length of the array that an expression is, where it names a constant that is one, or points to one.
+fn length_of<'a>(cx: &Context<'a, '_>, env: Env<'_>, expr: &Expr) -> Option<LengthExpr<'a>>
+    ensures { option_map length_read result ≡ length_of cx.now (where_of env.entry) expr.now }
+{
+    let Expr::Path(path) = expr else {
+        return None;
+    };
+    let number = constant_named(cx, env, path)?;
+    if value_given(cx, env, path).is_some() {
+        return None;
+    }
+    length_of_constant(cx, number)
+}
+
+/// The length of the array that an expression is, where the method `len` is called on it.
+pub(crate) fn length_asked<'a>(
+    cx: &Context<'a, '_>,
+    env: Env<'_>,
+    path: &Path,
+    array: &Expr,
+) -> Option<LengthExpr<'a>>
+    ensures { option_map length_read result
+        ≡ (if asks_length cx.now path.now then length_of cx.now (where_of env.entry) array.now else None) }
+{
+    if asks_length(cx, path) {
+        length_of(cx, env, array)
+    } else {
+        None
+    }
+}
