@@ -20,8 +20,9 @@ use std::alloc::Global;
 /// an item, beside the first and the last.
 const MOST_DEEP: u32 = 402;
 
-/// How many parts of types, constants and trees are looked at for one type.
-pub(crate) const MOST_PARTS: u32 = 1 << 22;
+/// How many parts of types, constants and trees are looked at for one type: twenty structs, each of which has the one before
+/// twice, have a million, and are to be a fault at once.
+pub(crate) const MOST_PARTS: u32 = 1 << 19;
 
 /// What all work rests on.
 #[derive(Clone, Copy)]
