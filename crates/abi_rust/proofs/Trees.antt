@@ -2,7 +2,7 @@
 use Rattle.std.proofs.Common.{◌≡◌, ℕ, zero, suc, ◌+◌, ◌<◌, ◌≤◌, List, [], ◌∷◌, ◌++◌, Vec, Option, Some, Ok, Err, length, map, drop, get_or, drop-cons, add-one, refl, ap, sym, ◌∙◌, arith}
 use Rattle.std.proofs.lemmas.List.{drop_all}
 use Rattle.std.specs.Int.{cast_unsigned, w128}
-use Rattle.std.specs.Prelude.{Result, false, ℤ}
+use Rattle.std.specs.Prelude.{Result, false, true, ℤ}
 use Rattle.std.specs.declared.alloc.Global.{Global}
 use Rattle.abi_tree.specs.Tree.{Tree, enum, layer_tree, more_variants, tree_of, trees, variants}
 use Rattle.abi_tree.specs.declared.tree.TypeTree.{TypeTree, Enum, fold-roll-TypeTree}
@@ -17,7 +17,7 @@ use Rattle.abi_rust.specs.Meaning.{Means, Meaning, then_meant, too_deep}
 use Rattle.abi_rust.specs.Measure.{Measure, each_meant}
 use Rattle.abi_rust.specs.Resolving.{inside_item}
 use Rattle.abi_rust.specs.Tails.{Outer, stands_in}
-use Rattle.abi_rust.specs.Trees.{TreeInner, field_tree, field_trees, tree_by_item, item_tree, kind_tree, tree_inner, type_tree, variant_as_tree, variant_tree, variant_trees, variants_listed}
+use Rattle.abi_rust.specs.Trees.{TreeInner, field_tree, field_trees, tree_by_item, item_tree, kind_tree, tree_inner, type_tree, variant_as_tree, unsized_by_item, unsized_kind_checked, variant_tree, variant_trees, variants_listed}
 use Rattle.abi_rust.specs.Types.{GenericArgRead, GenericArgsRead, TyRead, Where, givens, list_of_types, ty_of, types}
 use Rattle.abi_rust.specs.declared.fault.Stop.{Stop}
 use Rattle.abi_rust.specs.declared.ty.Ty.{Ty}
@@ -128,6 +128,12 @@ pub tree_of_enum : (repr : ReprOptions) (all : Vec (ℕ × Vec TypeTree Global) 
 tree_of_enum repr all = ap tree_of (sym (rolls-Enum repr all)) ∙ fold-roll-TypeTree Tree layer_tree (layer.Enum repr all) ∙ ap (enum repr) (variants_are all.items)
 
 -- ---- items
+
+-- a type without a size of its own, which is an item's
+pub unsized_on : (cx : Context) (m : Measure) (inside : Outer) (n : ℕ) (it : Item) (gs : List GenericArgRead) (r : Result (Unit {0}) Stop)
+    → inside ≡ (n, givens gs) ∷ [] → Means (λ _. true) (unsized_kind_checked cx m inside (inside_item n it gs) it.kind) r
+    → Means (λ _. true) (unsized_by_item cx m n (givens gs) (Some it)) r
+unsized_on cx m inside n it gs r is answers = rw (list_given_is gs) (rw is at answers)
 
 -- the tree of an item that doesn't stand in itself
 pub found_on : (cx : Context) (m : Measure) (T : TreeInner) (outer inside : Outer) (n : ℕ) (it : Item) (gs : List GenericArgRead) (r : Result TypeTree Stop)

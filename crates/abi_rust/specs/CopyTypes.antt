@@ -12,8 +12,8 @@ use Rattle.abi_rust.specs.declared.ty.Primitive.TheVariants.{Str}
 use Rattle.abi_rust.specs.declared.words.Word.TheVariants as word
 use Rattle.abi_rust.specs.Kinds.{item_at}
 use Rattle.abi_rust.specs.Meaning.{Meaning, then_meant, fault_at}
-use Rattle.abi_rust.specs.Names.{root}
 use Rattle.abi_rust.specs.Resolving.{inside_item, is_item, item_in, most_deep, resolved}
+use Rattle.abi_rust.specs.Tails.{is_of_std}
 use Rattle.abi_rust.specs.Types.{GenericArgsRead, TyRead, TysRead, Where, adt, array, dyn, list_given, more_types, no_types, primitive, reference, slice, tuple}
 
 -- the primitive type is `str`
@@ -24,7 +24,7 @@ is_str _ = false
 module _ (cx : Context) where
   -- an item of the standard library's that no `derive` of `Copy` stands at
   abbrev pub is_never_copy : Item → Bool
-  is_never_copy it = nat_eq (root cx.items.now it.«module») cx.scope.now.std_root && not it.derives_copy
+  is_never_copy it = is_of_std cx it && not it.derives_copy
 
   module _ (lacks : TyRead → Bool) where
     -- a type that can't be found out may be `Copy`

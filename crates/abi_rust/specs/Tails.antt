@@ -20,6 +20,7 @@ use Rattle.abi_rust.specs.declared.budget.Context.{Context}
 use Rattle.abi_rust.specs.Kinds.{item_at}
 use Rattle.abi_rust.specs.Known.{same_givens}
 use Rattle.abi_rust.specs.Meaning.{Meaning, then_meant, fault_at, too_deep}
+use Rattle.abi_rust.specs.Names.{root}
 use Rattle.abi_rust.specs.Resolving.{inside_item, most_deep, resolved}
 use Rattle.abi_rust.specs.Types.{GenericArgRead, GenericArgsRead, TyRead, TysRead, adt, all_given, dyn, givens, list_given, more_types, never, no_types, of_type, of_value, primitive, slice, tuple}
 use Rattle.abi_rust.specs.Values.{number}
@@ -54,12 +55,6 @@ last_of [] = None
 last_of (f ∷ []) = Some f
 last_of (f ∷ fs) = last_of fs
 
--- the last field of a struct or a union
-abbrev pub tail_field : ItemKind → Option Field
-tail_field (StructItem fields) = last_of fields.all.items
-tail_field (UnionItem fields) = last_of fields.all.items
-tail_field _ = None
-
 -- how a pointer's tail is found, of a type and of an item
 pub record TailInner : Type 0 where
   pub tail_of : Outer → TyRead → Meaning Tail
@@ -86,6 +81,17 @@ has_known_size Sized = true
 has_known_size _ = false
 
 module _ (cx : Context) where
+  -- the item stands in the standard library's source
+  abbrev pub is_of_std : Item → Bool
+  is_of_std it = nat_eq (root cx.items.now it.«module») cx.scope.now.std_root
+
+  -- the field of an item of this kind that may be without a size: a struct's last, and none of a union's (Rust Reference,
+  -- "Unions"), but the last of one in the standard library's source, where a cell is such a union
+  abbrev pub tail_field : Item → ItemKind → Option Field
+  tail_field it (StructItem fields) = last_of fields.all.items
+  tail_field it (UnionItem fields) = if is_of_std it then last_of fields.all.items else None
+  tail_field it _ = None
+
   module _ (T : TailInner) where
     abbrev pub tail_of_last : Outer → Option TyRead → Meaning Tail
     tail_of_last outer None = Ok Sized
@@ -108,7 +114,7 @@ module _ (cx : Context) where
 
     abbrev pub item_tail : Outer → ℕ → GenericArgsRead → Option Item → Meaning Tail
     item_tail outer n gs None = Ok Sized
-    item_tail outer n gs (Some it) = field_tail outer n gs it (tail_field it.kind)
+    item_tail outer n gs (Some it) = field_tail outer n gs it (tail_field it it.kind)
 
     -- what a pointer to the type tells that an item is; a fault where that stands in itself
     unfoldable pub tail_of_item_with : Outer → ℕ → GenericArgsRead → Meaning Tail

@@ -1,5 +1,5 @@
 -- The tree that a type is.
-use Rattle.std.specs.Prelude.{ℕ, zero, suc, Bool, true, false, List, [], ◌∷◌, map, Vec, ℤ, pos, ◌+ℤ◌, Option, Some, None, Ok, Err, if◌then◌else◌}
+use Rattle.std.specs.Prelude.{ℕ, zero, suc, ◌-◌, Bool, true, false, List, [], ◌∷◌, length, map, take, Vec, ℤ, pos, ◌+ℤ◌, Option, Some, None, Ok, Err, if◌then◌else◌}
 use Rattle.std.specs.Int.{cast_unsigned, w128}
 use Rattle.std.specs.declared.alloc.Global.{Global}
 use Rattle.abi_base.specs.declared.data_layout.TargetDataLayout.{TargetDataLayout}
@@ -23,12 +23,13 @@ use Rattle.abi_rust.specs.Operators.{bits_of_integer, fitted, is_signed}
 use Rattle.abi_rust.specs.Reprs.{no_repr, repr_of}
 use Rattle.abi_rust.specs.Resolving.{evaluated, inside_item, most_deep, resolved}
 use Rattle.abi_rust.specs.Scalars.{function_tree, limited_tree, named_tree, pointer_tree}
-use Rattle.abi_rust.specs.Tails.{Outer, always_sized, has_known_size, pointee_tail, stands_in}
+use Rattle.abi_rust.specs.Tails.{Outer, always_sized, has_known_size, last_of, pointee_tail, stands_in}
 use Rattle.abi_rust.specs.Types.{GenericArgsRead, TyRead, Where, adt, array, dyn, function, list_given, list_of_types, never, pointer, primitive, reference, slice, tuple}
 use Rattle.abi_rust.specs.Values.{ValueRead, number}
 use Rattle.abi_rust.specs.declared.fault.FaultKind.TheVariants.{NotAType, Recursive, Unsized, WrongType}
 use Rattle.abi_rust.specs.declared.fault.Stop.{Stop}
 use Rattle.abi_rust.specs.declared.fault.Stop.TheVariants.{Fault}
+use Rattle.abi_rust.specs.declared.tail.Tail.{Tail}
 use Rattle.abi_rust.specs.declared.ty.Kind.TheVariants.{Integer as KindInteger}
 use Rattle.abi_rust.specs.declared.budget.Context.{Context}
 
@@ -95,6 +96,11 @@ module _ (cx : Context) where
   -- a variant's discriminant: what is written, or else the number behind the last one, which has to fit
   unfoldable pub variant_number : Item → (last : Option ℤ) → Variant → Meaning ℤ
   variant_number it last v = then_meant (number_meant v.at) (discriminant_value it last v.at v.discriminant)
+
+  -- the parts of a last field have sizes where they need them
+  abbrev pub last_checked : Where → Option Field → Meaning Bool
+  last_checked w None = Ok true
+  last_checked w (Some f) = then_meant (λ t. told_at f.start (formed_checked cx t)) (resolved cx w f.ty)
 
   module _ (m : Measure) where
     module _ (T : TreeInner) where
@@ -197,8 +203,33 @@ module _ (cx : Context) where
     abbrev pub whole_tree : TyRead → Meaning Tree
     whole_tree t = (tree_inner most_deep).of_type [] t
 
+    -- the fields of a struct but the last have sizes, and so have the parts of the last that need one
+    abbrev pub fields_before_checked : Outer → Where → List Field → Meaning Bool
+    fields_before_checked outer w fs =
+        then_meant (λ _. last_checked w (last_of fs)) (field_trees (tree_inner most_deep) outer w (take (length fs - 1) fs))
+
+    abbrev pub unsized_kind_checked : Outer → Where → ItemKind → Meaning Bool
+    unsized_kind_checked outer w (StructItem fields) = fields_before_checked outer w fields.all.items
+    unsized_kind_checked outer w _ = Ok true
+
+    abbrev pub unsized_by_item : ℕ → GenericArgsRead → Option Item → Meaning Bool
+    unsized_by_item n gs None = Ok true
+    unsized_by_item n gs (Some it) = unsized_kind_checked ((n, gs) ∷ []) (inside_item n it (list_given gs)) it.kind
+
+    unfoldable pub unsized_item_checked : ℕ → GenericArgsRead → Meaning Bool
+    unsized_item_checked n gs = unsized_by_item n gs (item_at cx.items.now cx.scope.now n)
+
+    -- a type without a size of its own has none by its last field alone (Rust Reference, "Dynamically Sized Types")
+    unfoldable pub unsized_checked : TyRead → Meaning Bool
+    unsized_checked (adt n gs) = unsized_item_checked n gs
+    unsized_checked _ = Ok true
+
+    -- the tree of a type of which a pointer tells this, where its size is known
+    abbrev pub tree_by_tail : TyRead → Tail → Meaning (Option Tree)
+    tree_by_tail t tail =
+        if has_known_size tail then then_meant (λ whole. Ok (Some whole)) (whole_tree t)
+        else then_meant (λ _. Ok None) (unsized_checked t)
+
     -- the same, and none of a type whose size isn't known
     unfoldable pub sized_tree : TyRead → Meaning (Option Tree)
-    sized_tree t =
-        then_meant (λ _. then_meant (λ tail. if has_known_size tail then then_meant (λ whole. Ok (Some whole)) (whole_tree t) else Ok None)
-        (pointee_tail cx t)) (formed_checked cx t)
+    sized_tree t = then_meant (λ _. then_meant (tree_by_tail t) (pointee_tail cx t)) (formed_checked cx t)

@@ -9,8 +9,9 @@ ghost use Rattle.abi_rust.specs.Types.{all_given, givens, ty_of, types, where_of
 use crate::budget::{Budget, Context, Env, less, most_deep};
 use crate::fault::{FaultKind, Stop, stop_at};
 use crate::owned::{is_item, item_in};
-use crate::paths::{item_at, root_of};
+use crate::paths::item_at;
 use crate::resolve::resolve;
+use crate::tail::is_of_std;
 use crate::ty::{GenericArg, Primitive, Ty};
 use crate::words::Word;
 use rust_source::{Field, Item, ItemKind, Type, Variant};
@@ -19,7 +20,7 @@ use rust_source::{Field, Item, ItemKind, Type, Variant};
 fn is_never_copy(cx: &Context<'_, '_>, item: &Item) -> bool
     ensures { result ≡ is_never_copy cx.now item.now }
 {
-    root_of(cx.items, item.module) == cx.scope.std_root && !item.derives_copy
+    is_of_std(cx, item) && !item.derives_copy
 }
 
 /// Whether a primitive type is `str`.

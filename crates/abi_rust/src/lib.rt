@@ -57,6 +57,7 @@ mod repr;
 mod repr_fields;
 mod scalars;
 mod tree;
+mod unsized_types;
 
 pub use fault::{Fault, FaultKind, FaultPlace};
 pub use report::{Label, ReportShape, TypeReport, VariantLabels};

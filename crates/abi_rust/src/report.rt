@@ -20,6 +20,7 @@ use crate::resolve::resolve;
 use crate::tail::pointee_tail;
 use crate::tree::tree;
 use crate::ty::Ty;
+use crate::unsized_types::check_unsized;
 use abi_tree::TypeTree;
 use rust_source::{Field, FieldName, ItemKind, Place, Symbol, Type, Variant};
 use rustc_abi::lay_out;
@@ -119,6 +120,7 @@ fn sized_tree<'a>(
 {
     check_formed(cx, budget, ty)?;
     if !pointee_tail(cx, budget, ty)?.is_sized() {
+        check_unsized(cx, budget, ty)?;
         return Ok(None);
     }
     let whole = tree(cx, budget, Nesting::alone(), ty)?;

@@ -3,14 +3,14 @@
 ghost use Rattle.std.specs.Prelude.{◌≡◌, IfErr, IfOk, Some, map, true};
 ghost use Rattle.std.specs.Option.{option_copied, option_map};
 ghost use Rattle.abi_rust.specs.Meaning.{Means, is_beside};
-ghost use Rattle.abi_rust.specs.Tails.{always_sized, assumed, field_tail, has_known_size, tail_field, last_of, last_type, may_any, outer_of, pointee_tail, tail_inner, tail_of_item_with, tail_of_last, tail_with};
+ghost use Rattle.abi_rust.specs.Tails.{always_sized, assumed, field_tail, has_known_size, is_of_std, tail_field, last_of, last_type, may_any, outer_of, pointee_tail, tail_inner, tail_of_item_with, tail_of_last, tail_with};
 ghost use Rattle.abi_rust.specs.Types.{all_given, given_of, givens, ty_of, types};
 
 use crate::above::{Nesting, stands_in};
 use crate::budget::{Budget, Context, Instance, push_given};
 use crate::fault::{FaultKind, Stop, stop_at};
 use crate::int::Int;
-use crate::paths::item_at;
+use crate::paths::{item_at, root_of};
 use crate::resolve::resolve;
 use crate::ty::{ConstValue, GenericArg, Primitive, Ty};
 use rust_source::{Field, IntegerKind, Item, ItemKind, Parameter, ParameterKind};
@@ -137,7 +137,7 @@ fn tail_of_found<'a>(
     let Some(item) = item_at(cx.items, number) else {
         return Ok(Tail::Sized);
     };
-    match last_field(item) {
+    match tail_field(cx, item) {
         Some(last) => {
             let instance = Instance {
                 number,
@@ -173,20 +173,33 @@ fn tail_of_field<'a>(
     tail_of(cx, budget, inner, &ty)
 }
 
-/// The last field of a struct or a union.
-fn last_field(item: &Item) -> Option<&Field>
-    ensures { option_copied result ≡ tail_field item.now.kind }
+/// Whether an item stands in the standard library's source.
+pub(crate) fn is_of_std(cx: &Context<'_, '_>, item: &Item) -> bool
+    ensures { result ≡ is_of_std cx.now item.now }
+{
+    root_of(cx.items, item.module) == cx.scope.std_root
+}
+
+/// The field of an item that may be without a size: the last of a struct, and of a union in the standard library's source.
+fn tail_field<'a>(cx: &Context<'_, '_>, item: &'a Item) -> Option<&'a Field>
+    ensures { option_copied result ≡ tail_field cx.now item.now item.now.kind }
 {
     match &item.kind {
         ItemKind::Struct(fields) => last_of(fields.all.as_slice()),
-        ItemKind::Union(fields) => last_of(fields.all.as_slice()),
+        ItemKind::Union(fields) => {
+            if is_of_std(cx, item) {
+                last_of(fields.all.as_slice())
+            } else {
+                None
+            }
+        }
         _ => None,
     }
 }
 
 /// The last of some fields.
 #[tactic(auto, using(crate::proofs::Lasts::last_field_is))]
-fn last_of(fields: &[Field]) -> Option<&Field>
+pub(crate) fn last_of(fields: &[Field]) -> Option<&Field>
     ensures { option_copied result ≡ last_of fields.now }
 {
     fields.last()

@@ -317,7 +317,7 @@ fn checked_trees<'a>(
 /// The trees of fields.
 #[cycle(trees)]
 #[tactic(auto, using(crate::proofs::Trees::fields_more, crate::proofs::Trees::fields_done, crate::proofs::Trees::behind_none))]
-fn trees_of<'a>(
+pub(crate) fn trees_of<'a>(
     cx: &Context<'a, '_>,
     budget: &mut Budget<'a>,
     nesting: Nesting<'_>,
@@ -373,7 +373,7 @@ fn formed_tree<'a>(
 }
 
 /// A fault that has no place, reported at this one.
-fn stop_in(at: Place, stop: Stop) -> Stop
+pub(crate) fn stop_in(at: Place, stop: Stop) -> Stop
     ensures value { result ≡ stop_in at stop }
     ensures beside { is_beside result ≡ is_beside stop }
 {
