@@ -4,6 +4,8 @@ ghost use Rattle.abi_text.specs.LaidOut.{IsLaidOut};
 
 use crate::bytes::{ByteAnswers, is_yes, write_transmuted};
 use crate::crate_files::{CrateFiles, Search, SourceFile};
+use crate::entries::{EntriesAsked, TypeEntry, put_entries};
+use crate::facts::TypeFacts;
 use crate::json::{FaultSpot, JsonLists, TypeContext, fault_value, put_text, type_value};
 use crate::lines::write_lines;
 use crate::mapped::by_name;
@@ -12,10 +14,13 @@ use crate::options::{Form, Options};
 use crate::packages::{PackageCrate, PackageSet, crates_under};
 use crate::place::{Spot, write_fault};
 use crate::pretty::{DeclaredType, write_pretty};
+use crate::savings::{LargestVariant, LayContext, largest_variant, savings_of};
+use crate::savings_text::{PartNames, put_savings, write_savings};
+use crate::waste::waste_of;
 use abi_base::TargetDataLayout;
 use abi_bytes::transmute;
 use abi_map::map_of;
-use abi_rust::{Fault, Sources, TypeReport, data_layout_of};
+use abi_rust::{Fault, ReportShape, Sources, TypeReport, data_layout_of};
 use abi_tree::Laid;
 use rust_source::{CfgTarget, Names, Outline};
 use rustc_abi::{LayError, lay_out};
@@ -65,6 +70,10 @@ pub(crate) struct FileReport {
     pub(crate) text: String,
     /// What is listed, where the report is JSON.
     pub(crate) lists: JsonLists,
+    /// What is reported of the types under one target, until it is put in order.
+    entries: Vec<TypeEntry>,
+    /// The assertions whose types were found, by their places among all.
+    pub(crate) asserted: Vec<usize>,
     /// Lines for standard error.
     pub(crate) notes: String,
 }
@@ -77,6 +86,8 @@ impl FileReport {
             outcome: Outcome::Reported,
             text: String::new(alloc),
             lists: JsonLists::new(alloc),
+            entries: Vec::new(alloc),
+            asserted: Vec::new(alloc),
             notes: String::new(alloc),
         }
     }
@@ -444,6 +455,8 @@ struct NamedType<'a> {
     names: &'a Names,
     name: &'a str,
     report: &'a TypeReport,
+    /// Its largest variant, where that is asked for.
+    largest: Option<LargestVariant>,
 }
 
 /// A name under which a type is reported on, and where that stands.
@@ -483,8 +496,131 @@ fn object_of(
     Ok(Value::Object(object))
 }
 
+/// Writes the report on a laid-out type, in the form that is asked for.
+fn write_entry(
+    entry: &mut TypeEntry,
+    alloc: Global,
+    cx: ReportContext<'_>,
+    ty: NamedType<'_>,
+    laid: &Laid,
+) -> Result<(), LayError>
+    requires { IsLaidOut cx.dl.now laid.now }
+{
+    let name = ty.name;
+    match cx.options.form {
+        Form::Lines => {
+            write!(entry.text, "type {name}\n")?;
+            write_lines(alloc, &mut entry.text, ty.names, &ty.report.shape, laid)?;
+            if cx.options.with_bytes {
+                ByteAnswers::of(alloc, laid)?.write_line(&mut entry.text)?;
+            }
+        }
+        Form::Pretty => {
+            let with = cx.type_context(alloc, ty.names);
+            let declared = DeclaredType {
+                name,
+                shape: &ty.report.shape,
+                tree: &ty.report.tree,
+            };
+            write_pretty(&mut entry.text, with, declared, laid)?;
+        }
+        Form::Map => {
+            let called = by_name(ty.names, &ty.report.shape, laid);
+            let map = map_of(alloc, cx.dl, &called, laid)?;
+            write!(entry.text, "type {name}\n{map}")?;
+        }
+        Form::Json => entry.value = object_of(alloc, cx, ty, laid)?,
+    }
+    Ok(())
+}
+
+/// Writes what could be saved of a laid-out type, in the form that is asked for.
+fn write_entry_savings(
+    entry: &mut TypeEntry,
+    alloc: Global,
+    cx: ReportContext<'_>,
+    ty: NamedType<'_>,
+    laid: &Laid,
+) -> Result<(), LayError> {
+    let shape = &ty.report.shape;
+    let has_parts = !matches!(shape, ReportShape::Plain);
+    let with = LayContext { alloc, dl: cx.dl };
+    let savings = savings_of(with, &ty.report.tree, has_parts, laid, ty.largest)?;
+    entry.waste = savings.waste;
+    let parts = PartNames {
+        names: ty.names,
+        shape,
+    };
+    match &mut entry.value {
+        Value::Object(object) => put_savings(alloc, object, parts, &savings)?,
+        _ => {
+            let start = if cx.options.form == Form::Pretty {
+                "// "
+            } else {
+                ""
+            };
+            write_savings(&mut entry.text, start, parts, &savings)?;
+        }
+    }
+    Ok(())
+}
+
+/// Writes all of the report on a laid-out type.
+fn fill_entry(
+    entry: &mut TypeEntry,
+    alloc: Global,
+    cx: ReportContext<'_>,
+    ty: NamedType<'_>,
+    laid: &Laid,
+) -> Result<(), LayError>
+    requires { IsLaidOut cx.dl.now laid.now }
+{
+    write_entry(entry, alloc, cx, ty, laid)?;
+    if cx.options.with_savings {
+        write_entry_savings(entry, alloc, cx, ty, laid)?;
+    } else if cx.options.selection.counts_waste() {
+        entry.waste = waste_of(alloc, laid)?;
+    }
+    Ok(())
+}
+
 impl FileReport {
-    /// Puts the report on a laid-out type behind the others, in the form that is asked for.
+    /// Puts behind the notes what isn't as it is asserted of the type with this name.
+    fn put_assertions(
+        &mut self,
+        cx: ReportContext<'_>,
+        name: &str,
+        facts: &TypeFacts,
+    ) -> Result<(), AllocError> {
+        for (place, assertion) in cx.options.assertions.iter().enumerate() {
+            if assertion.name == name {
+                self.asserted.push(place)?;
+                if !assertion.holds(&mut self.notes, facts, cx.triple)? {
+                    self.outcome = self.outcome.worse_of(Outcome::Denied);
+                }
+            }
+        }
+        Ok(())
+    }
+
+    /// Tests what is asserted of a laid-out type, where something is.
+    fn test_assertions(
+        &mut self,
+        cx: ReportContext<'_>,
+        ty: NamedType<'_>,
+        laid: &Laid,
+    ) -> Result<(), LayError>
+        requires { IsLaidOut cx.dl.now laid.now }
+    {
+        if cx.options.assertions.is_empty() {
+            return Ok(());
+        }
+        let value = object_of(self.alloc, cx, ty, laid)?;
+        let facts = TypeFacts::of(self.alloc, &value)?;
+        Ok(self.put_assertions(cx, ty.name, &facts)?)
+    }
+
+    /// Puts the report on a laid-out type behind the others, where it is large enough.
     fn put_laid(
         &mut self,
         cx: ReportContext<'_>,
@@ -493,38 +629,15 @@ impl FileReport {
     ) -> Result<(), LayError>
         requires { IsLaidOut cx.dl.now laid.now }
     {
-        let name = ty.name;
-        match cx.options.form {
-            Form::Lines => {
-                write!(self.text, "type {name}\n")?;
-                write_lines(self.alloc, &mut self.text, ty.names, &ty.report.shape, laid)?;
-                if cx.options.with_bytes {
-                    ByteAnswers::of(self.alloc, laid)?.write_line(&mut self.text)?;
-                }
-            }
-            Form::Pretty => {
-                if !self.text.is_empty() {
-                    self.text.push_str("\n")?;
-                }
-                let with = cx.type_context(self.alloc, ty.names);
-                let declared = DeclaredType {
-                    name,
-                    shape: &ty.report.shape,
-                    tree: &ty.report.tree,
-                };
-                write_pretty(&mut self.text, with, declared, laid)?;
-            }
-            Form::Map => {
-                let called = by_name(ty.names, &ty.report.shape, laid);
-                let map = map_of(self.alloc, cx.dl, &called, laid)?;
-                write!(self.text, "type {name}\n{map}")?;
-            }
-            Form::Json => {
-                let object = object_of(self.alloc, cx, ty, laid)?;
-                self.lists.types.push(object)?;
-            }
+        self.test_assertions(cx, ty, laid)?;
+        let mut entry = TypeEntry::new(self.alloc, ty.name, laid)?;
+        if entry.size < cx.options.selection.least_size {
+            return Ok(());
         }
-        Ok(())
+        match fill_entry(&mut entry, self.alloc, cx, ty, laid) {
+            Ok(()) => Ok(self.entries.push(entry)?),
+            Err(error) => Err(error),
+        }
     }
 
     /// Lays out a type, and puts the report on it behind the others.
@@ -533,12 +646,40 @@ impl FileReport {
         self.put_laid(cx, ty, &laid)
     }
 
+    /// Lays out a type with this name, and puts the report on it behind the others.
+    fn put_report(
+        &mut self,
+        cx: ReportContext<'_>,
+        names: &Names,
+        name: &str,
+        report: &mut TypeReport,
+    ) -> Result<(), LayError> {
+        let largest = if cx.options.with_savings {
+            let with = LayContext {
+                alloc: self.alloc,
+                dl: cx.dl,
+            };
+            largest_variant(with, &mut report.tree)?
+        } else {
+            None
+        };
+        let ty = NamedType {
+            names,
+            name,
+            report,
+            largest,
+        };
+        self.put_tree(cx, ty)
+    }
+
     /// Notes that a type has no size of its own.
     fn note_unsized(&mut self, cx: ReportContext<'_>, name: &str) -> Result<(), AllocError> {
-        write!(
-            self.notes,
-            "types: {name} has no size of its own, and is passed over\n"
-        )?;
+        if !cx.options.is_quiet {
+            write!(
+                self.notes,
+                "types: {name} has no size of its own, and is passed over\n"
+            )?;
+        }
         if cx.options.form == Form::Json {
             let mut object = Map::new(self.alloc);
             put_text(self.alloc, &mut object, "name", name)?;
@@ -609,7 +750,7 @@ impl FileReport {
         place: NamePlace<'_>,
         found: Result<Option<TypeReport>, Fault>,
     ) -> Result<(), SourceFailure> {
-        let report = match found {
+        let mut report = match found {
             Ok(Some(report)) => report,
             Ok(None) => return Ok(self.note_unsized(cx, place.name)?),
             Err(fault) => {
@@ -617,12 +758,7 @@ impl FileReport {
                 return self.add_failure(cx, place.name, failure);
             }
         };
-        let ty = NamedType {
-            names: sources.names(),
-            name: place.name,
-            report: &report,
-        };
-        match self.put_tree(cx, ty) {
+        match self.put_report(cx, sources.names(), place.name, &mut report) {
             Ok(()) => Ok(()),
             Err(error) => {
                 let failure = refusal_of(self.alloc, place.name, place.own, error);
@@ -749,6 +885,24 @@ impl FileReport {
         Ok(())
     }
 
+    /// Lists the types under one target, those that are chosen, in their order.
+    fn put_types(&mut self, options: &Options<'_>) -> Result<(), AllocError> {
+        let asked = EntriesAsked {
+            form: options.form,
+            selection: options.selection,
+            with_total: options.with_savings,
+        };
+        put_entries(
+            self.alloc,
+            &mut self.text,
+            &mut self.lists.types,
+            asked,
+            &mut self.entries,
+        )?;
+        self.entries.clear();
+        Ok(())
+    }
+
     /// Reports on the types that were read.
     fn add_types(
         &mut self,
@@ -756,14 +910,18 @@ impl FileReport {
         sources: &mut Sources,
         first: FirstCrate,
     ) -> Result<(), SourceFailure> {
-        write_notes(self.alloc, &mut self.notes, sources, cx.files, first)?;
-        if cx.options.transmutes {
-            self.add_transmuted(cx, sources)
-        } else if cx.options.types.is_empty() {
-            self.add_all(cx, sources)
-        } else {
-            self.add_asked(cx, sources, &cx.options.types)
+        if !cx.options.is_quiet {
+            write_notes(self.alloc, &mut self.notes, sources, cx.files, first)?;
         }
+        if cx.options.transmutes {
+            return self.add_transmuted(cx, sources);
+        }
+        if cx.options.types.is_empty() {
+            self.add_all(cx, sources)?;
+        } else {
+            self.add_asked(cx, sources, &cx.options.types)?;
+        }
+        Ok(self.put_types(cx.options)?)
     }
 
     /// Reads a file, and those of its modules, into these, and reports on their types.

@@ -2,8 +2,10 @@
 #![tactic(auto)]
 
 // What is asked for, and where a fault lies.
+mod assertions;
 mod options;
 mod place;
+mod sorting;
 
 // The files of a crate.
 mod crate_files;
@@ -19,6 +21,7 @@ mod vendored;
 // Types as lines, as maps and as JSON, and the answer to a source.
 mod answer;
 mod bytes;
+mod entries;
 mod json;
 mod labels;
 mod lines;
@@ -26,13 +29,26 @@ mod mapped;
 mod notes;
 mod pretty;
 
+// Types side by side.
+mod compare;
+mod facts;
+
+// What could be saved of types.
+mod least;
+mod savings;
+mod savings_text;
+mod waste;
+
 use crate::answer::{FileFailure, FileReport, Outcome, answer_source};
 use crate::cargo::{CargoFailure, manifest_path};
+use crate::compare::{Column, write_comparison};
 use crate::crate_files::SourceFile;
+use crate::facts::list_in;
 use crate::json::JsonLists;
 use crate::options::{Form, OptionFault, Options, command, is_root, options_of};
 use crate::packages::{PackageSet, crates_under, packages_of};
 use abi_rust::known_triples;
+use serde_json::Value;
 use std::alloc::AllocError;
 use std::collections::HashSet;
 use std::process::ExitCode;
@@ -63,6 +79,30 @@ fn report_memory(rt: &HostRuntime) -> Outcome {
     Outcome::Refused
 }
 
+/// Writes on standard error why the value of an option can't be taken.
+fn report_value(rt: &HostRuntime, fault: OptionFault<'_>) -> io::Result<()> {
+    match fault {
+        OptionFault::UnknownOrder(word) => {
+            eprintln!(rt; "types: --sort lists types by size, waste or name, and not by {word}")
+        }
+        OptionFault::BadNumber(name, text) => {
+            eprintln!(rt; "types: --{name} takes a number below 2^64, and not {text}")
+        }
+        OptionFault::UnknownDenial(name) => {
+            eprintln!(rt; "types: no '{name}' can be denied; 'differences' can")
+        }
+        OptionFault::BadAssertion(text) => {
+            eprintln!(rt; "types: --assert takes TYPE=SIZE or TYPE.FIELD@OFFSET, and not {text}")
+        }
+        OptionFault::FewTargets => {
+            eprintln!(rt;
+                "types: --compare compares the types of two targets at least, which --target names"
+            )
+        }
+        _ => Ok(()),
+    }
+}
+
 /// Writes on standard error why the command line can't be carried out.
 fn report_option(rt: &HostRuntime, fault: OptionFault<'_>) -> Outcome {
     let _ = match fault {
@@ -90,6 +130,7 @@ fn report_option(rt: &HostRuntime, fault: OptionFault<'_>) -> Outcome {
         OptionFault::NoManifest(path) => {
             eprintln!(rt; "types: a manifest is called Cargo.toml, and not {path}")
         }
+        _ => report_value(rt, fault),
     };
     Outcome::Faulty
 }
@@ -112,6 +153,18 @@ struct Progress {
     lists: JsonLists,
     /// Whether standard error has the target that none was named for.
     is_target_noted: bool,
+    /// The assertions whose types were found, by their places among all.
+    asserted: Vec<usize>,
+}
+
+impl Progress {
+    /// Puts the assertions whose types were found behind the others.
+    fn put_asserted(&mut self, asserted: Vec<usize>) -> Result<(), AllocError> {
+        for place in asserted {
+            self.asserted.push(place)?;
+        }
+        Ok(())
+    }
 }
 
 /// Writes the notes of an answer on standard error: the target once, the others behind the file's name where several
@@ -123,7 +176,7 @@ fn print_notes(
     name: Option<&str>,
     notes: &str,
 ) {
-    if !options.names_target && !progress.is_target_noted {
+    if !options.names_target && !options.is_quiet && !progress.is_target_noted {
         progress.is_target_noted = true;
         let _ = rt.eprintln(
             "types: laid out for x86_64-unknown-linux-gnu; --target names another target",
@@ -149,10 +202,14 @@ fn print_answer(
         outcome,
         text,
         lists,
+        asserted,
         notes,
         ..
     } = answer;
     print_notes(rt, options, progress, name, notes.as_str());
+    if progress.put_asserted(asserted).is_err() {
+        return report_memory(rt);
+    }
     if options.form != Form::Json {
         return match rt.print(text.as_str()) {
             Ok(()) => outcome,
@@ -188,6 +245,107 @@ fn print_json(rt: &HostRuntime, options: &Options<'_>, lists: JsonLists) -> Outc
         Ok(()) => Outcome::Reported,
         Err(_) => Outcome::Refused,
     }
+}
+
+/// The columns that are compared: those of the targets, or an earlier answer and now.
+fn columns_of<'a>(
+    rt: &HostRuntime,
+    options: &Options<'a>,
+    types: &[Value],
+    earlier: Option<&Value>,
+) -> Result<Vec<Column<'a>>, AllocError> {
+    let alloc = rt.alloc();
+    let mut columns = Vec::new(alloc);
+    if let Some(earlier) = earlier {
+        let before = list_in(earlier, "types");
+        columns.push(Column::of(alloc, "earlier", before, None)?)?;
+        columns.push(Column::of(alloc, "now", types, None)?)?;
+        return Ok(columns);
+    }
+    for target in &options.targets {
+        let triple = target.triple;
+        columns.push(Column::of(alloc, triple, types, Some(triple))?)?;
+    }
+    Ok(columns)
+}
+
+/// What is written of types that are compared, and whether some differ.
+fn comparison_text(
+    rt: &HostRuntime,
+    options: &Options<'_>,
+    types: &[Value],
+    earlier: Option<&Value>,
+) -> Result<(String, bool), AllocError> {
+    let columns = columns_of(rt, options, types, earlier)?;
+    let mut text = String::new(rt.alloc());
+    match write_comparison(rt.alloc(), &mut text, &columns) {
+        Ok(differ) => Ok((text, differ)),
+        Err(error) => Err(error),
+    }
+}
+
+/// Writes types that are compared on standard output.
+fn print_columns(
+    rt: &HostRuntime,
+    options: &Options<'_>,
+    types: &[Value],
+    earlier: Option<&Value>,
+) -> Outcome {
+    let Ok((text, differ)) = comparison_text(rt, options, types, earlier) else {
+        return report_memory(rt);
+    };
+    match rt.print(text.as_str()) {
+        Ok(()) => if differ && options.denies_differences {
+            Outcome::Denied
+        } else {
+            Outcome::Reported
+        },
+        Err(_) => Outcome::Refused,
+    }
+}
+
+/// Compares types with those of an earlier answer, and writes that on standard output.
+fn print_against(rt: &HostRuntime, options: &Options<'_>, types: &[Value], path: &str) -> Outcome {
+    let text = match fs::read_to_string(rt, path) {
+        Ok(text) => text,
+        Err(error) => {
+            let _ = eprintln!(rt; "types: {path} can't be read: {error}");
+            return Outcome::Refused;
+        }
+    };
+    match Value::from_str(rt.alloc(), text.as_str()) {
+        Ok(earlier) => print_columns(rt, options, types, Some(&earlier)),
+        Err(error) => {
+            let _ = eprintln!(rt; "types: {path} has no earlier answer: {error}");
+            Outcome::Faulty
+        }
+    }
+}
+
+/// Writes what is listed of all files on standard output: as JSON, or compared.
+fn print_lists(rt: &HostRuntime, options: &Options<'_>, lists: JsonLists) -> Outcome {
+    if let Some(path) = options.against {
+        return print_against(rt, options, &lists.types, path);
+    }
+    if options.compares {
+        return print_columns(rt, options, &lists.types, None);
+    }
+    print_json(rt, options, lists)
+}
+
+/// Writes on standard error which assertions are of types that weren't found.
+fn report_assertions(rt: &HostRuntime, options: &Options<'_>, asserted: &[usize]) -> Outcome {
+    let mut outcome = Outcome::Reported;
+    for (place, assertion) in options.assertions.iter().enumerate() {
+        if !asserted.contains(&place) {
+            let name = assertion.name;
+            let _ = eprintln!(rt;
+                "types: nothing is reported of {name}, of which something is asserted"
+            );
+            outcome = Outcome::Denied;
+        }
+    }
+    outcome
 }
 
 /// Reads a source.
@@ -261,7 +419,9 @@ fn report_package(
     path: &str,
 ) -> Result<Outcome, CargoFailure> {
     let sets = packages_of(rt, options, path)?;
-    print_package_notes(rt, &sets)?;
+    if !options.is_quiet {
+        print_package_notes(rt, &sets)?;
+    }
     if let Some(package) = crates_under(&sets, 0).first() {
         let on = package.features_on(rt.alloc())?;
         let root = SourceName {
@@ -332,6 +492,7 @@ fn carry_out(rt: &HostRuntime, options: &Options<'_>) -> Outcome {
     let mut progress = Progress {
         lists: JsonLists::new(rt.alloc()),
         is_target_noted: false,
+        asserted: Vec::new(rt.alloc()),
     };
     if options.prints_targets {
         return print_targets(rt);
@@ -343,8 +504,15 @@ fn carry_out(rt: &HostRuntime, options: &Options<'_>) -> Outcome {
     for name in &options.files {
         outcome = outcome.worse_of(report_file(rt, options, &mut progress, Some(name)));
     }
-    if options.form == Form::Json && (outcome == Outcome::Reported || !progress.lists.is_empty()) {
-        outcome = outcome.worse_of(print_json(rt, options, progress.lists));
+    let Progress {
+        lists,
+        asserted,
+        ..
+    } = progress;
+    outcome = outcome.worse_of(report_assertions(rt, options, &asserted));
+    let is_answered = outcome == Outcome::Reported || outcome == Outcome::Denied;
+    if options.form == Form::Json && (is_answered || !lists.is_empty()) {
+        outcome = outcome.worse_of(print_lists(rt, options, lists));
     }
     outcome
 }

@@ -1,5 +1,7 @@
 //! What the command line asks for.
 
+use crate::assertions::{Assertion, assertion_in};
+use crate::sorting::{Selection, TypeOrder};
 use abi_rust::{Target, nearest_triple, target_named};
 use clap::{Arg, ArgAction, ArgMatches, Command};
 use rust_source::CfgOption;
@@ -34,7 +36,21 @@ pub(crate) struct Options<'a> {
     pub(crate) transmutes: bool,
     /// Whether it is said what may be done with each type's bytes.
     pub(crate) with_bytes: bool,
+    /// Whether it is said what could be saved of each type.
+    pub(crate) with_savings: bool,
     pub(crate) form: Form,
+    /// Which types are listed, and in which order.
+    pub(crate) selection: Selection,
+    /// Whether the types under several targets are compared.
+    pub(crate) compares: bool,
+    /// The file with an earlier answer that these types are compared with.
+    pub(crate) against: Option<&'a str>,
+    /// Whether it is denied that types differ.
+    pub(crate) denies_differences: bool,
+    /// What is asserted of types.
+    pub(crate) assertions: Vec<Assertion<'a>>,
+    /// Whether nothing is noted on standard error but faults and what isn't as it is asserted.
+    pub(crate) is_quiet: bool,
     /// The features of the crates, as Cargo names them.
     pub(crate) features: Vec<&'a str>,
     /// Whether the default features of packages are on, too.
@@ -216,6 +232,89 @@ fn with_form_options<'a>(alloc: Global, command: Command<'a>) -> Result<Command<
     Ok(command)
 }
 
+/// An option that names a number.
+fn number_option<'a>(alloc: Global, name: &'a str, help: &'a str) -> Arg<'a> {
+    Arg::new(alloc, name)
+        .long(name)
+        .value_name("N")
+        .action(ArgAction::Set)
+        .help(help)
+}
+
+/// The options that say which types are listed, and in which order.
+fn with_list_options<'a>(alloc: Global, command: Command<'a>) -> Result<Command<'a>, AllocError> {
+    let sort = Arg::new(alloc, "sort")
+        .long("sort")
+        .value_name("BY")
+        .action(ArgAction::Set)
+        .help(
+            "lists types by 'size' or by 'waste', their padding bytes, the greatest first, or by 'name'",
+        );
+    let limit = number_option(alloc, "limit", "lists at most so many types");
+    let least = number_option(
+        alloc,
+        "min-size",
+        "lists only types of at least so many bytes",
+    );
+    let waste = form_option(
+        alloc,
+        "waste",
+        "says of each type how many bytes are padding, its least size in any order of its fields, and what its largest variant costs",
+    );
+    let command = command.arg(sort)?.arg(limit)?.arg(least)?.arg(waste)?;
+    Ok(command)
+}
+
+/// The options that compare types.
+fn with_comparison_options<'a>(
+    alloc: Global,
+    command: Command<'a>,
+) -> Result<Command<'a>, AllocError> {
+    let compare = form_option(
+        alloc,
+        "compare",
+        "tells only of types that differ between the targets, side by side",
+    )
+    .conflicts_with("json")?
+    .conflicts_with("transmute")?;
+    let against = Arg::new(alloc, "against")
+        .long("against")
+        .value_name("FILE")
+        .action(ArgAction::Set)
+        .help("tells only of types that differ from those of an earlier answer, which --json told")
+        .conflicts_with("compare")?
+        .conflicts_with("json")?
+        .conflicts_with("transmute")?;
+    let deny = Arg::new(alloc, "deny")
+        .long("deny")
+        .value_name("WHAT")
+        .action(ArgAction::Set)
+        .help("ends with status 3 where it is so: 'differences' is all that can be denied");
+    let command = command.arg(compare)?.arg(against)?.arg(deny)?;
+    Ok(command)
+}
+
+/// The options that assert facts of types, and that leave out notes.
+fn with_assertion_options<'a>(
+    alloc: Global,
+    command: Command<'a>,
+) -> Result<Command<'a>, AllocError> {
+    let assert = Arg::new(alloc, "assert")
+        .long("assert")
+        .value_name("FACT")
+        .action(ArgAction::Append)
+        .help(
+            "ends with status 3 where a type's size, 'Packet=24', or a field's offset, 'Packet.len@8', is another; more than one may be named",
+        );
+    let quiet = form_option(
+        alloc,
+        "quiet",
+        "notes nothing on standard error beside faults",
+    );
+    let command = command.arg(assert)?.arg(quiet)?;
+    Ok(command)
+}
+
 /// The options that say what is read, and the files.
 fn with_source_options<'a>(alloc: Global, command: Command<'a>) -> Result<Command<'a>, AllocError> {
     let root = form_option(
@@ -245,6 +344,9 @@ pub(crate) fn command<'a>(alloc: Global) -> Result<Command<'a>, AllocError> {
     let command = with_type_options(alloc, command)?;
     let command = with_source_options(alloc, command)?;
     let command = with_form_options(alloc, command)?;
+    let command = with_list_options(alloc, command)?;
+    let command = with_comparison_options(alloc, command)?;
+    let command = with_assertion_options(alloc, command)?;
     with_feature_options(alloc, command)
 }
 
@@ -264,6 +366,16 @@ pub(crate) enum OptionFault<'a> {
     ManyFiles,
     /// A manifest has another name.
     NoManifest(&'a str),
+    /// Types can't be listed by this.
+    UnknownOrder(&'a str),
+    /// What an option of this name has behind it is no number below 2^64.
+    BadNumber(&'static str, &'a str),
+    /// Nothing of this name can be denied.
+    UnknownDenial(&'a str),
+    /// What is asserted is neither a size nor an offset.
+    BadAssertion(&'a str),
+    /// Types are compared under several targets, and one alone was named, or none.
+    FewTargets,
 }
 
 impl From<AllocError> for OptionFault<'_> {
@@ -377,7 +489,8 @@ fn cfg_options_of<'a>(
 
 /// The form that was picked.
 fn form_of(matches: &ArgMatches<'_>) -> Form {
-    if matches.get_flag("json") {
+    let compares = matches.get_flag("compare") | matches.get_str("against").is_some();
+    if compares | matches.get_flag("json") {
         Form::Json
     } else if matches.get_flag("map") | matches.get_flag("svg") {
         Form::Map
@@ -435,6 +548,98 @@ fn prints_targets<'a>(matches: &ArgMatches<'a>) -> Result<bool, OptionFault<'a>>
     }
 }
 
+/// By what types are listed, where that is said.
+fn sort_key<'a>(matches: &ArgMatches<'a>) -> Result<Option<TypeOrder>, OptionFault<'a>> {
+    match matches.get_str("sort") {
+        None => Ok(None),
+        Some("size") => Ok(Some(TypeOrder::Size)),
+        Some("waste") => Ok(Some(TypeOrder::Waste)),
+        Some("name") => Ok(Some(TypeOrder::Name)),
+        Some(word) => Err(OptionFault::UnknownOrder(word)),
+    }
+}
+
+/// The number behind an option, where it is there.
+fn number_of<'a>(
+    matches: &ArgMatches<'a>,
+    name: &'static str,
+) -> Result<Option<u64>, OptionFault<'a>> {
+    match matches.get_str(name) {
+        None => Ok(None),
+        Some(text) => match text.parse::<u64>() {
+            Ok(number) => Ok(Some(number)),
+            Err(_) => Err(OptionFault::BadNumber(name, text)),
+        },
+    }
+}
+
+/// Which types are listed, and in which order.
+fn selection_of<'a>(matches: &ArgMatches<'a>) -> Result<Selection, OptionFault<'a>> {
+    let most = number_of(matches, "limit")?;
+    Ok(Selection {
+        key: sort_key(matches)?,
+        most: most.map(|most| usize::try_from(most).unwrap_or(usize::MAX)),
+        least_size: number_of(matches, "min-size")?.unwrap_or(0),
+    })
+}
+
+/// What is asserted of types.
+fn assertions_of<'a>(
+    alloc: Global,
+    texts: &[&'a str],
+) -> Result<Vec<Assertion<'a>>, OptionFault<'a>> {
+    let mut all = Vec::new(alloc);
+    for text in texts {
+        let Some(assertion) = assertion_in(text) else {
+            return Err(OptionFault::BadAssertion(text));
+        };
+        all.push(assertion).map_err(AllocError::from)?;
+    }
+    Ok(all)
+}
+
+/// Whether it is denied that types differ.
+fn denies_differences<'a>(matches: &ArgMatches<'a>) -> Result<bool, OptionFault<'a>> {
+    match matches.get_str("deny") {
+        None => Ok(false),
+        Some("differences") => Ok(true),
+        Some(name) => Err(OptionFault::UnknownDenial(name)),
+    }
+}
+
+/// Refuses to compare the types of fewer than two targets.
+fn refuse_few_targets<'a>(matches: &ArgMatches<'a>) -> Result<(), OptionFault<'a>> {
+    let named = matches.get_strs("target").unwrap_or(&[]);
+    if matches.get_flag("compare") && named.len() < 2 {
+        return Err(OptionFault::FewTargets);
+    }
+    Ok(())
+}
+
+/// Refuses a picture of more than one type or file, or of none.
+fn refuse_pictures<'a>(
+    matches: &ArgMatches<'a>,
+    types: &[&str],
+    files: &[&str],
+) -> Result<(), OptionFault<'a>> {
+    if matches.get_flag("svg") && types.len() != 1 {
+        return Err(OptionFault::ManyTypes);
+    }
+    if matches.get_flag("svg") && files.len() > 1 {
+        return Err(OptionFault::ManyFiles);
+    }
+    Ok(())
+}
+
+/// The targets that are asked for: those that are named, or the one where none is.
+fn asked_targets<'a>(alloc: Global, named: &[&'a str]) -> Result<Vec<Target>, OptionFault<'a>> {
+    if named.is_empty() {
+        Ok(default_targets(alloc)?)
+    } else {
+        targets_of(alloc, named)
+    }
+}
+
 /// The names of the types that are asked for, by the one option or by the other.
 fn type_names<'a>(alloc: Global, matches: &ArgMatches<'a>) -> Result<Vec<&'a str>, AllocError> {
     let mut names = words_of(alloc, matches.get_strs("type").unwrap_or(&[]))?;
@@ -449,36 +654,35 @@ pub(crate) fn options_of<'a>(
     alloc: Global,
     matches: &ArgMatches<'a>,
 ) -> Result<Options<'a>, OptionFault<'a>> {
+    let selection = selection_of(matches)?;
+    let prints_targets = prints_targets(matches)?;
+    let denies_differences = denies_differences(matches)?;
+    refuse_few_targets(matches)?;
     let types = type_names(alloc, matches)?;
     let named = matches.get_strs("file").unwrap_or(&[]);
-    let files = files_of(
-        alloc,
-        named,
-        matches.get_strs("manifest-path").unwrap_or(&[]),
-    )?;
-    if matches.get_flag("svg") && types.len() != 1 {
-        return Err(OptionFault::ManyTypes);
-    }
-    if matches.get_flag("svg") && files.len() > 1 {
-        return Err(OptionFault::ManyFiles);
-    }
+    let manifests = matches.get_strs("manifest-path").unwrap_or(&[]);
+    let files = files_of(alloc, named, manifests)?;
+    refuse_pictures(matches, &types, &files)?;
     let mut features = features_of(alloc, matches.get_strs("features").unwrap_or(&[]))?;
     let set = matches.get_strs("cfg").unwrap_or(&[]);
     let cfg_options = cfg_options_of(alloc, set, &mut features)?;
     let named = matches.get_strs("target").unwrap_or(&[]);
-    let names_target = !named.is_empty();
-    let targets = if names_target {
-        targets_of(alloc, named)?
-    } else {
-        default_targets(alloc)?
-    };
+    let targets = asked_targets(alloc, named)?;
+    let assertions = assertions_of(alloc, matches.get_strs("assert").unwrap_or(&[]))?;
     Ok(Options {
         targets,
-        names_target,
+        names_target: !named.is_empty(),
         types,
         transmutes: matches.get_strs("transmute").is_some(),
         with_bytes: matches.get_flag("bytes"),
+        with_savings: matches.get_flag("waste"),
         form: form_of(matches),
+        selection,
+        compares: matches.get_flag("compare"),
+        against: matches.get_str("against"),
+        denies_differences,
+        assertions,
+        is_quiet: matches.get_flag("quiet"),
         features,
         with_default_features: !matches.get_flag("no-default-features"),
         with_all_features: matches.get_flag("all-features"),
@@ -487,6 +691,6 @@ pub(crate) fn options_of<'a>(
         files,
         are_roots: matches.get_flag("root"),
         is_strict: matches.get_flag("strict"),
-        prints_targets: prints_targets(matches)?,
+        prints_targets,
     })
 }
