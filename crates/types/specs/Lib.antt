@@ -9,3 +9,5 @@ pub mod LeastOrder
 pub mod Sorting
 -- how many bytes no value covers
 pub mod Waste
+-- text in a page
+pub mod Escape
