@@ -21,7 +21,7 @@ pub(crate) struct TypeFacts {
 }
 
 /// A number of an object; 0 where it has none of this name.
-fn number_in(object: &Value, key: &str) -> u64 {
+pub(crate) fn number_in(object: &Value, key: &str) -> u64 {
     match object.get(key) {
         Some(value) => value.as_u64().unwrap_or(0),
         None => 0,

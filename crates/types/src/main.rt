@@ -29,6 +29,11 @@ mod mapped;
 mod notes;
 mod pretty;
 
+// Types as a page.
+mod escape;
+mod page;
+mod page_marks;
+
 // Types side by side.
 mod compare;
 mod facts;
@@ -47,10 +52,12 @@ use crate::facts::list_in;
 use crate::json::JsonLists;
 use crate::options::{Form, OptionFault, Options, command, is_root, options_of};
 use crate::packages::{PackageSet, crates_under, packages_of};
+use crate::page::page_of;
 use abi_rust::known_triples;
 use serde_json::Value;
 use std::alloc::AllocError;
 use std::collections::HashSet;
+use std::io::Write;
 use std::process::ExitCode;
 use std::{env, fs, io};
 
@@ -322,13 +329,28 @@ fn print_against(rt: &HostRuntime, options: &Options<'_>, types: &[Value], path:
     }
 }
 
-/// Writes what is listed of all files on standard output: as JSON, or compared.
+/// Writes the page of these lists on standard output.
+fn print_page(rt: &HostRuntime, lists: &JsonLists) -> Outcome {
+    let Ok(page) = page_of(rt.alloc(), lists) else {
+        return report_memory(rt);
+    };
+    let mut output = io::writer(rt);
+    if output.write_all(&page).is_err() || output.flush().is_err() {
+        return Outcome::Refused;
+    }
+    Outcome::Reported
+}
+
+/// Writes what is listed of all files on standard output: as JSON, as a page, or compared.
 fn print_lists(rt: &HostRuntime, options: &Options<'_>, lists: JsonLists) -> Outcome {
     if let Some(path) = options.against {
         return print_against(rt, options, &lists.types, path);
     }
     if options.compares {
         return print_columns(rt, options, &lists.types, None);
+    }
+    if options.is_page {
+        return print_page(rt, &lists);
     }
     print_json(rt, options, lists)
 }

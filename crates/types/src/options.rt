@@ -41,6 +41,8 @@ pub(crate) struct Options<'a> {
     pub(crate) form: Form,
     /// Which types are listed, and in which order.
     pub(crate) selection: Selection,
+    /// Whether the report is a page of HTML, which is written from what JSON has.
+    pub(crate) is_page: bool,
     /// Whether the types under several targets are compared.
     pub(crate) compares: bool,
     /// The file with an earlier answer that these types are compared with.
@@ -232,6 +234,20 @@ fn with_form_options<'a>(alloc: Global, command: Command<'a>) -> Result<Command<
     Ok(command)
 }
 
+/// The option that asks for a page.
+fn with_page_option<'a>(alloc: Global, command: Command<'a>) -> Result<Command<'a>, AllocError> {
+    let page = form_option(
+        alloc,
+        "html",
+        "writes them as one page of HTML with pictures, which asks for nothing from elsewhere",
+    )
+    .conflicts_with("json")?
+    .conflicts_with("pretty")?
+    .conflicts_with("map")?
+    .conflicts_with("svg")?;
+    command.arg(page)
+}
+
 /// An option that names a number.
 fn number_option<'a>(alloc: Global, name: &'a str, help: &'a str) -> Arg<'a> {
     Arg::new(alloc, name)
@@ -344,6 +360,7 @@ pub(crate) fn command<'a>(alloc: Global) -> Result<Command<'a>, AllocError> {
     let command = with_type_options(alloc, command)?;
     let command = with_source_options(alloc, command)?;
     let command = with_form_options(alloc, command)?;
+    let command = with_page_option(alloc, command)?;
     let command = with_list_options(alloc, command)?;
     let command = with_comparison_options(alloc, command)?;
     let command = with_assertion_options(alloc, command)?;
@@ -490,7 +507,7 @@ fn cfg_options_of<'a>(
 /// The form that was picked.
 fn form_of(matches: &ArgMatches<'_>) -> Form {
     let compares = matches.get_flag("compare") | matches.get_str("against").is_some();
-    if compares | matches.get_flag("json") {
+    if compares | matches.get_flag("json") | matches.get_flag("html") {
         Form::Json
     } else if matches.get_flag("map") | matches.get_flag("svg") {
         Form::Map
@@ -678,6 +695,7 @@ pub(crate) fn options_of<'a>(
         with_savings: matches.get_flag("waste"),
         form: form_of(matches),
         selection,
+        is_page: matches.get_flag("html"),
         compares: matches.get_flag("compare"),
         against: matches.get_str("against"),
         denies_differences,

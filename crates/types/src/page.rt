@@ -1,6 +1,7 @@
 //! A report as one page of HTML, which asks for nothing from elsewhere.
 
 use crate::escape::write_escaped;
+use crate::facts::{list_in, number_in, text_in};
 use crate::json::JsonLists;
 use crate::page_marks::{FIELDS_HEAD, FOOT, HEAD, LIST_FOOT, LIST_HEAD};
 use serde_json::Value;
@@ -16,7 +17,7 @@ struct Page {
 
 impl Page {
     /// Writes tags, and what else is of the page's own.
-    fn put(&mut self, tags: &str) -> Result<(), AllocError> {
+    fn put_tags(&mut self, tags: &str) -> Result<(), AllocError> {
         self.bytes.extend_from_slice(tags.as_bytes())
     }
 
@@ -28,37 +29,24 @@ impl Page {
     /// Writes a number.
     fn put_number(&mut self, number: u64) -> Result<(), AllocError> {
         let digits = format!(in self.alloc; "{number}")?;
-        self.put(digits.as_str())
+        self.put_tags(digits.as_str())
     }
 
     /// Writes a cell of a row with a number, marked where it isn't as in the first layout.
     fn put_cell(&mut self, number: u64, first: u64) -> Result<(), AllocError> {
-        self.put(if number == first {
+        self.put_tags(if number == first {
             "<td>"
         } else {
             "<td class=\"differs\">"
         })?;
         self.put_number(number)?;
-        self.put("</td>")
+        self.put_tags("</td>")
     }
 }
 
 /// The text of a member, which is empty where there is none.
-fn text_in<'a>(value: &'a Value, key: &str) -> &'a str {
-    value.get(key).and_then(Value::as_str).unwrap_or("")
-}
-
-/// The number of a member, 0 where there is none.
-fn number_in(value: &Value, key: &str) -> u64 {
-    value.get(key).and_then(Value::as_u64).unwrap_or(0)
-}
-
-/// The list of a member, which is empty where there is none.
-fn list_in<'a>(value: &'a Value, key: &str) -> &'a [Value] {
-    match value.get(key).and_then(Value::as_array) {
-        Some(all) => all.as_slice(),
-        None => &[],
-    }
+fn name_in<'a>(value: &'a Value, key: &str) -> &'a str {
+    text_in(value, key).unwrap_or("")
 }
 
 /// The first byte of a run, and the one behind its last.
@@ -84,7 +72,7 @@ fn padding_of(ty: &Value) -> u64 {
 
 /// Bytes that have a name.
 #[derive(Clone, Copy)]
-struct Part<'a> {
+struct NamedBytes<'a> {
     /// The variant that it is of, where it is of one.
     variant: &'a str,
     name: &'a str,
@@ -93,12 +81,12 @@ struct Part<'a> {
     size: u64,
 }
 
-/// A field as a part.
-fn part_of<'a>(variant: &'a str, field: &'a Value) -> Part<'a> {
-    Part {
+/// The bytes of a field.
+fn bytes_of_field<'a>(variant: &'a str, field: &'a Value) -> NamedBytes<'a> {
+    NamedBytes {
         variant,
-        name: text_in(field, "name"),
-        ty: text_in(field, "type"),
+        name: name_in(field, "name"),
+        ty: name_in(field, "type"),
         offset: number_in(field, "offset"),
         size: number_in(field, "size"),
     }
@@ -112,43 +100,43 @@ fn size_of_primitive(name: &str) -> u64 {
     }
 }
 
-/// A tag as a part.
-fn tag_part(tag: &Value) -> Part<'_> {
-    Part {
+/// The bytes of a tag.
+fn bytes_of_tag(tag: &Value) -> NamedBytes<'_> {
+    NamedBytes {
         variant: "",
         name: "tag",
-        ty: text_in(tag, "primitive"),
+        ty: name_in(tag, "primitive"),
         offset: number_in(tag, "offset"),
-        size: size_of_primitive(text_in(tag, "primitive")),
+        size: size_of_primitive(name_in(tag, "primitive")),
     }
 }
 
 /// Writes what a part is called, as Rust has it: the name of its variant before its own.
-fn write_part_name(page: &mut Page, part: Part<'_>) -> Result<(), AllocError> {
+fn write_part_name(page: &mut Page, part: NamedBytes<'_>) -> Result<(), AllocError> {
     if !part.variant.is_empty() {
         page.put_text(part.variant)?;
-        page.put(".")?;
+        page.put_tags(".")?;
     }
     page.put_text(part.name)
 }
 
 /// Writes a part into the picture of its type.
-fn write_block(page: &mut Page, part: Part<'_>, kind: &str) -> Result<(), AllocError> {
-    page.put("<span class=\"")?;
-    page.put(kind)?;
-    page.put("\" style=\"--at:")?;
+fn write_block(page: &mut Page, part: NamedBytes<'_>, kind: &str) -> Result<(), AllocError> {
+    page.put_tags("<span class=\"")?;
+    page.put_tags(kind)?;
+    page.put_tags("\" style=\"--at:")?;
     page.put_number(part.offset)?;
-    page.put(";--of:")?;
+    page.put_tags(";--of:")?;
     page.put_number(part.size)?;
-    page.put("\" title=\"")?;
+    page.put_tags("\" title=\"")?;
     write_part_name(page, part)?;
-    page.put(", bytes ")?;
+    page.put_tags(", bytes ")?;
     page.put_number(part.offset)?;
-    page.put(" to ")?;
+    page.put_tags(" to ")?;
     page.put_number(part.offset.saturating_add(part.size))?;
-    page.put("\">")?;
+    page.put_tags("\">")?;
     page.put_text(part.name)?;
-    page.put("</span>")
+    page.put_tags("</span>")
 }
 
 /// Writes a picture of the bytes of a type, with these fields of it, or of one of its variants, and with its tag.
@@ -162,30 +150,34 @@ fn write_picture(
     if size == 0 {
         return Ok(());
     }
-    page.put("<div class=\"map\" aria-hidden=\"true\" style=\"--all:")?;
+    page.put_tags("<div class=\"map\" aria-hidden=\"true\" style=\"--all:")?;
     page.put_number(size)?;
-    page.put("\">")?;
+    page.put_tags("\">")?;
     for field in fields {
-        write_block(page, part_of(variant, field), "part")?;
+        write_block(page, bytes_of_field(variant, field), "part")?;
     }
     if let Some(tag) = ty.get("tag") {
         if tag.is_object() {
-            write_block(page, tag_part(tag), "tag")?;
+            write_block(page, bytes_of_tag(tag), "tag")?;
         }
     }
-    page.put("</div>")
+    page.put_tags("</div>")
 }
 
 /// Writes a row for a field, beside the same one of the first layout.
-fn write_field(page: &mut Page, part: Part<'_>, first: Part<'_>) -> Result<(), AllocError> {
-    page.put("<tr><th scope=\"row\">")?;
+fn write_field(
+    page: &mut Page,
+    part: NamedBytes<'_>,
+    first: NamedBytes<'_>,
+) -> Result<(), AllocError> {
+    page.put_tags("<tr><th scope=\"row\">")?;
     write_part_name(page, part)?;
-    page.put("</th><td><code>")?;
+    page.put_tags("</th><td><code>")?;
     page.put_text(part.ty)?;
-    page.put("</code></td>")?;
+    page.put_tags("</code></td>")?;
     page.put_cell(part.offset, first.offset)?;
     page.put_cell(part.size, first.size)?;
-    page.put("</tr>")
+    page.put_tags("</tr>")
 }
 
 /// Writes a row for each field, beside those of the first layout; nothing where there are none.
@@ -198,16 +190,16 @@ fn write_fields<'a>(
     if fields.is_empty() {
         return Ok(());
     }
-    page.put(FIELDS_HEAD)?;
+    page.put_tags(FIELDS_HEAD)?;
     for (index, field) in fields.iter().enumerate() {
-        let part = part_of(variant, field);
+        let part = bytes_of_field(variant, field);
         let first = match firsts.get(index) {
-            Some(first) => part_of(variant, first),
+            Some(first) => bytes_of_field(variant, first),
             None => part,
         };
         write_field(page, part, first)?;
     }
-    page.put("</tbody></table>")
+    page.put_tags("</tbody></table>")
 }
 
 /// A type's layout, and the first one of that name, which it is compared with.
@@ -224,29 +216,29 @@ fn write_variant(
     index: usize,
     variant: &Value,
 ) -> Result<(), AllocError> {
-    let name = text_in(variant, "name");
+    let name = name_in(variant, "name");
     let fields = list_in(variant, "fields");
     let firsts = match list_in(compared.first, "variants").get(index) {
         Some(first) => list_in(first, "fields"),
         None => &[],
     };
-    page.put("<figure><figcaption>")?;
+    page.put_tags("<figure><figcaption>")?;
     page.put_text(name)?;
-    page.put("</figcaption>")?;
+    page.put_tags("</figcaption>")?;
     write_picture(page, compared.ty, name, fields)?;
     write_fields(page, name, fields, firsts)?;
-    page.put("</figure>")
+    page.put_tags("</figure>")
 }
 
 /// Writes the parts of a type: its fields, or its variants beside one another.
 fn write_parts(page: &mut Page, compared: Compared<'_>) -> Result<(), AllocError> {
     if compared.ty.get("variants").is_some() {
-        page.put("<div class=\"variants\">")?;
+        page.put_tags("<div class=\"variants\">")?;
         let variants = list_in(compared.ty, "variants");
         for (index, variant) in variants.iter().enumerate() {
             write_variant(page, compared, index, variant)?;
         }
-        return page.put("</div>");
+        return page.put_tags("</div>");
     }
     let fields = list_in(compared.ty, "fields");
     write_picture(page, compared.ty, "", fields)?;
@@ -261,15 +253,15 @@ fn write_scalar(page: &mut Page, word: &str, scalar: Option<&Value>) -> Result<(
     if !scalar.is_object() {
         return Ok(());
     }
-    page.put("<p>")?;
-    page.put(word)?;
-    page.put(" at ")?;
+    page.put_tags("<p>")?;
+    page.put_tags(word)?;
+    page.put_tags(" at ")?;
     page.put_number(number_in(scalar, "offset"))?;
-    page.put(": <code>")?;
-    page.put_text(text_in(scalar, "primitive"))?;
-    page.put(" ")?;
-    page.put_text(text_in(scalar, "range"))?;
-    page.put("</code></p>")
+    page.put_tags(": <code>")?;
+    page.put_text(name_in(scalar, "primitive"))?;
+    page.put_tags(" ")?;
+    page.put_text(name_in(scalar, "range"))?;
+    page.put_tags("</code></p>")
 }
 
 /// Writes which bytes are padding; nothing where none are.
@@ -278,41 +270,41 @@ fn write_padding(page: &mut Page, ty: &Value) -> Result<(), AllocError> {
     if runs.is_empty() {
         return Ok(());
     }
-    page.put("<p>Padding:")?;
+    page.put_tags("<p>Padding:")?;
     for run in runs {
         let (start, end) = ends_of(run);
-        page.put(" ")?;
+        page.put_tags(" ")?;
         page.put_number(start)?;
-        page.put("..")?;
+        page.put_tags("..")?;
         page.put_number(end)?;
     }
-    page.put("</p>")
+    page.put_tags("</p>")
 }
 
 /// Writes a number under a word, marked where it isn't as in the first layout.
 fn write_measure(page: &mut Page, word: &str, number: u64, first: u64) -> Result<(), AllocError> {
-    page.put("<dt>")?;
-    page.put(word)?;
-    page.put(if number == first {
+    page.put_tags("<dt>")?;
+    page.put_tags(word)?;
+    page.put_tags(if number == first {
         "</dt><dd>"
     } else {
         "</dt><dd class=\"differs\">"
     })?;
     page.put_number(number)?;
-    page.put("</dd>")
+    page.put_tags("</dd>")
 }
 
 /// Writes the layout of a type under one target.
 fn write_layout(page: &mut Page, compared: Compared<'_>) -> Result<(), AllocError> {
     let Compared { ty, first } = compared;
-    page.put("<div class=\"layout\">")?;
-    let target = text_in(ty, "target");
+    page.put_tags("<div class=\"layout\">")?;
+    let target = name_in(ty, "target");
     if !target.is_empty() {
-        page.put("<h3>")?;
+        page.put_tags("<h3>")?;
         page.put_text(target)?;
-        page.put("</h3>")?;
+        page.put_tags("</h3>")?;
     }
-    page.put("<dl>")?;
+    page.put_tags("<dl>")?;
     write_measure(
         page,
         "Size",
@@ -325,12 +317,12 @@ fn write_layout(page: &mut Page, compared: Compared<'_>) -> Result<(), AllocErro
         number_in(ty, "align"),
         number_in(first, "align"),
     )?;
-    page.put("</dl>")?;
+    page.put_tags("</dl>")?;
     write_parts(page, compared)?;
     write_scalar(page, "Tag", ty.get("tag"))?;
     write_scalar(page, "Largest niche", ty.get("niche"))?;
     write_padding(page, ty)?;
-    page.put("</div>")
+    page.put_tags("</div>")
 }
 
 /// Writes the layouts of a type under each target, beside one another.
@@ -338,15 +330,15 @@ fn write_type(page: &mut Page, layouts: &[&Value]) -> Result<(), AllocError> {
     let Some(first) = layouts.first() else {
         return Ok(());
     };
-    page.put("<section id=\"")?;
-    page.put_text(text_in(first, "name"))?;
-    page.put("\"><h2>")?;
-    page.put_text(text_in(first, "name"))?;
-    page.put("</h2><div class=\"layouts\">")?;
+    page.put_tags("<section id=\"")?;
+    page.put_text(name_in(first, "name"))?;
+    page.put_tags("\"><h2>")?;
+    page.put_text(name_in(first, "name"))?;
+    page.put_tags("</h2><div class=\"layouts\">")?;
     for ty in layouts {
         write_layout(page, Compared { ty, first })?;
     }
-    page.put("</div></section>")
+    page.put_tags("</div></section>")
 }
 
 /// Writes a type's row in the list of all: its name, which leads to its layouts, its size, its alignment and its padding.
@@ -354,11 +346,11 @@ fn write_row(page: &mut Page, layouts: &[&Value]) -> Result<(), AllocError> {
     let Some(first) = layouts.first() else {
         return Ok(());
     };
-    page.put("<tr><th scope=\"row\"><a href=\"#")?;
-    page.put_text(text_in(first, "name"))?;
-    page.put("\">")?;
-    page.put_text(text_in(first, "name"))?;
-    page.put("</a></th>")?;
+    page.put_tags("<tr><th scope=\"row\"><a href=\"#")?;
+    page.put_text(name_in(first, "name"))?;
+    page.put_tags("\">")?;
+    page.put_text(name_in(first, "name"))?;
+    page.put_tags("</a></th>")?;
     for number in [
         number_in(first, "size"),
         number_in(first, "align"),
@@ -366,7 +358,7 @@ fn write_row(page: &mut Page, layouts: &[&Value]) -> Result<(), AllocError> {
     ] {
         page.put_cell(number, number)?;
     }
-    page.put("</tr>")
+    page.put_tags("</tr>")
 }
 
 /// The layouts of each type, by its name and the file that it is of, in the order in which they come.
@@ -377,7 +369,7 @@ fn layouts_by_name<'a>(
     let mut places: HashMap<(&str, &str), usize> = HashMap::new(alloc);
     let mut groups: Vec<Vec<&Value>> = Vec::new(alloc);
     for ty in types {
-        let key = (text_in(ty, "file"), text_in(ty, "name"));
+        let key = (name_in(ty, "file"), name_in(ty, "name"));
         let known = places
             .get(&key)
             .copied()
@@ -398,19 +390,19 @@ fn write_faults(page: &mut Page, faults: &[Value]) -> Result<(), AllocError> {
     if faults.is_empty() {
         return Ok(());
     }
-    page.put("<section><h2>Faults</h2><ul>")?;
+    page.put_tags("<section><h2>Faults</h2><ul>")?;
     for fault in faults {
-        page.put("<li>")?;
+        page.put_tags("<li>")?;
         if let Some(place) = fault.get("place") {
-            page.put_text(text_in(place, "file"))?;
-            page.put(":")?;
+            page.put_text(name_in(place, "file"))?;
+            page.put_tags(":")?;
             page.put_number(number_in(place, "line"))?;
-            page.put(": ")?;
+            page.put_tags(": ")?;
         }
-        page.put_text(text_in(fault, "text"))?;
-        page.put("</li>")?;
+        page.put_text(name_in(fault, "text"))?;
+        page.put_tags("</li>")?;
     }
-    page.put("</ul></section>")
+    page.put_tags("</ul></section>")
 }
 
 /// The page of a report: a list of all types, which can be searched and sorted, and each type's layouts, as pictures and as
@@ -421,17 +413,17 @@ pub(crate) fn page_of(alloc: Global, lists: &JsonLists) -> Result<Vec<u8>, Alloc
         alloc,
         bytes: Vec::new(alloc),
     };
-    page.put(HEAD)?;
-    page.put(LIST_HEAD)?;
+    page.put_tags(HEAD)?;
+    page.put_tags(LIST_HEAD)?;
     for group in &groups {
         write_row(&mut page, group.as_slice())?;
     }
-    page.put(LIST_FOOT)?;
+    page.put_tags(LIST_FOOT)?;
     for group in &groups {
         write_type(&mut page, group.as_slice())?;
     }
     write_faults(&mut page, lists.faults.as_slice())?;
-    page.put(FOOT)?;
+    page.put_tags(FOOT)?;
     let Page { alloc: _, bytes } = page;
     Ok(bytes)
 }
