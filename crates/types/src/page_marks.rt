@@ -44,7 +44,12 @@ figure { margin: 0; min-width: 16rem; flex: 1; }
 pub(crate) const LIST_HEAD: &str =
     r##"<p class="search"><label>Search <input type="search" id="search" autocomplete="off"></label></p>
 <table id="types">
-<thead><tr><th scope="col"><button type="button">Type</button></th><th scope="col"><button type="button">Size</button></th><th scope="col"><button type="button">Alignment</button></th><th scope="col"><button type="button">Padding</button></th></tr></thead>
+<thead><tr>
+<th scope="col"><button type="button">Type</button></th>
+<th scope="col"><button type="button">Size</button></th>
+<th scope="col"><button type="button">Alignment</button></th>
+<th scope="col"><button type="button">Padding</button></th>
+</tr></thead>
 <tbody>
 "##;
 
