@@ -1,8 +1,8 @@
 //! Targets: their data layouts, and what `cfg` asks of them.
 
-ghost use Rattle.std.specs.Prelude.{◌≡◌, IfErr, IfOk, IfSome, bytes_eq, true};
+ghost use Rattle.std.specs.Prelude.{◌++◌, ◌+◌, ◌≡◌, All, IfErr, IfOk, IfSome, bytes_eq, length, map, option_map, true};
 ghost use Rattle.abi_base.specs.DataLayoutFault.{NamesFault};
-ghost use Rattle.abi_rust.specs.Targets.{IsDataLayoutOf, string_said};
+ghost use Rattle.abi_rust.specs.Targets.{IsDataLayoutOf, IsNear, IsNoFarther, string_said};
 
 mod features;
 mod processors;
@@ -110,29 +110,66 @@ pub fn target_named(triple: &str) -> Option<Target>
     None
 }
 
-/// The triples of the targets that are known. An error comes where a growth of memory was refused, here and below.
-pub fn known_triples(alloc: Global) -> Result<Vec<&'static str>, AllocError> {
-    let mut triples = Vec::new(alloc);
-    for table in 0..TABLES {
-        for row in rows_of(table) {
-            triples.push(row.0)?;
-        }
+/// Puts the triples of these rows behind others. An error comes where a growth of memory was refused, here and below.
+fn with_triples_of(
+    triples: Vec<&'static str>,
+    rows: &'static [Row],
+) -> Result<Vec<&'static str>, AllocError>
+    ensures rows { IfOk result (λ all. map (λ triple. triple.now) all.items ≡
+        map (λ triple. triple.now) triples.entry.items ++ map (λ row. row.0.now) rows.now) }
+    ensures count { IfOk result (λ all. length all.items ≡ length triples.entry.items + length rows.now) }
+{
+    let mut all = triples;
+    for row in rows {
+        all.push(row.0)?;
     }
-    Ok(triples)
+    Ok(all)
 }
 
-/// The triple of a known target that differs from this text by the fewest letters, and by at most half as many as it has.
-pub fn nearest_triple(alloc: Global, text: &str) -> Result<Option<&'static str>, AllocError> {
+/// How many targets are known.
+const KNOWN: usize = 70;
+
+/// The triples of the targets that are known.
+pub fn known_triples(alloc: Global) -> Result<Vec<&'static str>, AllocError>
+    ensures each_target { IfOk result (λ triples. length triples.items ≡ KNOWN) }
+{
+    let triples = with_triples_of(Vec::new(alloc), &X86_64_ROWS)?;
+    let triples = with_triples_of(triples, &X86_ROWS)?;
+    let triples = with_triples_of(triples, &AARCH64_ROWS)?;
+    let triples = with_triples_of(triples, &ARM_ROWS)?;
+    let triples = with_triples_of(triples, &RISCV_AND_POWER_ROWS)?;
+    let triples = with_triples_of(triples, &SPARC_AND_MIPS_ROWS)?;
+    with_triples_of(triples, &WASM_AND_OTHERS_ROWS)
+}
+
+/// The one of these triples that differs from a text by the fewest letters, and by at most half as many as it has.
+#[tactic(auto, unfolding(crate::specs::Targets::IsNoFarther))]
+fn nearest_of(
+    alloc: Global,
+    triples: &[&'static str],
+    text: &str,
+) -> Result<Option<&'static str>, AllocError>
+    ensures near { IfOk result (λ nearest. IfSome nearest (λ triple. IsNear text.now triple.now)) }
+    ensures nearest { IfOk result (λ nearest. All (λ other. IsNoFarther text.now (option_map (λ triple. triple.now) nearest) other.now) triples.now) }
+{
     let mut least = text.len() / 2 + 1;
     let mut nearest = None;
-    for triple in known_triples(alloc)? {
+    for triple in triples {
         let edits = levenshtein(alloc, text, triple)?;
         if edits < least {
             least = edits;
-            nearest = Some(triple);
+            nearest = Some(*triple);
         }
     }
     Ok(nearest)
+}
+
+/// The triple of a known target that differs from this text by the fewest letters, and by at most half as many as it has.
+pub fn nearest_triple(alloc: Global, text: &str) -> Result<Option<&'static str>, AllocError>
+    ensures near { IfOk result (λ nearest. IfSome nearest (λ triple. IsNear text.now triple.now)) }
+{
+    let triples = known_triples(alloc)?;
+    nearest_of(alloc, &triples, text)
 }
 
 /// The data layout of a target: what its string says, with the least enum of its C.
