@@ -88,12 +88,24 @@ leads_out() {
   grep -rqE --include=Cargo.toml --exclude-dir=target 'path *= *"(\.\./|/)|workspace *= *true' "$1"
 }
 
+# The folder of the package that an argument names, or whose root file it may be.
+package_of() {
+  case /$1 in
+    */Cargo.toml) dirname "$1" ;;
+    */src/lib.rs | */src/main.rs) dirname "$(dirname "$1")" ;;
+    *) echo "$1" ;;
+  esac
+}
+
+# Whether an argument names a package.
+is_of_package() {
+  [ -f "$(package_of "$1")/Cargo.toml" ]
+}
+
 # Whether what an argument names, behind this one, is read where it stands: vendored packages, and a package that needs more than its folder.
 is_read_there() {
-  case /$1 in
-    */Cargo.toml) [ -f "$1" ] && leads_out "$(dirname "$1")" ;;
-    *) [ -d "$1" ] && { [ "$2" = --vendor ] || leads_out "$1"; } ;;
-  esac
+  [ "$2" != --vendor ] || [ ! -d "$1" ] || return 0
+  is_of_package "$1" && { [ -f "$(package_of "$1")/.cargo-checksum.json" ] || leads_out "$(package_of "$1")"; }
 }
 
 # Runs a program with these words: proved, where it is, and else the same sources unproved. The status is the program's.
@@ -116,15 +128,13 @@ run_program() {
       if [[ /$word/ == */../* || $word == /* ]]; then
         name=$(realpath -ms --relative-to=. "$word" | sed -E 's|^(\.\./)*||; s|^\.\.$|package|')
       fi
-      if [ -d "$word" ]; then
-        add_package "$word" "$name"
-      elif [ -n "${follows:-}" ] && [[ "/$word" == */Cargo.toml ]]; then
-        add_package "$(dirname "$word")" "$(dirname "$name")"
+      if [ -d "$word" ] || { [ -n "${follows:-}" ] && is_of_package "$word"; }; then
+        add_package "$(package_of "$word")" "$(package_of "$name")"
       else
         data+=(--data "$name=$(realpath "$word")")
-      fi
-      if [ -n "${follows:-}" ] && [[ "/$word" == */lib.rs || "/$word" == */main.rs || " $* " == *" --root "* ]]; then
-        add_sources_below "$word" "$name"
+        if [ -n "${follows:-}" ] && [[ "/$word" == */lib.rs || "/$word" == */main.rs || " $* " == *" --root "* ]]; then
+          add_sources_below "$word" "$name"
+        fi
       fi
     fi
     words+=("$name") before=$word

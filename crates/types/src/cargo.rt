@@ -32,8 +32,8 @@ impl From<AllocError> for CargoFailure {
     }
 }
 
-/// The path of the manifest that a name on the command line stands for: that of a folder, or a file that is called so. None
-/// where it's the name of a source.
+/// The path of the manifest that a name on the command line stands for: that of a folder, a file that is called so, or that of
+/// the package whose root file it is. None where it's the name of another source.
 pub(crate) fn manifest_path(rt: &HostRuntime, name: &str) -> Result<Option<String>, AllocError> {
     let alloc = rt.alloc();
     if is_folder(rt, name) {
@@ -42,7 +42,29 @@ pub(crate) fn manifest_path(rt: &HostRuntime, name: &str) -> Result<Option<Strin
     if is_manifest(name) {
         Ok(Some(String::from_str(alloc, name)?))
     } else {
-        Ok(None)
+        manifest_around(rt, name)
+    }
+}
+
+/// The folder of a package whose source files stand in the folder of this file (The Cargo Book, "Package Layout").
+fn package_folder(file: &str) -> Option<&str> {
+    let folder = folder_of(file).strip_suffix("src/")?;
+    (folder.is_empty() || folder.ends_with('/')).then_some(folder)
+}
+
+/// The path of the manifest of the package whose root file this is. None where no package says so.
+fn manifest_around(rt: &HostRuntime, file: &str) -> Result<Option<String>, AllocError> {
+    let Some(folder) = package_folder(file) else {
+        return Ok(None);
+    };
+    let path = manifest_in(rt.alloc(), folder)?;
+    if !is_there(rt, path.as_str()) {
+        return Ok(None);
+    }
+    match read_manifest(rt, path) {
+        Ok(manifest) => manifest.path_of_root(rt, file),
+        Err(CargoFailure::OutOfMemory) => Err(AllocError),
+        Err(CargoFailure::Stopped(..)) => Ok(Some(manifest_in(rt.alloc(), folder)?)),
     }
 }
 
@@ -285,6 +307,18 @@ impl ManifestFile {
                 let text = "its package has no library and no binary that is there";
                 Err(fault_of(alloc, path, text))
             }
+        }
+    }
+
+    /// Its path, where this is the package's root file.
+    fn path_of_root(self, rt: &HostRuntime, file: &str) -> Result<Option<String>, AllocError> {
+        match self.root(rt)? {
+            Some(root) => if root.as_str() == file {
+                Ok(Some(self.path))
+            } else {
+                Ok(None)
+            },
+            None => Ok(None),
         }
     }
 

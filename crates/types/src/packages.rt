@@ -548,7 +548,7 @@ pub(crate) fn packages_of(
 ) -> Result<Vec<PackageSet>, CargoFailure> {
     let vendored = match options.vendor {
         Some(folder) => Vendored::read_folder(rt, folder)?,
-        None => Vendored::new(rt.alloc()),
+        None => Vendored::around(rt, path)?,
     };
     let mut sets = Vec::with_capacity(rt.alloc(), options.targets.len())?;
     for target in &options.targets {

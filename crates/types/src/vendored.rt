@@ -2,6 +2,7 @@
 //! for each, that is called as the package is, with the version behind a `-` or without.
 
 use crate::cargo::{CargoFailure, manifest_in, read_manifest, unreadable};
+use crate::crate_files::{folder_of, is_there};
 use cargo_manifest::greatest_match;
 use semver::{Version, VersionReq};
 use std::alloc::{AllocError, Global};
@@ -115,6 +116,21 @@ impl Vendored {
             Ok(names) => Ok(Vendored { folder, names }),
             Err(error) => Err(unreadable(rt.alloc(), path, &error)),
         }
+    }
+
+    /// The folder around a package that is vendored itself, as the file beside its manifest says (The Cargo Book, "Directory
+    /// Sources"); else none, in which no package is.
+    pub(crate) fn around(rt: &HostRuntime, manifest: &str) -> Result<Vendored, CargoFailure> {
+        let alloc = rt.alloc();
+        let folder = folder_of(manifest);
+        let checksums = format!(in alloc; "{folder}.cargo-checksum.json").map_err(
+            AllocError::from,
+        )?;
+        if !is_there(rt, checksums.as_str()) {
+            return Ok(Vendored::new(alloc));
+        }
+        let around = format!(in alloc; "{folder}..").map_err(AllocError::from)?;
+        Vendored::read_folder(rt, around.as_str())
     }
 
     /// The manifests of a package that are there.

@@ -1,0 +1,1 @@
+pub struct Program(#[cfg(feature = "wide")] u8, u16);

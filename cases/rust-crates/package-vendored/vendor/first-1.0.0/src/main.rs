@@ -1,0 +1,1 @@
+pub struct Other(#[cfg(feature = "wide")] u8);

@@ -1,0 +1,1 @@
+pub struct Inner(u16);
