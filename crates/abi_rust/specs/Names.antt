@@ -4,7 +4,7 @@ use Rattle.std.specs.Option.{option_and_then, option_map, option_or}
 use Rattle.rust_source.specs.declared.item.Items.{Items}
 use Rattle.rust_source.specs.declared.item.Use.{Use}
 use Rattle.rust_source.specs.declared.place.Symbol.{Symbol}
-use Rattle.rust_source.specs.declared.place.TheConstants.Symbol.{CRATE, SELF, SUPER}
+use Rattle.rust_source.specs.declared.place.TheConstants.Symbol.{CRATE, SELF, SUPER, UNDERSCORE}
 use Rattle.rust_source.specs.declared.syntax.Path.{Path, out-Path}
 use Rattle.rust_source.specs.declared.syntax.Segment.{out-Segment}
 use Rattle.abi_rust.specs.declared.paths.Lookup.{Lookup}
@@ -119,6 +119,11 @@ abbrev pub is_unknown : Resolution → Bool
 is_unknown Unknown = true
 is_unknown _ = false
 
+-- what a module has under any name, where an item of it isn't read that may have any: a use of the name `_` says so, and it
+-- isn't known
+abbrev pub unread_in : Scope → (inside : ℕ) → Option OwnName
+unread_in s m = option_map (λ u. record { found = Unknown; visible_in = None }) (use_in s m UNDERSCORE)
+
 -- what has a name that stands in a module, and is brought in there by a use: not both, unless it isn't known what the
 -- use brings in, which then is a name of another kind
 abbrev pub standing_or_import : Symbol → (standing import : Option OwnName) → Option OwnName
@@ -214,9 +219,11 @@ module _ (items : Items) (scope : Scope) where
     used_by a (Some u) =
         if nat_eq u several then Some (ambiguous a.name) else (if is_skipped a.skipped u then None else own_import a u)
 
-    -- what a name names in a module without its globs: what stands there, or else what a use brings in
+    -- what a name names in a module without its globs: what stands there, or else what a use brings in, or an item that isn't read
     unfoldable pub own_name : (inside : ℕ) → Lookup → Option OwnName
-    own_name m a = standing_or_import a.name (declared items scope m a.name a.space) (used_by a (use_in scope m a.name))
+    own_name m a =
+        standing_or_import a.name (declared items scope m a.name a.space)
+        (option_or (used_by a (use_in scope m a.name)) (unread_in scope m))
 
     -- each module that a way's globs stand in sees what is visible in that module, and has no such name of its own, which
     -- would stand before

@@ -107,6 +107,10 @@ abbrev pub reported_fault : Sources → Stop → FaultReported
 reported_fault s (Fault at kind) = record { at = reported_place s at; kind = kind }
 reported_fault s Size = record { at = reported_place s None; kind = TooDeep }
 
+-- why an item can't be read, as it is reported
+abbrev pub fault_of_unread : Sources → SourceFault → FaultReported
+fault_of_unread s e = reported_fault s (Fault (Some e.at) (Source e.kind))
+
 -- how many bits `usize` has: 64 where a pointer's index has none of the widths that are known
 abbrev pub pointer_bits : TargetDataLayout → ℕ
 pointer_bits dl =

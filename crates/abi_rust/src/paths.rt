@@ -4,7 +4,7 @@ ghost use Rattle.std.specs.Prelude.{◌≡◌, None, slice_get};
 ghost use Rattle.std.specs.Option.{option_copied};
 ghost use Rattle.rust_source.specs.declared.syntax.Path.{out-Path};
 ghost use Rattle.abi_rust.specs.Kinds.{found_by, most_aliases, type_named};
-ghost use Rattle.abi_rust.specs.Names.{agreed, along, ambiguous, among, lookup_of, behind_module, beside_module, crate_above, crate_for_all, crate_named, declared, first, found, found_of, imported, is_open, is_usable, named_behind, names_in_path, one_of, other_space, own_name, own_item, own_module, path_named, perhaps, root, seen_own, unless_hidden, space_before, standing_or_import, target_in, target_with, used_by, visibility_of_item, visibility_of_module, visibility_of_use, resolution_in};
+ghost use Rattle.abi_rust.specs.Names.{agreed, along, ambiguous, among, lookup_of, behind_module, beside_module, crate_above, crate_for_all, crate_named, declared, first, found, found_of, imported, is_open, is_usable, named_behind, names_in_path, one_of, other_space, own_name, own_item, own_module, path_named, perhaps, root, seen_own, unless_hidden, space_before, standing_or_import, target_in, target_with, unread_in, used_by, visibility_of_item, visibility_of_module, visibility_of_use, resolution_in};
 
 use crate::scope::Scope;
 use crate::standing::SEVERAL;
@@ -552,7 +552,22 @@ fn own_name(tables: NameTables<'_>, module: u32, lookup: Lookup) -> Option<OwnNa
         lookup.space,
     );
     let number = tables.scope.use_of(module, lookup.name);
-    standing_or_import(lookup.name, standing, brought_in(tables, number, lookup))
+    let import = match brought_in(tables, number, lookup) {
+        Some(import) => Some(import),
+        None => unread_in(tables.scope, module),
+    };
+    standing_or_import(lookup.name, standing, import)
+}
+
+/// What a module has under any name, where an item of it isn't read that may have any.
+fn unread_in(scope: &Scope, module: u32) -> Option<OwnName>
+    ensures { result ≡ unread_in scope.now «module» }
+{
+    let _number = scope.use_of(module, Symbol::UNDERSCORE)?;
+    Some(OwnName {
+        found: Resolution::Unknown,
+        visible_in: None,
+    })
 }
 
 /// What has a name that stands in a module, and is brought in there by a use.

@@ -1,13 +1,14 @@
 //! Files of Rust source, and what their types are.
 
 ghost use Rattle.std.specs.Prelude.{◌≡◌, ◌-◌, ◌<◌, ◌^◌, ◌++◌, ◌∷◌, Err, IfErr, IfOk, Ok, OnOk, Some, [], length, slice_get, string_bytes};
+ghost use Rattle.std.specs.Option.{option_map};
 ghost use Rattle.rust_source.specs.Growth.{BeginsWith};
 ghost use Rattle.rust_source.specs.Names.{text_of};
 ghost use Rattle.abi_rust.specs.Imports.{repeated_import};
 ghost use Rattle.abi_rust.specs.Measure.{IsMeasure, Measure};
 ghost use Rattle.abi_rust.specs.Reading.{FileRead, FileReads, HasScope, IsNamesFault, IsScopeOf, IsSourceOf, IsUnread, LibraryRead, ReadsText, Stops, file_kind, having, is_library, library_text, place_behind, root_of};
 ghost use Rattle.abi_rust.specs.ScopeNames.{repeated_of};
-ghost use Rattle.abi_rust.specs.Sources.{ChecksNames, IsContextOver, Reports, ReportsWritten, names_checked, reported_fault, is_of_first_crate, is_reported, items_read, module_path, qualified_name, place_in_files, place_of_attribute, place_of_item, reported_place, pointer_bits};
+ghost use Rattle.abi_rust.specs.Sources.{ChecksNames, IsContextOver, Reports, ReportsWritten, names_checked, reported_fault, is_of_first_crate, fault_of_unread, is_reported, items_read, module_path, qualified_name, place_in_files, place_of_attribute, place_of_item, reported_place, pointer_bits};
 
 use crate::budget::Context;
 use crate::extern_crates::ExternCrate;
@@ -446,6 +447,22 @@ impl Sources {
         ensures { result.now ≡ self.now.items.unknown_cfgs.items }
     {
         self.items.unknown_cfgs.as_slice()
+    }
+
+    /// How many items can't be read, of all that were read.
+    pub fn unread_count(&self) -> usize
+        ensures { result ≡ length self.now.items.unread.items }
+    {
+        self.items.unread.len()
+    }
+
+    /// Why the item of this number can't be read, of those that can't, in the order of the sources. It is passed over: the name
+    /// that it may have isn't known.
+    pub fn unread_fault(&self, number: usize) -> Option<Fault>
+        ensures { result ≡ option_map (fault_of_unread self.now) (slice_get self.now.items.unread.items number) }
+    {
+        let fault = self.items.unread.get(number).copied()?;
+        Some(self.fault(stop_at(fault.at, FaultKind::Source(fault.kind))))
     }
 
     /// The names.

@@ -19,4 +19,5 @@ mod TokenSteps
 mod Turns
 mod Until
 mod UseTurns
+mod UnreadTurns
 mod AroundTurns

@@ -1,6 +1,7 @@
 -- Items as they are read.
 use Rattle.std.specs.Prelude.{ℕ, Bool, List, [], Option, map}
 use Rattle.std.specs.Option.{option_map}
+use Rattle.rust_source.specs.declared.fault.SourceFault.{SourceFault}
 use Rattle.rust_source.specs.declared.item.Const.{Const}
 use Rattle.rust_source.specs.declared.item.Field.{Field}
 use Rattle.rust_source.specs.declared.item.FieldName.{FieldName}
@@ -85,7 +86,8 @@ pub record UseRead : Type 0 where
   pub name : Option Symbol
   pub is_glob : Bool
 
--- what sources have: of each module whether its items were read, and the modules whose items stand in other files
+-- what sources have: of each module whether its items were read, the modules whose items stand in other files, and why
+-- items can't be read
 pub record ItemsRead : Type 0 where
   pub modules : List Module
   pub are_read : List Bool
@@ -96,10 +98,11 @@ pub record ItemsRead : Type 0 where
   pub passed_over : ℕ
   pub types_passed : ℕ
   pub unknown : List Symbol
+  pub unread : List SourceFault
 
 -- nothing is read
 abbrev pub no_items : ItemsRead
-no_items = record { modules = []; are_read = []; outlines = []; items = []; uses = []; owners = []; passed_over = 0; types_passed = 0; unknown = [] }
+no_items = record { modules = []; are_read = []; outlines = []; items = []; uses = []; owners = []; passed_over = 0; types_passed = 0; unknown = []; unread = [] }
 
 -- the program's field as the definitions see it, and so on
 abbrev pub field_of : Field → FieldRead
@@ -166,4 +169,5 @@ items_as_read i = record {
   passed_over = i.passed_over;
   types_passed = i.types_passed;
   unknown = i.unknown_cfgs.items;
+  unread = i.unread.items;
 }

@@ -34,5 +34,6 @@ pub mod Constants
 pub mod Functions
 pub mod Traits
 pub mod Outlines
+pub mod Unread
 pub mod Modules
 pub mod Sources

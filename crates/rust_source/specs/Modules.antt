@@ -1,5 +1,5 @@
 -- Items, one after another, and modules within one another.
-use Rattle.std.specs.Prelude.{ℕ, zero, suc, ◌-◌, ◌&&◌, ◌||◌, Bool, true, false, not, codes, [], nat_lt, Option, None, Some, Result, Ok, if◌then◌else◌}
+use Rattle.std.specs.Prelude.{ℕ, zero, suc, ◌-◌, ◌&&◌, ◌||◌, Bool, true, false, not, codes, [], nat_lt, Option, None, Some, Result, Ok, Err, if◌then◌else◌}
 use Rattle.std.specs.Str.{bytes_eq}
 use Rattle.rust_source.specs.declared.fault.SourceFault.{SourceFault}
 use Rattle.rust_source.specs.declared.fault.SourceFaultKind.TheVariants.{ExpectedItem, ExpectedSemicolon, TooDeep}
@@ -18,7 +18,7 @@ use Rattle.rust_source.specs.declared.tokens.token.TokenKind.{TokenKind}
 use Rattle.rust_source.specs.declared.tokens.token.TokenKind.TheVariants as kind
 use Rattle.rust_source.specs.Attributes.{attributes_read}
 use Rattle.rust_source.specs.Constants.{own_constants}
-use Rattle.rust_source.specs.Cursor.{behind_group, expected, inside, is_done, is_named_next, is_next, is_keyword_next, next_kind, passed}
+use Rattle.rust_source.specs.Cursor.{behind_group, expected, fault, inside, is_done, is_named_next, is_next, is_keyword_next, next_kind, passed}
 use Rattle.rust_source.specs.Fields.{by_names, visibility_passed}
 use Rattle.rust_source.specs.Functions.{function_read}
 use Rattle.rust_source.specs.Having.{Having, item_of_module, next_module, noted, using_within, with_item, with_module, with_passed, noted_within}
@@ -29,6 +29,7 @@ use Rattle.rust_source.specs.Repr.{misplaced}
 use Rattle.rust_source.specs.Simple.{most_nested}
 use Rattle.rust_source.specs.Terms.{done, fault_next}
 use Rattle.rust_source.specs.Traits.{trait_read}
+use Rattle.rust_source.specs.Unread.{any_name, item_unread, one_item, with_unread}
 use Rattle.rust_source.specs.Uses.{tree_read}
 use Rattle.rust_source.specs.Visibility.{rules_in, visibility_read}
 use Rattle.rust_source.specs.Definition.{DefinitionRead, is_union, definition_read, types_from}
@@ -165,18 +166,30 @@ module _ (rules : Rules) where
         else (if a.0.holds then said_read number a.0 a.1 ns else done (item_passed (visibility_passed a.1)) ns))
         (noted_within known.1 (attributes_read rules c (noted known)))
 
+    -- what follows the item of these tokens: it was read, or else it isn't read, for this fault
+    abbrev pub next_by : (number : ℕ) → (c item : Cursor) → Result Cursor SourceFault → Having → Result Cursor SourceFault × Having
+    next_by number c item (Ok d) known = done (record c { at = d.at }) known
+    next_by number c item (Err e) known = read_on (λ _ ns. done (record c { at = item.end }) ns) (item_unread number item e known)
+
+    -- the item that is next, whose tokens are read alone, or passed over where they can't be
+    unfoldable pub next_read : (number : ℕ) → Cursor → Having → Result Cursor SourceFault × Having
+    next_read number c known =
+        let item = one_item c in
+        let read = one_read number item known in
+        next_by number c item read.0 read.1
+
     -- the items of a module, at most so many
     abbrev pub all_from : (limit number : ℕ) → Cursor → Having → Result (Unit {0}) SourceFault × Having
     all_from zero number c known = done tt known
     all_from (suc limit) number c known =
-        if is_done c then done tt known else read_on (λ d ns. all_from limit number d ns) (one_read number c known)
+        if is_done c then done tt known else read_on (λ d ns. all_from limit number d ns) (next_read number c known)
 
     unfoldable pub all_read : ModuleReader
     all_read number c known = all_from (c.end - c.at) number c known
 
--- the items of a module that may stand in so many others
+-- the items of a module that may stand in so many others; where there are more, none of its items is read
 unfoldable pub module_within : Rules → (depth_left : ℕ) → ModuleReader
-module_within rules zero number c known = fault_next TooDeep c known
+module_within rules zero number c known = done tt (known.0, with_unread number (fault c TooDeep) (Some any_name) known.1)
 module_within rules (suc depth_left) number c known = all_read rules (module_within rules depth_left) number c known
 
 -- the items of a source, in the module into which they go, and that module's number; modules may stand in 200 others,

@@ -1,5 +1,6 @@
 //! Items as they are written.
 
+use crate::fault::SourceFault;
 use crate::place::{Place, Symbol};
 use crate::syntax::{Expr, IntegerKind, Path, Type};
 
@@ -207,4 +208,7 @@ pub struct Items {
     pub types_passed: u64,
     /// Names of `cfg` that aren't known here, and count as false, each once.
     pub unknown_cfgs: Vec<Symbol>,
+    /// Why items can't be read, in the order of the sources: each is passed over. The name that one may have is brought in
+    /// by a use whose path has no names, and which so leads nowhere; where it may be any, the use's name is `_`.
+    pub unread: Vec<SourceFault>,
 }

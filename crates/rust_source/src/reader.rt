@@ -24,6 +24,7 @@ mod repr;
 mod signatures;
 mod traits;
 mod types;
+mod unread;
 mod uses;
 mod visibility;
 
@@ -85,6 +86,7 @@ impl Items {
             passed_over: 0,
             types_passed: 0,
             unknown_cfgs: Vec::new(alloc),
+            unread: Vec::new(alloc),
         }
     }
 }
@@ -120,8 +122,9 @@ fn cursor_at_start<'a>(text: &'a str, start: Place, tokens: &'a [Token]) -> Curs
 /// be read. A `mod name;` makes a module without items, and an outline. The modules, the items and the uses that are there
 /// stay in front.
 ///
-/// The first fault is reported, at its place; what was read before it is among the items then. `OutOfMemory` comes where a
-/// growth of memory was refused.
+/// An item that can't be read is passed over, up to its `;` or the end of its braces, and its fault is kept beside the items;
+/// it may have a name, which leads nowhere then. What can't be cut into tokens, or has a bracket without its partner, is the
+/// fault of the whole source, at its place. `OutOfMemory` comes where a growth of memory was refused.
 pub fn read_items(
     alloc: Global,
     target: &CfgTarget<'_>,

@@ -166,12 +166,39 @@ struct ReportContext<'a> {
     triple: Option<&'static str>,
 }
 
-/// Why the file of a module isn't read.
+/// Why an item, or the file of a module, isn't read.
 #[derive(Drop)]
 struct ModuleFault {
-    /// Where the module's name stands.
+    /// Where what is wrong stands, or the module's name.
     at: Spot,
     text: String,
+    /// What comes of it.
+    note: &'static str,
+}
+
+/// What comes of a module whose file isn't read.
+const NO_MODULE: &str = "note: so its names aren't known\n";
+
+/// What comes of another crate that isn't read.
+const NO_CRATE: &str = "note: so the names of its crate aren't known\n";
+
+/// What comes of an item that isn't read.
+const NO_ITEM: &str = "note: so this item is passed over\n";
+
+/// What comes of the last that is told of.
+const NO_ITEMS: &str =
+    "note: so this item is passed over, and others behind it, of which no more is told\n";
+
+/// How many items that aren't read are told of.
+const MOST_UNREAD: usize = 1000;
+
+/// The note of the item of this number, of so many that aren't read.
+fn note_of_unread(number: usize, count: usize) -> &'static str {
+    if number.saturating_add(1) == MOST_UNREAD && count > MOST_UNREAD {
+        NO_ITEMS
+    } else {
+        NO_ITEM
+    }
 }
 
 /// The text that a fault lies in, with what it is called, and the byte; none where the fault has no place.
@@ -244,7 +271,7 @@ struct SourceSet<'a> {
     sources: Sources,
     files: CrateFiles<'a>,
     faults: Vec<ModuleFault>,
-    /// Why other crates can't be read, whose names aren't known then.
+    /// Why other crates, or items of them, can't be read, whose names aren't known then.
     unread: Vec<ModuleFault>,
     /// How many modules in other files were looked for.
     searched: usize,
@@ -265,7 +292,8 @@ impl SourceSet<'_> {
             return Ok(());
         }
         let at = Spot::Nowhere.of(self.sources.place_of_outline(outline));
-        self.faults.push(ModuleFault { at, text })?;
+        let note = NO_MODULE;
+        self.faults.push(ModuleFault { at, text, note })?;
         Ok(())
     }
 
@@ -358,8 +386,9 @@ impl SourceSet<'_> {
         self.searched = self.sources.outlines().len();
         match failure {
             SourceFailure::Fault(at, text) => {
+                let note = NO_CRATE;
                 self.unread
-                    .push(ModuleFault { at, text })
+                    .push(ModuleFault { at, text, note })
                     .map_err(AllocError::from)?;
                 Ok(())
             }
@@ -416,6 +445,32 @@ impl SourceSet<'_> {
         Ok(self.name_crates(crates, &roots)?)
     }
 
+    /// Puts why items aren't read behind the other faults, of so many; of another crate they are noted alone.
+    fn put_unread_items(&mut self, alloc: Global) -> Result<(), SourceFailure> {
+        let count = self.sources.unread_count();
+        let first = match self.first {
+            Some(first) => first.unread,
+            None => count,
+        };
+        for number in 0..count.min(MOST_UNREAD) {
+            if let Some(fault) = self.sources.unread_fault(number) {
+                let (at, text) = match self.failure(alloc, &fault) {
+                    SourceFailure::Fault(at, text) => (at, text),
+                    other => return Err(other),
+                };
+                let note = note_of_unread(number, count);
+                let one = ModuleFault { at, text, note };
+                let all = if number < first {
+                    &mut self.faults
+                } else {
+                    &mut self.unread
+                };
+                all.push(one).map_err(AllocError::from)?;
+            }
+        }
+        Ok(())
+    }
+
     /// Reads the file that is named, and those of its modules where it is the root of a crate.
     fn read_files(&mut self, cx: ReadContext<'_>) -> Result<(), SourceFailure> {
         let alloc = cx.rt.alloc();
@@ -427,6 +482,7 @@ impl SourceSet<'_> {
             self.follow_modules(cx)?;
             self.read_crates(cx)?;
         }
+        self.put_unread_items(alloc)?;
         match self.sources.finish(alloc) {
             Ok(()) => Ok(()),
             Err(fault) => Err(self.failure(alloc, &fault)),
@@ -845,7 +901,7 @@ impl FileReport {
         Ok(())
     }
 
-    /// Reports why the files of modules aren't read; where one is to stop all, fails by it.
+    /// Reports why items and the files of modules aren't read; where one is to stop all, fails by it.
     fn add_faults(
         &mut self,
         cx: ReportContext<'_>,
@@ -859,13 +915,13 @@ impl FileReport {
             }
             self.outcome = self.outcome.worse_of(Outcome::Faulty);
             write_failure(&mut self.notes, cx.options, cx.files, fault.at, text)?;
-            self.notes.push_str("note: so its names aren't known\n")?;
+            self.notes.push_str(fault.note)?;
             self.list_fault(cx, None, fault.at, text)?;
         }
         Ok(())
     }
 
-    /// Notes why other crates can't be read.
+    /// Notes why other crates, and items of them, can't be read.
     fn note_unread(
         &mut self,
         cx: ReportContext<'_>,
@@ -879,8 +935,7 @@ impl FileReport {
                 fault.at,
                 fault.text.as_str(),
             )?;
-            self.notes
-                .push_str("note: so the names of its crate aren't known\n")?;
+            self.notes.push_str(fault.note)?;
         }
         Ok(())
     }

@@ -12,6 +12,8 @@ pub(crate) struct FirstCrate {
     passed_over: u64,
     types_passed: u64,
     unknown_cfgs: usize,
+    /// How many items of it aren't read.
+    pub(crate) unread: usize,
 }
 
 impl FirstCrate {
@@ -22,6 +24,7 @@ impl FirstCrate {
             passed_over: sources.passed_over(),
             types_passed: sources.types_passed(),
             unknown_cfgs: sources.unknown_cfgs().len(),
+            unread: sources.unread_count(),
         }
     }
 }

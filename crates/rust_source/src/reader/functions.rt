@@ -40,7 +40,7 @@ fn is_qualifier(cursor: &Cursor<'_>) -> bool
 
 /// Passes over what may stand before the `fn` of a function.
 #[tactic(auto, unfolding(crate::specs::Functions::qualifiers_passed), using(crate::proofs::FunctionTurns::more, crate::proofs::FunctionTurns::done))]
-fn pass_qualifiers(cursor: &mut Cursor<'_>)
+pub(crate) fn pass_qualifiers(cursor: &mut Cursor<'_>)
     ensures { cursor.new ≡ qualifiers_passed cursor.old }
 {
     let turns = cursor.end.saturating_sub(cursor.at);

@@ -5,7 +5,7 @@ ghost use Rattle.rust_source.specs.Cursor.{inside, next_kind};
 ghost use Rattle.rust_source.specs.Growth.{KeepsItems};
 ghost use Rattle.rust_source.specs.Having.{item_of_module, with_item};
 ghost use Rattle.rust_source.specs.Items.{item_of, items_as_read};
-ghost use Rattle.rust_source.specs.Modules.{all_read, is_item_word, is_macro, is_passed_over, item_read, items_within, may_have_repr, module_by, module_read, module_within, one_read, other_read, over_passed, passes_kind, path_passed, renames_crate, repr_judged, root_read, standing_read, use_read};
+ghost use Rattle.rust_source.specs.Modules.{all_read, is_item_word, is_macro, is_passed_over, item_read, items_within, may_have_repr, module_by, module_read, module_within, next_read, one_read, other_read, over_passed, passes_kind, path_passed, renames_crate, repr_judged, root_read, standing_read, use_read};
 ghost use Rattle.rust_source.specs.Names.{texts};
 ghost use Rattle.rust_source.specs.Reading.{Reads};
 ghost use Rattle.rust_source.specs.Simple.{most_nested};
@@ -14,9 +14,9 @@ ghost use Rattle.rust_source.specs.Definition.{definition_of};
 use crate::fault::{SourceFault, SourceFaultKind};
 use crate::item::{Item, Items, Module};
 use crate::names::Names;
-use crate::place::Place;
+use crate::place::{Place, Symbol};
 use crate::reader::attributes::{Attributes, Rules, read_attributes};
-use crate::reader::constants::read_own_constants;
+use crate::reader::constants::{is_wanting, read_own_constants};
 use crate::reader::cursor::{
     Cursor, expect, fault, is_done, is_named_next, is_next, is_word, next_kind, nth, pass,
     take_group, take_word,
@@ -32,6 +32,7 @@ use crate::reader::naming::{is_named, is_path_name, take_name, word_text};
 use crate::reader::passing::pass_item;
 use crate::reader::repr::refuse_repr;
 use crate::reader::traits::read_trait;
+use crate::reader::unread::{one_item, pass_unread, put_unread};
 use crate::reader::uses::{UseContext, UsePlace, read_tree};
 use crate::reader::visibility::{Standing, read_visibility, rules_in};
 use crate::tokens::as_place;
@@ -417,6 +418,38 @@ fn read_one(
     read_in_context(rules, names, items, &context, cursor)
 }
 
+/// Reads the item that is next, within its own tokens, or passes over it and keeps its fault. Fails for want of memory alone.
+#[cycle(modules)]
+#[tactic(auto, unfolding(crate::specs::Modules::next_read))]
+fn read_or_pass(
+    rules: &Rules<'_>,
+    names: &mut Names,
+    items: &mut Items,
+    module: OpenModule,
+    cursor: &mut Cursor<'_>,
+) -> Result<(), SourceFault>
+    ensures kept { KeepsItems items.old items.new }
+    ensures read { Reads (λ _. cursor.new)
+        (next_read rules.now (module_within rules.now «module».depth_left) «module».number cursor.old (texts names.old, items_as_read items.old))
+        (texts names.new, items_as_read items.new) result }
+{
+    let whole = one_item(cursor);
+    let mut item = whole;
+    match read_one(rules, names, items, module, &mut item) {
+        Ok(()) => {
+            cursor.at = item.at;
+            Ok(())
+        }
+        Err(fault) => {
+            if is_wanting(fault.kind) {
+                return Err(fault);
+            }
+            cursor.at = whole.end;
+            pass_unread(names, items, module.number, &whole, fault)
+        }
+    }
+}
+
 /// Reads the items of a module that are left.
 #[cycle(modules)]
 #[tactic(auto, unfolding(crate::specs::Modules::all_read), using(crate::proofs::ModuleTurns::all_more, crate::proofs::ModuleTurns::all_done))]
@@ -437,12 +470,12 @@ fn read_all(
         if is_done(cursor) {
             return Ok(());
         }
-        read_one(rules, names, items, module, cursor)?;
+        read_or_pass(rules, names, items, module, cursor)?;
     }
     Ok(())
 }
 
-/// Reads the items of a module, one level deeper than where it stands.
+/// Reads the items of a module, one level deeper than where it stands. One that stands in too many others has any names.
 #[cycle(modules)]
 #[tactic(auto, using(crate::proofs::ModuleTurns::module_less, crate::proofs::ModuleTurns::module_none))]
 fn read_module_items(
@@ -456,11 +489,22 @@ fn read_module_items(
     ensures read { Reads (λ done. done) (module_within rules.now «module».depth_left «module».number cursor.old (texts names.old, items_as_read items.old))
         (texts names.new, items_as_read items.new) result }
 {
-    let inner = OpenModule {
-        number: module.number,
-        depth_left: one_level_deeper(cursor, module.depth_left)?,
-    };
-    read_all(rules, names, items, inner, cursor)
+    match one_level_deeper(cursor, module.depth_left) {
+        Ok(depth_left) => {
+            let inner = OpenModule {
+                number: module.number,
+                depth_left,
+            };
+            read_all(rules, names, items, inner, cursor)
+        }
+        Err(fault) => put_unread(
+            names.alloc(),
+            items,
+            module.number,
+            Some(Symbol::UNDERSCORE),
+            fault,
+        ),
+    }
 }
 
 /// Reads the items of a source, in the module into which they go, and is that module's number.

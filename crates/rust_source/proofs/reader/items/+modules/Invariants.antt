@@ -24,8 +24,11 @@ decreases-read_in_context l = 8 * l.context.now.depth_left + 4
 abbrev pub decreases-read_one : goal.decreases-read_one
 decreases-read_one l = 8 * l.«module».depth_left + 5
 
+abbrev pub decreases-read_or_pass : goal.decreases-read_or_pass
+decreases-read_or_pass l = 8 * l.«module».depth_left + 6
+
 abbrev pub decreases-read_all : goal.decreases-read_all
-decreases-read_all l = 8 * l.«module».depth_left + 6
+decreases-read_all l = 8 * l.«module».depth_left + 7
 
 abbrev pub invariant-read_all-loop-turn : goal.invariant-read_all-loop-turn
 invariant-read_all-loop-turn l = record {
