@@ -1,0 +1,2 @@
+pub type Length = u16;
+pub type Action = Fn(&u8) + Send;
