@@ -445,28 +445,48 @@ impl SourceSet<'_> {
         Ok(self.name_crates(crates, &roots)?)
     }
 
-    /// Puts why items aren't read behind the other faults, of so many; of another crate they are noted alone.
+    /// Whether the item of this number that isn't read is one of the first crate's.
+    fn is_of_first(&self, number: usize) -> bool {
+        match self.first {
+            Some(first) => number < first.unread,
+            None => true,
+        }
+    }
+
+    /// Puts why the item of this number isn't read behind the other faults; of another crate it is noted alone.
+    fn put_item(&mut self, number: usize, fault: ModuleFault) -> Result<(), AllocError> {
+        if self.is_of_first(number) {
+            self.faults.push(fault)?;
+        } else {
+            self.unread.push(fault)?;
+        }
+        Ok(())
+    }
+
+    /// Puts why the item of this number isn't read, of so many.
+    fn put_unread_item(
+        &mut self,
+        alloc: Global,
+        number: usize,
+        count: usize,
+    ) -> Result<(), SourceFailure> {
+        let Some(fault) = self.sources.unread_fault(number) else {
+            return Ok(());
+        };
+        match self.failure(alloc, &fault) {
+            SourceFailure::Fault(at, text) => {
+                let note = note_of_unread(number, count);
+                Ok(self.put_item(number, ModuleFault { at, text, note })?)
+            }
+            other => Err(other),
+        }
+    }
+
+    /// Puts why items aren't read, of the first ones.
     fn put_unread_items(&mut self, alloc: Global) -> Result<(), SourceFailure> {
         let count = self.sources.unread_count();
-        let first = match self.first {
-            Some(first) => first.unread,
-            None => count,
-        };
         for number in 0..count.min(MOST_UNREAD) {
-            if let Some(fault) = self.sources.unread_fault(number) {
-                let (at, text) = match self.failure(alloc, &fault) {
-                    SourceFailure::Fault(at, text) => (at, text),
-                    other => return Err(other),
-                };
-                let note = note_of_unread(number, count);
-                let one = ModuleFault { at, text, note };
-                let all = if number < first {
-                    &mut self.faults
-                } else {
-                    &mut self.unread
-                };
-                all.push(one).map_err(AllocError::from)?;
-            }
+            self.put_unread_item(alloc, number, count)?;
         }
         Ok(())
     }
