@@ -146,6 +146,24 @@ uint8_t abi_c_layout(const uint8_t *input, size_t input_len, uint8_t *output, si
 /* Asks which parts of a type have each of its bytes, and else is as `abi_c_layout`. */
 uint8_t abi_c_map(const uint8_t *input, size_t input_len, uint8_t *output, size_t output_len, size_t *needed);
 
+/* A file of a crate. Its path is what a module's file is looked for by, and is in faults; empty where it has none. */
+struct rustc_abi_file {
+    const uint8_t *path;
+    size_t path_len;
+    const uint8_t *text;
+    size_t text_len;
+};
+
+/* Asks for the JSON document that `./types --json` writes of a crate's types (docs/types.schema.json), whose files these are, the
+   root first; no other file is looked for. `asked` is lines, as the options of `./types`: `target TRIPLE`, `type TYPE`,
+   `features NAMES`, `cfg NAME` and `cfg NAME="VALUE"`, each as often as is wanted, `root`, `bytes`, `waste` and `strict`. Answers
+   the status: 0 where each type is reported on, 1 where a layout is refused or memory was wanting, 2 where a source or a type has
+   a fault. What stops `./types` without a document is a fault in one without types here.
+
+   `*needed` and `output` are as those of `abi_c_layout`. */
+uint8_t abi_c_types(const struct rustc_abi_file *files, size_t files_len, const uint8_t *asked, size_t asked_len,
+                    uint8_t *output, size_t output_len, size_t *needed);
+
 /* Lays out the type that has these numbers under a data layout string. Answers the status. What is lent are the numbers
    of the layout, the first as `struct rustc_abi_head`; beside `RUSTC_ABI_REFUSED` and `RUSTC_ABI_UNREADABLE` it is one
    number, which of them.
