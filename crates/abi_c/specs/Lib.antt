@@ -11,4 +11,4 @@ pub mod FlatBytes
 -- types, values, layouts and answers about bytes as numbers
 pub mod Numbers
 -- what is answered of the types of Rust source
-pub mod LentDocument
+pub mod Source

@@ -8,12 +8,15 @@ use crate::crate_files::{CrateFiles, Search, SourceFile};
 use crate::entries::{EntriesAsked, TypeEntry, put_entries};
 use crate::facts::TypeFacts;
 use crate::file_source::FileSource;
-use crate::json::{FaultSpot, JsonLists, TypeContext, fault_value, put_text, type_value};
+use crate::json::{
+    FaultSpot, JsonLists, TypeContext, fault_value, put_member, put_text, type_value,
+};
 use crate::lines::write_lines;
 use crate::mapped::by_name;
 use crate::notes::{FirstCrate, write_notes};
 use crate::options::{Form, ReportOptions};
 use crate::package_crates::{PackageCrate, PackageSet, crates_under};
+use crate::parts::parts_value;
 use crate::place::{Spot, write_fault};
 use crate::pretty::{DeclaredType, write_pretty};
 use crate::savings::{LargestVariant, LayContext, largest_variant, savings_of};
@@ -23,11 +26,12 @@ use abi_base::TargetDataLayout;
 use abi_bytes::transmute;
 use abi_map::map_of;
 use abi_rust::{Fault, ReportShape, Sources, TypeReport, data_layout_of};
-use abi_tree::Laid;
+use abi_tree::{Laid, TypeTree};
 use rust_source::{CfgTarget, Names, Outline};
 use rustc_abi::{LayError, lay_out};
 use serde_json::{Map, Value};
 use std::alloc::{AllocError, Global};
+use std::mem;
 
 /// The status where all types are reported on.
 const REPORTED: u8 = 0;
@@ -97,6 +101,8 @@ pub struct FileReport {
     entries: Vec<TypeEntry>,
     /// The assertions whose types were found, by their places among all.
     pub asserted: Vec<usize>,
+    /// The trees of the types that are reported on, in the order of the source, where they are kept.
+    pub trees: Vec<TypeTree>,
     /// Lines for standard error.
     pub notes: String,
 }
@@ -111,6 +117,7 @@ impl FileReport {
             lists: JsonLists::new(alloc),
             entries: Vec::new(alloc),
             asserted: Vec::new(alloc),
+            trees: Vec::new(alloc),
             notes: String::new(alloc),
         }
     }
@@ -521,6 +528,8 @@ struct NamedType<'a> {
     report: &'a TypeReport,
     /// Its largest variant, where that is asked for.
     largest: Option<LargestVariant>,
+    /// What its parts are called, where that is asked for.
+    parts: Option<&'a Value>,
 }
 
 /// A name under which a type is reported on, and where that stands.
@@ -528,6 +537,8 @@ struct NamedType<'a> {
 struct NamePlace<'a> {
     name: &'a str,
     own: Spot,
+    /// What the type's parts are called, where that is asked for.
+    parts: Option<&'a Value>,
 }
 
 impl<'a> ReportContext<'a> {
@@ -555,6 +566,9 @@ fn object_of(
     let mut object = type_value(with, ty.name, &ty.report.shape, &ty.report.tree, laid)?;
     if cx.options.with_bytes {
         ByteAnswers::of(alloc, laid)?.put_members(alloc, &mut object)?;
+    }
+    if let Some(parts) = ty.parts {
+        put_member(alloc, &mut object, "parts", parts.clone()?)?;
     }
     put_context(alloc, cx, &mut object)?;
     Ok(Value::Object(object))
@@ -715,7 +729,7 @@ impl FileReport {
         &mut self,
         cx: ReportContext<'_>,
         names: &Names,
-        name: &str,
+        place: NamePlace<'_>,
         report: &mut TypeReport,
     ) -> Result<(), LayError> {
         let largest = if cx.options.with_savings {
@@ -729,11 +743,17 @@ impl FileReport {
         };
         let ty = NamedType {
             names,
-            name,
+            name: place.name,
             report,
             largest,
+            parts: place.parts,
         };
-        self.put_tree(cx, ty)
+        self.put_tree(cx, ty)?;
+        if cx.options.keeps_trees {
+            let tree = mem::replace(&mut report.tree, TypeTree::Unit);
+            self.trees.push(tree)?;
+        }
+        Ok(())
     }
 
     /// Notes that a type has no size of its own.
@@ -822,7 +842,7 @@ impl FileReport {
                 return self.add_failure(cx, place.name, failure);
             }
         };
-        match self.put_report(cx, sources.names(), place.name, &mut report) {
+        match self.put_report(cx, sources.names(), place, &mut report) {
             Ok(()) => Ok(()),
             Err(error) => {
                 let failure = refusal_of(self.alloc, place.name, place.own, error);
@@ -837,16 +857,24 @@ impl FileReport {
         for item in 0..sources.item_count() {
             name.clear();
             sources.write_name(&mut name, item)?;
-            let place = NamePlace {
-                name: name.as_str(),
-                own: Spot::Nowhere.of(sources.place_of(item)),
-            };
+            let own = Spot::Nowhere.of(sources.place_of(item));
             if sources.is_reported(item) {
+                let parts = if cx.options.with_parts {
+                    let parts = sources.parts_of(self.alloc, cx.dl, item)?;
+                    Some(parts_value(self.alloc, sources, &parts)?)
+                } else {
+                    None
+                };
+                let place = NamePlace {
+                    name: name.as_str(),
+                    own,
+                    parts: parts.as_ref(),
+                };
                 let found = sources.type_of(self.alloc, cx.dl, item);
                 self.add_found(cx, sources, place, found)?;
             } else if let Err(fault) = sources.check_names(self.alloc, cx.dl, item) {
-                let failure = failure_of(self.alloc, sources, &fault, place.own);
-                self.add_failure(cx, place.name, failure)?;
+                let failure = failure_of(self.alloc, sources, &fault, own);
+                self.add_failure(cx, name.as_str(), failure)?;
             }
         }
         Ok(())
@@ -860,10 +888,17 @@ impl FileReport {
         types: &[&str],
     ) -> Result<(), SourceFailure> {
         for (before, name) in types.iter().enumerate() {
+            let parts = if cx.options.with_parts {
+                let parts = sources.parts_written(self.alloc, cx.dl, name)?;
+                Some(parts_value(self.alloc, sources, &parts)?)
+            } else {
+                None
+            };
             let found = sources.type_written(self.alloc, cx.dl, name);
             let place = NamePlace {
                 name,
                 own: Spot::Asked(before, 0),
+                parts: parts.as_ref(),
             };
             self.add_found(cx, sources, place, found)?;
         }

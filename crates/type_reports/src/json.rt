@@ -8,6 +8,7 @@ ghost use Rattle.type_reports.specs.Document.{IsDocument};
 use crate::crate_files::CrateFiles;
 use crate::labels::{offset_at, offsets_of, write_field_name};
 use crate::options::ReportOptions;
+use crate::parts::layout_value;
 use crate::place::locate;
 use abi_base::{Size, TargetDataLayout};
 use abi_rust::{Label, ReportShape, VariantLabels};
@@ -55,7 +56,7 @@ pub(crate) fn put_text(
 }
 
 /// Puts a number into an object.
-fn put_number(
+pub(crate) fn put_number(
     alloc: Global,
     object: &mut Map<String, Value>,
     key: &str,
@@ -375,9 +376,8 @@ impl JsonLists {
         append_values(&mut self.faults, faults)
     }
 
-    /// The document, with the target's name where all types are laid out for one. An error comes where a growth of memory was
-    /// refused.
-    pub fn into_document(self, alloc: Global, target: Option<&str>) -> Result<Value, AllocError> {
+    /// The document as an object, without its target. An error comes where a growth of memory was refused.
+    fn into_object(self, alloc: Global) -> Result<Map<String, Value>, AllocError> {
         let JsonLists {
             types,
             skipped,
@@ -385,14 +385,30 @@ impl JsonLists {
         } = self;
         let mut object = Map::new(alloc);
         put_number(alloc, &mut object, "version", VERSION)?;
-        if let Some(triple) = target {
-            put_text(alloc, &mut object, "target", triple)?;
-        }
         put_member(alloc, &mut object, "types", Value::Array(types))?;
         put_member(alloc, &mut object, "skipped", Value::Array(skipped))?;
         put_member(alloc, &mut object, "faults", Value::Array(faults))?;
-        Ok(Value::Object(object))
+        Ok(object)
     }
+}
+
+/// The JSON document of these lists, with the target where all types are laid out for one.
+fn document_of(
+    alloc: Global,
+    options: &ReportOptions<'_>,
+    lists: JsonLists,
+) -> Result<Value, AllocError> {
+    let mut object = lists.into_object(alloc)?;
+    if let Some(target) = options.targets.first() {
+        if options.targets.len() == 1 {
+            put_text(alloc, &mut object, "target", target.triple)?;
+            if options.with_parts {
+                let layout = layout_value(alloc, target)?;
+                put_member(alloc, &mut object, "data_layout", layout)?;
+            }
+        }
+    }
+    Ok(Value::Object(object))
 }
 
 /// The text of the JSON document of these lists, with a line feed at its end. An error comes where a growth of memory was
@@ -404,11 +420,7 @@ pub fn document_text(
 ) -> Result<String, AllocError>
     ensures { IfOk result (λ text. IsDocument (string_bytes text)) }
 {
-    let target = match options.targets.first() {
-        Some(target) if options.targets.len() == 1 => Some(target.triple),
-        _ => None,
-    };
-    let document = lists.into_document(alloc, target)?;
+    let document = document_of(alloc, options, lists)?;
     let mut text = document.to_string_pretty(alloc)?;
     text.push_str("\n")?;
     Ok(text)

@@ -11,9 +11,9 @@ mod sorting;
 // The files of a crate, and the crates that it depends on.
 mod crate_files;
 mod file_source;
-mod given_files;
 mod module_files;
 mod package_crates;
+mod text_files;
 
 // Types as lines, as maps and as JSON, and the answer to a source.
 mod answer;
@@ -24,11 +24,12 @@ mod labels;
 mod lines;
 mod mapped;
 mod notes;
+mod parts;
 mod pretty;
 
-// The answer to files that were given.
-mod given;
-mod given_options;
+// The answers to files that are handed in.
+mod documents;
+mod line_options;
 
 // What an object says of a type.
 mod facts;
@@ -42,9 +43,9 @@ mod waste;
 pub use answer::{FileFailure, FileReport, Outcome, answer_source};
 pub use assertions::{Assertion, assertion_in};
 pub use crate_files::{SourceFile, folder_of};
+pub use documents::{FileBytes, FilesDocument, FilesTrees, document_of_files, trees_of_files};
 pub use facts::{FieldFact, TypeFacts, list_in, number_in, text_in};
 pub use file_source::FileSource;
-pub use given::{FileBytes, GivenAnswer, answer_given};
 pub use json::{JsonLists, document_text};
 pub use options::{
     Form, ReportOptions, default_targets, file_name_of, is_root, put_cfg, put_features,

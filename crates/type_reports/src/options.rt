@@ -32,6 +32,10 @@ pub struct ReportOptions<'a> {
     pub with_bytes: bool,
     /// Whether it is said what could be saved of each type.
     pub with_savings: bool,
+    /// Whether it is said what the parts of each type are called, and what the target's data layout is.
+    pub with_parts: bool,
+    /// Whether the trees of the types are kept.
+    pub keeps_trees: bool,
     /// The form of the report.
     pub form: Form,
     /// Which types are listed, and in which order.

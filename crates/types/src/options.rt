@@ -587,6 +587,8 @@ pub(crate) fn options_of<'a>(
         transmutes: matches.get_strs("transmute").is_some(),
         with_bytes: matches.get_flag("bytes"),
         with_savings: matches.get_flag("waste"),
+        with_parts: false,
+        keeps_trees: false,
         form: form_of(matches),
         selection,
         assertions,

@@ -1,13 +1,13 @@
-//! What is asked of files that were given, by lines.
+//! What is asked of files that are handed in, by lines.
 
 use crate::options::{DEFAULT_TARGET, Form, ReportOptions, put_cfg, put_features};
 use crate::sorting::Selection;
 use abi_rust::{Target, nearest_triple, target_named};
 use std::alloc::{AllocError, Global};
 
-/// What is asked of files that were given.
+/// What is asked of files that are handed in.
 #[derive(Drop)]
-pub(crate) struct GivenOptions<'a> {
+pub(crate) struct LineOptions<'a> {
     /// What the report is asked for.
     pub(crate) report: ReportOptions<'a>,
     /// The features of the crate that are on.
@@ -56,14 +56,16 @@ impl LineFault<'_> {
 }
 
 /// Nothing of all that may be asked.
-pub(crate) fn no_options<'a>(alloc: Global) -> GivenOptions<'a> {
-    GivenOptions {
+pub(crate) fn no_options<'a>(alloc: Global) -> LineOptions<'a> {
+    LineOptions {
         report: ReportOptions {
             targets: Vec::new(alloc),
             types: Vec::new(alloc),
             transmutes: false,
             with_bytes: false,
             with_savings: false,
+            with_parts: false,
+            keeps_trees: false,
             form: Form::Json,
             selection: Selection {
                 key: None,
@@ -89,7 +91,7 @@ fn target_of<'a>(alloc: Global, triple: &'a str) -> Result<Target, LineFault<'a>
     }
 }
 
-impl<'a> GivenOptions<'a> {
+impl<'a> LineOptions<'a> {
     /// Puts what a word asks for, with what stands behind it; whether it is one that has something behind it.
     fn put_named(
         &mut self,
@@ -120,6 +122,7 @@ impl<'a> GivenOptions<'a> {
             "root" => self.is_root = true,
             "bytes" => self.report.with_bytes = true,
             "waste" => self.report.with_savings = true,
+            "parts" => self.report.with_parts = true,
             "strict" => self.report.is_strict = true,
             _ => return false,
         }
@@ -152,11 +155,11 @@ impl<'a> GivenOptions<'a> {
 }
 
 /// What lines ask for: `target TRIPLE`, `type TYPE`, `features NAMES` and `cfg NAME` or `cfg NAME="VALUE"`, each as often as is
-/// wanted, and `root`, `bytes`, `waste` and `strict`, as the command's options of these names.
+/// wanted, and `root`, `bytes`, `waste` and `strict`, as the command's options of these names; and `parts`.
 pub(crate) fn options_in<'a>(
     alloc: Global,
     lines: &'a str,
-) -> Result<GivenOptions<'a>, LineFault<'a>> {
+) -> Result<LineOptions<'a>, LineFault<'a>> {
     let mut options = no_options(alloc);
     match options.put_lines(alloc, lines) {
         Ok(()) => Ok(options),
