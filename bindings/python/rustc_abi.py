@@ -845,6 +845,11 @@ class TypeLayout:
         """The layout as the calls by numbers answer it. `Unsupported` as of `read`."""
         return self._module.layout_of(self._tree)
 
+    @property
+    def is_of_c(self) -> bool:
+        """Whether it is a struct, a union or an enum under `repr(C)`."""
+        return self._tree.kind in (6, 8, 9) and self._tree.repr[3] & 1 == 1
+
     def read(self, content: bytes) -> Any:
         """The value that the bytes hold: a `Record` of a struct, a `Choice` of an enum, bytes of a union, a list of an array, and
         numbers; `None` where they hold none. `Unsupported` where no data layout string says how the type is laid out."""
