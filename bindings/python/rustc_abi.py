@@ -696,7 +696,7 @@ class Difference:
 
 
 class Record:
-    """A value of a struct, by the names of its fields: `value.len`, or `value["len"]`."""
+    """A value of a struct, by the names of its fields: `value.len`, or `value["len"]`, as of a field called `type` or `fields`."""
 
     __slots__ = ("type", "fields")
 
@@ -705,10 +705,10 @@ class Record:
         self.fields = dict(fields)
 
     def __getattr__(self, name: str) -> Any:
-        try:
-            return self.fields[name]
-        except KeyError:
-            raise AttributeError(name) from None
+        # (its own are looked for here before they are there, as by `copy`)
+        if name in ("type", "fields", "variant") or name not in self.fields:
+            raise AttributeError(name)
+        return self.fields[name]
 
     def __getitem__(self, name: str) -> Any:
         return self.fields[name]
@@ -773,7 +773,9 @@ class _Trees:
 
     def tree(self) -> _Tree:
         start = self.at
-        kind, scalars, count, repr = self.word(), (), 0, ()  # type: int, tuple[Scalar, ...], int, tuple[int, ...]
+        kind, count = self.word(), 0
+        scalars: tuple[Scalar, ...] = ()
+        repr: tuple[int, ...] = ()
         lists: tuple[tuple[_Tree, ...], ...] = ((),)
         if kind in (0, 1):
             scalars = tuple(self.scalar() for _ in range(kind + 1))

@@ -5,7 +5,7 @@ use crate::fault::Stop;
 use crate::paths::item_at;
 use crate::report::{Subject, type_of};
 use crate::resolve::resolve;
-use crate::ty::Ty;
+use crate::ty::{GenericArg, Ty};
 use rust_source::{Field, FieldName, ItemKind, Symbol};
 use std::mem;
 
@@ -118,6 +118,31 @@ fn list_of_types(
     Ok(lists)
 }
 
+/// A part that is an item under what its parameters are given.
+fn part_of_item<'a>(
+    cx: &Context<'a, '_>,
+    budget: &mut Budget<'a>,
+    number: u32,
+    given: &[GenericArg],
+    types: &mut Vec<Ty>,
+) -> Result<NamedPart, Stop> {
+    let lists = match item_at(cx.items, number) {
+        Some(item) => {
+            let instance = Instance {
+                number,
+                item,
+                given,
+            };
+            lists_of_item(cx, budget, instance, types)?
+        }
+        None => Vec::new(cx.alloc),
+    };
+    Ok(NamedPart {
+        item: Some(number as usize),
+        lists,
+    })
+}
+
 /// A part of this type; the types of its parts are put behind the others.
 fn part_of<'a>(
     cx: &Context<'a, '_>,
@@ -138,23 +163,7 @@ fn part_of<'a>(
                 lists: list_of_types(cx, parts, types)?,
             })
         }
-        Ty::Adt(number, given) => {
-            let lists = match item_at(cx.items, number) {
-                Some(item) => {
-                    let instance = Instance {
-                        number,
-                        item,
-                        given: given.as_slice(),
-                    };
-                    lists_of_item(cx, budget, instance, types)?
-                }
-                None => Vec::new(cx.alloc),
-            };
-            Ok(NamedPart {
-                item: Some(number as usize),
-                lists,
-            })
-        }
+        Ty::Adt(number, given) => part_of_item(cx, budget, number, given.as_slice(), types),
         _ => Ok(NamedPart {
             item: None,
             lists: Vec::new(cx.alloc),

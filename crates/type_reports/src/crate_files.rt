@@ -121,6 +121,18 @@ pub(crate) fn is_same_path(alloc: Global, a: &str, b: &str) -> Result<bool, Allo
     Ok(one == other)
 }
 
+/// Writes why none of both files that a module may have is taken: both are there, or none.
+fn write_choice(out: &mut String, both: bool, first: &str, second: &str) -> Result<(), AllocError> {
+    if both {
+        write!(out, "this module has two files, {first} and {second}")
+    } else {
+        write!(
+            out,
+            "this module has no file: neither {first} nor {second} is there"
+        )
+    }
+}
+
 impl<'a> CrateFiles<'a> {
     /// The file that is named, alone.
     pub(crate) fn new(alloc: Global, root: SourceFile<'a>) -> CrateFiles<'a> {
@@ -275,10 +287,8 @@ impl<'a> CrateFiles<'a> {
                 own: none,
             }));
         };
-        match (
-            from.is_there(first.as_str())?,
-            from.is_there(second.as_str())?,
-        ) {
+        let is_first = from.is_there(first.as_str())?;
+        match (is_first, from.is_there(second.as_str())?) {
             (true, false) => {
                 let bare = file_name(name);
                 let own = format!(in self.alloc; "{bare}/")?;
@@ -288,15 +298,8 @@ impl<'a> CrateFiles<'a> {
                 path: second,
                 own: none,
             })),
-            (true, true) => {
-                write!(none, "this module has two files, {first} and {second}")?;
-                Ok(Err(none))
-            }
-            (false, false) => {
-                write!(
-                    none,
-                    "this module has no file: neither {first} nor {second} is there"
-                )?;
+            (both, _) => {
+                write_choice(&mut none, both, first.as_str(), second.as_str())?;
                 Ok(Err(none))
             }
         }

@@ -5,6 +5,9 @@ use crate::sorting::Selection;
 use abi_rust::{Target, nearest_triple, target_named};
 use std::alloc::{AllocError, Global};
 
+/// A longer text is like no triple. In bytes.
+const MOST_COMPARED: usize = 256;
+
 /// What is asked of files that are handed in.
 #[derive(Drop)]
 pub(crate) struct LineOptions<'a> {
@@ -85,10 +88,15 @@ pub(crate) fn no_options<'a>(alloc: Global) -> LineOptions<'a> {
 
 /// The target with this name.
 fn target_of<'a>(alloc: Global, triple: &'a str) -> Result<Target, LineFault<'a>> {
-    match target_named(triple) {
-        Some(known) => Ok(known),
-        None => Err(LineFault::UnknownTarget(triple, nearest_triple(alloc, triple)?)),
+    if let Some(known) = target_named(triple) {
+        return Ok(known);
     }
+    let nearest = if triple.len() > MOST_COMPARED {
+        None
+    } else {
+        nearest_triple(alloc, triple)?
+    };
+    Err(LineFault::UnknownTarget(triple, nearest))
 }
 
 impl<'a> LineOptions<'a> {
