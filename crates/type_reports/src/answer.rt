@@ -574,6 +574,34 @@ fn object_of(
     Ok(Value::Object(object))
 }
 
+/// What the parts of an item's type are called, where that is asked for.
+fn parts_of_item(
+    alloc: Global,
+    cx: ReportContext<'_>,
+    sources: &Sources,
+    item: usize,
+) -> Result<Option<Value>, AllocError> {
+    if !cx.options.with_parts {
+        return Ok(None);
+    }
+    let parts = sources.parts_of(alloc, cx.dl, item)?;
+    Ok(Some(parts_value(alloc, sources, &parts)?))
+}
+
+/// The same of the type that a text writes.
+fn parts_of_text(
+    alloc: Global,
+    cx: ReportContext<'_>,
+    sources: &mut Sources,
+    text: &str,
+) -> Result<Option<Value>, AllocError> {
+    if !cx.options.with_parts {
+        return Ok(None);
+    }
+    let parts = sources.parts_written(alloc, cx.dl, text)?;
+    Ok(Some(parts_value(alloc, sources, &parts)?))
+}
+
 /// Writes the report on a laid-out type, in the form that is asked for.
 fn write_entry(
     entry: &mut TypeEntry,
@@ -859,16 +887,12 @@ impl FileReport {
             sources.write_name(&mut name, item)?;
             let own = Spot::Nowhere.of(sources.place_of(item));
             if sources.is_reported(item) {
-                let parts = if cx.options.with_parts {
-                    let parts = sources.parts_of(self.alloc, cx.dl, item)?;
-                    Some(parts_value(self.alloc, sources, &parts)?)
-                } else {
-                    None
-                };
+                let parts = parts_of_item(self.alloc, cx, sources, item)?;
+                let told = parts.as_ref();
                 let place = NamePlace {
                     name: name.as_str(),
                     own,
-                    parts: parts.as_ref(),
+                    parts: told,
                 };
                 let found = sources.type_of(self.alloc, cx.dl, item);
                 self.add_found(cx, sources, place, found)?;
@@ -888,17 +912,14 @@ impl FileReport {
         types: &[&str],
     ) -> Result<(), SourceFailure> {
         for (before, name) in types.iter().enumerate() {
-            let parts = if cx.options.with_parts {
-                let parts = sources.parts_written(self.alloc, cx.dl, name)?;
-                Some(parts_value(self.alloc, sources, &parts)?)
-            } else {
-                None
-            };
+            let parts = parts_of_text(self.alloc, cx, sources, name)?;
             let found = sources.type_written(self.alloc, cx.dl, name);
+            let own = Spot::Asked(before, 0);
+            let told = parts.as_ref();
             let place = NamePlace {
                 name,
-                own: Spot::Asked(before, 0),
-                parts: parts.as_ref(),
+                own,
+                parts: told,
             };
             self.add_found(cx, sources, place, found)?;
         }
