@@ -1,16 +1,20 @@
 -- Lists that are gone through, one more.
-use Rattle.std.proofs.Common.{◌≡◌, ℕ, zero, suc, ◌+◌, ◌<◌, ◌≤◌, List, [], ◌∷◌, ◌++◌, Ok, length, drop, get_or, drop-cons, add-one, refl, ap}
+use Rattle.std.proofs.Common.{◌≡◌, ℕ, zero, suc, ◌+◌, ◌<◌, ◌≤◌, List, [], ◌∷◌, ◌++◌, Ok, Some, length, drop, get_or, drop-cons, add-one, refl, ap}
 use Rattle.std.proofs.lemmas.List.{drop_all}
 use Rattle.std.specs.Prelude.{Option, slice_get}
 use Rattle.rust_source.specs.declared.item.Item.{Item}
 use Rattle.rust_source.specs.declared.item.Parameter.{Parameter}
 use Rattle.rust_source.specs.declared.syntax.Argument.{Argument}
+use Rattle.rust_source.specs.declared.place.Place.{Place}
+use Rattle.rust_source.specs.declared.syntax.Expr.{Expr}
 use Rattle.rust_source.specs.declared.syntax.Segment.{Segment}
 use Rattle.rust_source.specs.declared.syntax.«Type».{«Type» as Written}
 use Rattle.abi_rust.specs.declared.budget.Context.{Context}
+use Rattle.abi_rust.specs.Evaluating.{Evaluator, argument_value, arguments_from}
+use Rattle.abi_rust.specs.Kinds.{parameter_type}
 use Rattle.abi_rust.specs.Meaning.{then_meant}
 use Rattle.abi_rust.specs.Resolving.{Inner, first_argument, give_from, one_given, other_arguments, tuple_from}
-use Rattle.abi_rust.specs.Types.{GenericArgRead, TyRead, Where, tuple, types}
+use Rattle.abi_rust.specs.Types.{GenericArgRead, TyRead, Where, of_value, tuple, types}
 
 module _ (cx : Context) (R : Inner) where
   first_at : (all : List Argument) (i : ℕ) → first_argument cx R (drop i all) ≡ slice_get all i
@@ -32,6 +36,15 @@ module _ (cx : Context) (R : Inner) (w : Where) where
 
   pub tuple_done : (all : List Written) (i : ℕ) (made : List TyRead) → length all ≤ i → tuple_from cx R w made (drop i all) ≡ Ok (tuple (types made))
   tuple_done all i made done = ap (λ rest. tuple_from cx R w made rest) (drop_all i all done)
+
+  -- one more of a function's arguments
+  pub arguments_more : (E : Evaluator) (at : Place) (n : ℕ) (all : List Expr) (i : ℕ) (e : Expr) (given : List GenericArgRead) → i < length all → e ≡ get_or all i e
+      → arguments_from cx E w at n given i (drop i all)
+      ≡ then_meant (λ v. arguments_from cx E w at n (given ++ of_value v ∷ []) (i + 1) (drop (i + 1) all)) (argument_value cx E w at (parameter_type cx.items.now cx.scope.now (Some n) i) e)
+  arguments_more E at n all i e given more is = rw (drop-cons all i e, ← is, add-one i) refl
+
+  pub arguments_done : (E : Evaluator) (at : Place) (n : ℕ) (all : List Expr) (i : ℕ) (given : List GenericArgRead) → length all ≤ i → arguments_from cx E w at n given i (drop i all) ≡ Ok given
+  arguments_done E at n all i given done = ap (λ rest. arguments_from cx E w at n given i rest) (drop_all i all done)
 
   pub give_more : (n : ℕ) (it : Item) (s : Segment) (ps : List Parameter) (all : List Argument) (i : ℕ) (p : Parameter) (a : Option Argument) (given : List GenericArgRead) → i < length ps → p ≡ get_or ps i p → a ≡ slice_get all i
       → give_from cx R w n it s given (drop i ps) (drop i all) ≡ then_meant (λ g. give_from cx R w n it s (given ++ g ∷ []) (drop (i + 1) ps) (drop (i + 1) all)) (one_given cx R w n it s given p.kind a)

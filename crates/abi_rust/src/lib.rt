@@ -14,6 +14,7 @@ mod targets;
 mod std_source;
 
 // Names.
+mod enum_globs;
 mod extern_crates;
 mod imports;
 mod own_constants;
@@ -39,6 +40,7 @@ mod ty;
 mod written_names;
 
 // Constants.
+mod calls;
 mod constants;
 mod discriminants;
 mod evaluate;

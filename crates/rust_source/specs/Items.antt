@@ -60,7 +60,7 @@ pub data ItemKindRead : Type 0 where
   enum_of : List VariantRead → ItemKindRead
   union_of : FieldsRead → ItemKindRead
   alias_of : TypeRead → ItemKindRead
-  const_of : TypeRead → (value : Option ExprRead) → (owner : Option ℕ) → ItemKindRead
+  const_of : TypeRead → (value : Option ExprRead) → (owner : Option ℕ) → (is_function : Bool) → ItemKindRead
 
 -- an item, where its name stands, and the number of the module that it is in
 pub record ItemRead : Type 0 where
@@ -124,7 +124,7 @@ parameter_of p = record { name = p.name; at = p.at; may_be_unsized = p.may_be_un
 
 -- a constant, with the type that it is of
 abbrev pub constant_of : Const → ItemKindRead
-constant_of c = const_of (type_of c.ty) (option_map expr_of c.value) c.owner
+constant_of c = const_of (type_of c.ty) (option_map expr_of c.value) c.owner c.is_function
 
 -- what an item is
 abbrev pub item_kind_of : ItemKind → ItemKindRead

@@ -17,6 +17,7 @@ pub mod Passing
 pub mod Lifetimes
 pub mod Reading
 pub mod Repr
+pub mod Texts
 pub mod Simple
 pub mod Terms
 pub mod Joining

@@ -93,7 +93,7 @@ pub struct Enum {
     pub variants: Vec<Variant>,
 }
 
-/// The type and the value of a constant, of a module's or of a type's own.
+/// The type and the value of a constant, of a module's or of a type's own; or a function or a static, as constants see it.
 #[derive(Drop)]
 pub struct Const {
     pub ty: Type,
@@ -101,6 +101,9 @@ pub struct Const {
     pub value: Option<Expr>,
     /// The number of the type whose own it is among those of `Items::owners`; none where it is a module's.
     pub owner: Option<u32>,
+    /// Whether it is a function. Where constants may call one, its value is its body, its parameters are the item's, and
+    /// its type is that of a function with its result alone; else it has no value.
+    pub is_function: bool,
 }
 
 /// What an item defines: a type, another name of one, or a constant (Rust Reference, "Items").

@@ -22,6 +22,7 @@ mod paths;
 mod repeated;
 mod repr;
 mod signatures;
+mod texts;
 mod traits;
 mod types;
 mod uses;

@@ -45,7 +45,7 @@ struct OwnConst {
 }
 
 /// Whether memory was wanting.
-fn is_wanting(kind: SourceFaultKind) -> bool
+pub(crate) fn is_wanting(kind: SourceFaultKind) -> bool
     ensures { result ≡ is_wanting kind }
 {
     match kind {

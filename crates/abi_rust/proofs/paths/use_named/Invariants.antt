@@ -1,6 +1,6 @@
 use Rattle.std.proofs.Common.{◌≡◌, drop, map}
 use Rattle.abi_rust.specs.Names.{behind_all, target_in}
-use Rattle.abi_rust.proofs.paths.target_of.Given as goal
+use Rattle.abi_rust.proofs.paths.use_named.Given as goal
 
 -- what the names name that are left, behind what is found, is what all of them name
 abbrev pub invariant-loop-name : goal.invariant-loop-name
