@@ -340,7 +340,8 @@ fn read_module(
 ) -> Result<(), SourceFault>
     ensures kept { KeepsItems items.old items.new }
     ensures read { Reads (λ _. cursor.new)
-        (module_read rules.now (module_within rules.now context.now.depth_left) context.now.standing context.now.said cursor.old (texts names.old, items_as_read items.old))
+        (module_read rules.now (module_within rules.now context.now.depth_left) context.now.standing context.now.said
+        cursor.old (texts names.old, items_as_read items.old))
         (texts names.new, items_as_read items.new) result }
 {
     pass(cursor, 1);
