@@ -1,7 +1,7 @@
-/* library CASES STACK_KB: calls the library over inputs whose answers are known, from four threads at once, each with so much stack. Each
+/* library CASES STACK_KB: calls the library over inputs, and Rust sources, whose answers are known, from four threads at once, each with so much stack. Each
    input is asked with no room, with a byte too few, with exactly enough and with more, in blocks of their own, so that the address sanitizer
    sees a byte that is read or written beside one. Prints what is wrong, and how many answers were looked at; the status is 0 where none is
-   wrong. scripts/try_library writes CASES: for each input a byte l or m, for a layout or a map, one for the status, and twice a length of four
+   wrong. scripts/try_library writes CASES: for each input a byte l, m or s, for a layout, a map or a source, one for the status, and twice a length of four
    bytes, the least first, and so many bytes: the input, and the answer. */
 #include "rustc_abi.h"
 #include <pthread.h>
@@ -41,6 +41,14 @@ static uint8_t *copied(const uint8_t *bytes, size_t len) {
 
 static void freed(uint8_t *made, size_t len) { free(len ? made : made - 1); }
 
+static uint8_t answer(const test *it, const uint8_t *input, uint8_t *output, size_t room, size_t *needed) {
+    const uint8_t *empty = (const uint8_t *)"";
+    struct rustc_abi_file root = {empty, 0, input, it->input_len};
+    if (it->call == 's')
+        return abi_c_types(&root, 1, empty, 0, output, room, needed);
+    return (it->call == 'm' ? abi_c_map : abi_c_layout)(input, it->input_len, output, room, needed);
+}
+
 /* Whether the answer, in a block of `room` bytes, is the one that is known, and nothing else of the block changed. */
 static int is_right(const test *it, const uint8_t *input, size_t room) {
     uint8_t *output = must(malloc(room ? room : 1)), *start = output;
@@ -48,7 +56,7 @@ static int is_right(const test *it, const uint8_t *input, size_t room) {
     if (!room)
         output++;
     size_t needed = (size_t)-1;
-    uint8_t status = (it->call == 'm' ? abi_c_map : abi_c_layout)(input, it->input_len, output, room, &needed);
+    uint8_t status = answer(it, input, output, room, &needed);
     size_t written = it->text_len <= room ? it->text_len : 0;
     int right = status == it->status && needed == it->text_len && !memcmp(output, it->text, written);
     for (size_t at = written; at < room; at++)

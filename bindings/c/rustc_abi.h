@@ -1,5 +1,5 @@
-/* Type layouts: the calculator of `./layout` and `./map` as two calls, text in and text out, and five by numbers: of
-   layouts, of values and their bytes, and of what may be done with bytes.
+/* Type layouts: the calculator of `./layout` and `./map` as two calls, text in and text out, five by numbers: of layouts, of
+   values and their bytes, and of what may be done with bytes; and two over Rust source, as `./types` reads it.
    docs/EMBEDDING.md has how it is linked, docs/FORMATS.md the format of inputs and answers, docs/NUMBERS.md the numbers.
 
    Of all calls:
@@ -7,7 +7,7 @@
      and is only read.
    - The caller owns all memory, before and after. A call keeps no pointer, and frees what it takes for itself.
    - No pointer may be null, even beside a length of 0. What is written, `needed` and the room before it (`output`, `layout`,
-     `bytes`, `value` or `answer`), may overlap nothing else that is handed in.
+     `types`, `bytes`, `value` or `answer`), may overlap nothing else that is handed in.
    - Calls share nothing: threads may call at once, each with an `output` and a `needed` of its own. No call is made
      from a signal handler. Memory is from malloc, realloc and free. A call wants stack, more for a deeper type: 2 MB were
      enough for types nested as deep as can be. */
@@ -145,6 +145,32 @@ uint8_t abi_c_layout(const uint8_t *input, size_t input_len, uint8_t *output, si
 
 /* Asks which parts of a type have each of its bytes, and else is as `abi_c_layout`. */
 uint8_t abi_c_map(const uint8_t *input, size_t input_len, uint8_t *output, size_t output_len, size_t *needed);
+
+/* A file of a crate. Its path is what a module's file is looked for by, and is in faults; empty where it has none. */
+struct rustc_abi_file {
+    const uint8_t *path;
+    size_t path_len;
+    const uint8_t *text;
+    size_t text_len;
+};
+
+/* Asks for the JSON document that `./types --json` writes of a crate's types (docs/types.schema.json), whose files these are, the
+   root first; no other file is looked for. `asked` is lines, as the options of `./types`: `target TRIPLE`, `type TYPE`,
+   `features NAMES`, `cfg NAME` and `cfg NAME="VALUE"`, each as often as is wanted, `root`, `bytes`, `waste` and `strict`; and
+   `parts`, which puts to each type what its parts are called. Answers the status: 0 where each type is reported on, 1 where a
+   layout is refused or memory was wanting, 2 where a source, a type or what is asked has a fault. What stops `./types` without a
+   document is a fault in one without types here.
+
+   `*needed` and `output` are as those of `abi_c_layout`. */
+uint8_t abi_c_types(const struct rustc_abi_file *files, size_t files_len, const uint8_t *asked, size_t asked_len,
+                    uint8_t *output, size_t output_len, size_t *needed);
+
+/* Asks for the numbers of the types that the document of the same question has, in its order: how many there are, and those of
+   each, as the other calls take them. Answers the same status; 1 and no type where one has no numbers.
+
+   `*needed` and `types` are as `*needed` and `layout` of `abi_c_lay_out`. */
+uint8_t abi_c_trees(const struct rustc_abi_file *files, size_t files_len, const uint8_t *asked, size_t asked_len,
+                    uint64_t *types, size_t types_len, size_t *needed);
 
 /* Lays out the type that has these numbers under a data layout string. Answers the status. What is lent are the numbers
    of the layout, the first as `struct rustc_abi_head`; beside `RUSTC_ABI_REFUSED` and `RUSTC_ABI_UNREADABLE` it is one

@@ -15,6 +15,7 @@ fn main() {
         eprintln!("no archive is at {}: './library --prove' makes it", archive.display());
         std::process::exit(1);
     }
+    println!("cargo:rustc-env=RUSTC_ABI_TARGET={}", env::var("TARGET").expect("cargo tells the target"));
     println!("cargo:rustc-link-search=native={}", own.join(&folder).display());
     println!("cargo:rustc-link-lib=static=rustc_abi");
 }

@@ -8,8 +8,26 @@ const ROOM: usize = 4096;
 /// A room that is enough for most layouts and values, in numbers, or bytes of a value.
 const NUMBERS: usize = 256;
 
+/// `struct rustc_abi_file`.
+#[repr(C)]
+struct File {
+    path: *const u8,
+    path_len: usize,
+    text: *const u8,
+    text_len: usize,
+}
+
 // As `rustc_abi.h` declares them, which nothing checks.
 extern "C" {
+    fn abi_c_types(
+        files: *const File,
+        files_len: usize,
+        asked: *const u8,
+        asked_len: usize,
+        output: *mut u8,
+        output_len: usize,
+        needed: *mut usize,
+    ) -> u8;
     fn abi_c_layout(input: *const u8, input_len: usize, output: *mut u8, output_len: usize, needed: *mut usize) -> u8;
     fn abi_c_map(input: *const u8, input_len: usize, output: *mut u8, output_len: usize, needed: *mut usize) -> u8;
     fn abi_c_lay_out(
@@ -165,5 +183,17 @@ pub(crate) fn transmute(data_layout: &[u8], first: &[u64], second: &[u64]) -> (u
             let (second, count) = (second.as_ptr(), second.len());
             abi_c_transmute(string.as_ptr(), string.len(), first.as_ptr(), first.len(), second, count, room.as_mut_ptr(), room.len(), needed)
         }
+    })
+}
+
+/// The status and the document that are answered to files and to the lines that ask.
+pub(crate) fn types(files: &[(String, Vec<u8>)], asked: &[u8]) -> (u8, Vec<u8>) {
+    let files: Vec<File> = files
+        .iter()
+        .map(|(path, text)| File { path: path.as_ptr(), path_len: path.len(), text: text.as_ptr(), text_len: text.len() })
+        .collect();
+    lent(|room: &mut [u8], needed| {
+        // SAFETY: as in `lay_out`; the texts that the files point to are borrowed for the call, too.
+        unsafe { abi_c_types(files.as_ptr(), files.len(), asked.as_ptr(), asked.len(), room.as_mut_ptr(), room.len(), needed) }
     })
 }

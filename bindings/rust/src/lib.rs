@@ -1,5 +1,6 @@
 //! Type layouts: the calculator of `./layout` and `./map` over the archive `librustc_abi.a`, text in and text out, and
-//! [`lay_out`], [`write_value`], [`read_value`], [`bytes_of`] and [`transmute`], by values of Rust.
+//! [`lay_out`], [`write_value`], [`read_value`], [`bytes_of`] and [`transmute`], by values of Rust; and [`Source`], the types of Rust
+//! source by their names.
 //!
 //! ```
 //! let answer = rustc_abi_text::layout("e-p:64:64-i64:64", "struct C ( u8 u32 )");
@@ -13,12 +14,15 @@
 
 mod bytes;
 mod call;
+mod json;
 mod layouts;
+mod source;
 mod types;
 mod values;
 
 pub use bytes::{bytes_of, transmute, ByteAnswer, ByteAnswers, Transmuted};
 pub use layouts::{lay_out, BackendRepr, DataLayout, Error, Fields, Layout, Niche, TagEncoding, VariantLayout, Variants};
+pub use source::{FieldLayout, Module, Source, SourceError, SourceFault, TypeLayout, HOST};
 pub use types::{Float, Integer, IntegerType, Primitive, Repr, ScalableElt, Scalar, Type, WrappingRange};
 pub use values::{read_value, write_value, Value};
 

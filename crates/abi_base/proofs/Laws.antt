@@ -75,11 +75,11 @@ all_three a b d h k m = let n = both (a && b) d (both a b h k) m in (λ t. ((n.0
 pub all_four : {P Q R S : Type 0} (a b d e : Bool) → (IsTrue a ↔ P) → (IsTrue b ↔ Q) → (IsTrue d ↔ R) → (IsTrue e ↔ S) → (IsTrue (a && b && d && e) ↔ P × Q × R × S)
 all_four a b d e h k m o = let n = both (a && b && d) e (all_three a b d h k m) o in (λ t. ((n.0 t).0.0, (n.0 t).0.1, (n.0 t).0.2, (n.0 t).1), λ p. n.1 ((p.0, p.1, p.2), p.3))
 
-all_front : {X : Type 0} (P : X → Type 0) (xs ys : List X) → All P (xs ++ ys) → All P xs
+pub all_front : {X : Type 0} (P : X → Type 0) (xs ys : List X) → All P (xs ++ ys) → All P xs
 all_front P [] ys h = All-nil P
 all_front P (x ∷ xs) ys h = All-cons P x xs (All-head P x (xs ++ ys) h) (all_front P xs ys (All-tail P x (xs ++ ys) h))
 
-all_back : {X : Type 0} (P : X → Type 0) (xs ys : List X) → All P (xs ++ ys) → All P ys
+pub all_back : {X : Type 0} (P : X → Type 0) (xs ys : List X) → All P (xs ++ ys) → All P ys
 all_back P [] ys h = h
 all_back P (x ∷ xs) ys h = all_back P xs ys (All-tail P x (xs ++ ys) h)
 

@@ -5,6 +5,7 @@ ghost use Rattle.abi_base.specs.Float.{float_size, float_align, float_text, is_i
 
 use crate::align::Align;
 use crate::data_layout::HasDataLayout;
+use crate::prove_ascending;
 use crate::size::Size;
 
 /// A floating-point format. Only its size and its alignment matter to a layout.
@@ -25,15 +26,7 @@ pub enum Float {
 }
 
 // The order in which floats are compared.
-const _: () = prove!((Float::F16 as u8) < Float::F16B as u8);
-
-const _: () = prove!((Float::F16B as u8) < Float::F32 as u8);
-
-const _: () = prove!((Float::F32 as u8) < Float::F64 as u8);
-
-const _: () = prove!((Float::F64 as u8) < Float::F128 as u8);
-
-const _: () = prove!((Float::F128 as u8) < Float::PpcF128 as u8);
+const _: () = prove_ascending!(Float: F16, F16B, F32, F64, F128, PpcF128);
 
 impl Float {
     /// How many bytes a float of the format has: 2 to 16.

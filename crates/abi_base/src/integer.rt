@@ -10,6 +10,7 @@ ghost use Rattle.abi_base.specs.IntegerType.{KnowsIndex, integer_of_type, is_sig
 
 use crate::align::Align;
 use crate::data_layout::HasDataLayout;
+use crate::prove_ascending;
 use crate::size::Size;
 use std::error::Error;
 use std::fmt;
@@ -31,13 +32,7 @@ pub enum Integer {
 }
 
 // The order of the integers, by which they are compared, is that of their sizes.
-const _: () = prove!((Integer::I8 as u8) < Integer::I16 as u8);
-
-const _: () = prove!((Integer::I16 as u8) < Integer::I32 as u8);
-
-const _: () = prove!((Integer::I32 as u8) < Integer::I64 as u8);
-
-const _: () = prove!((Integer::I64 as u8) < Integer::I128 as u8);
+const _: () = prove_ascending!(Integer: I8, I16, I32, I64, I128);
 
 impl Integer {
     /// How many bytes it has: 1 to 16, a power of two.

@@ -7,6 +7,7 @@ mod size;
 
 // Primitive types, and what stands behind pointers.
 mod address_space;
+mod ascending;
 mod float;
 mod integer;
 mod niche_optimizations;

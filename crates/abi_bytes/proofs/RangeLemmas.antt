@@ -1,10 +1,10 @@
 -- Formulas for numbers of a range.
-use Rattle.std.proofs.Common.{◌≡◌, ◌⊎◌, ℕ, ◌*◌, ◌/◌, ◌^◌, ◌<◌, ◌≤◌, List, arith, sym, subst, inl, inr, ⊎_elim}
+use Rattle.std.proofs.Common.{◌≡◌, ◌⊎◌, ℕ, ◌*◌, ◌/◌, ◌^◌, ◌<◌, ◌≤◌, List, length, arith, sym, subst, inl, inr, ⊎_elim}
 use Rattle.std.proofs.Math.Nat.{div-eq_of_lt}
 use Rattle.automata.specs.Formula.{Formula, both, either}
-use Rattle.automata.specs.Formulas.{IsMade}
+use Rattle.automata.specs.Formulas.{IsMade, Keeps}
 use Rattle.automata.specs.Nodes.{formula_in}
-use Rattle.automata.specs.Number.{IsAbove, IsBelow, IsBig, IsLittle}
+use Rattle.automata.specs.Number.{IsAbove, IsBelow, IsBig, IsLittle, ReadsLittle}
 use Rattle.automata.specs.declared.numbers.Bound.{Bound}
 use Rattle.abi_base.specs.declared.endian.Endian.{Endian}
 use Rattle.abi_base.specs.declared.endian.Endian.TheVariants.{Little, Big}
@@ -13,21 +13,16 @@ use Rattle.abi_bytes.specs.Holding.{MakeNumber}
 use Rattle.abi_bytes.specs.Formulas.{IsFormula}
 use Rattle.abi_bytes.proofs.FirstLemmas.{big_made, little_made, made_both, made_either, made_like, number_both, number_either, number_like}
 
+little : (old new : List Formula) (n i : ℕ) (P : ℕ → Type 0) (order : Endian) → order ≡ Little → Keeps old new → i < length new → ReadsLittle (formula_in new i) n P
+    → IsFormula old new n (MakeNumber order P) i
+little old new n i P order is kept there reads =
+    subst (λ o. IsFormula old new n (MakeNumber o P) i) (sym is) (record { kept = kept; there = there; reads = little_made (formula_in new i) n P reads })
+
 pub up_to_little : (old new : List Formula) (n t : ℕ) (b : Bound) (order : Endian) → order ≡ Little → IsBelow old new n t b → IsFormula old new n (MakeNumber order (λ m. m ≤ t)) b.loose
-up_to_little old new n t b order is made =
-    subst (λ o. IsFormula old new n (MakeNumber o (λ m. m ≤ t)) b.loose) (sym is) (record {
-      kept = made.kept;
-      there = made.loose_there;
-      reads = little_made (formula_in new b.loose) n (λ m. m ≤ t) made.loose;
-    })
+up_to_little old new n t b order is made = little old new n b.loose (λ m. m ≤ t) order is made.kept made.loose_there made.loose
 
 pub from_little : (old new : List Formula) (n t : ℕ) (b : Bound) (order : Endian) → order ≡ Little → IsAbove old new n t b → IsFormula old new n (MakeNumber order (λ m. t ≤ m)) b.loose
-from_little old new n t b order is made =
-    subst (λ o. IsFormula old new n (MakeNumber o (λ m. t ≤ m)) b.loose) (sym is) (record {
-      kept = made.kept;
-      there = made.loose_there;
-      reads = little_made (formula_in new b.loose) n (λ m. t ≤ m) made.loose;
-    })
+from_little old new n t b order is made = little old new n b.loose (λ m. t ≤ m) order is made.kept made.loose_there made.loose
 
 pub from_big : (old new : List Formula) (n t i : ℕ) (P : ℕ → Type 0) (order : Endian) → order ≡ Big → t < numbers_of n → IsBig old new n P (t / 2 ^ (8 * n)) i → IsFormula old new n (MakeNumber order P) i
 from_big old new n t i P order is fits made =

@@ -1,9 +1,9 @@
 -- Formulas for the numbers of a tag.
 use Rattle.std.proofs.Common.{◌≡◌, ◌⊎◌, ◌≢◌, ℕ, zero, suc, ◌+◌, ◌-◌, ◌*◌, ◌%◌, ◌^◌, ◌<◌, ◌≤◌, List, [], ◌∷◌, Bool, true, false, get_or, min, max, arith, refl, sym, ap, ◌∙◌, subst, inl, inr, ⊎_elim}
 use Rattle.std.specs.Prelude.{MatchBool}
-use Rattle.std.proofs.Math.Nat.{mod-add-mod, mod-mod, mul-add-mod_self_right, one-le-pow, suc-mul}
+use Rattle.std.proofs.Math.Nat.{mod-add-mod, one-le-pow, suc-mul}
 use Rattle.std.proofs.lemmas.Bool.{cases_lt}
-use Rattle.std.proofs.lemmas.Nat.{mod-mul-add, mod-pow-add, mod_below, pow-add}
+use Rattle.std.proofs.lemmas.Nat.{mod-mul-add, mod_below, pow-add}
 use Rattle.automata.specs.Formula.{Formula, both, never}
 use Rattle.automata.specs.Formulas.{IsMade}
 use Rattle.automata.specs.Nodes.{formula_in}
@@ -17,6 +17,7 @@ use Rattle.abi_tree.specs.Placed.{Placed}
 use Rattle.abi_bytes.specs.Holding.{MakeNumber}
 use Rattle.abi_bytes.specs.Formulas.{IsFormula}
 use Rattle.abi_bytes.specs.Tags.{AreAllTaken, HasBeside, IsBeside}
+use Rattle.abi_tree.proofs.Bytes.NumberLemmas.{cut_twice, cut_width}
 use Rattle.abi_bytes.proofs.FirstLemmas.{made_both, made_like, made_never, number_both, number_like}
 
 -- the greatest number of so many bytes
@@ -215,17 +216,6 @@ pub tagged_only : (width first start untagged last i tag : ℕ) → i ≢ untagg
 tagged_only width first start untagged last i tag other h = ⊎_elim (λ x. x.1) (λ x. absurd (other x.0)) h
 
 -- ---- as the code finds them
-
-cut_width : (n width : ℕ) → n % 2 ^ (width * 8) ≡ n % numbers_of width
-cut_width n width = let turned : width * 8 ≡ 8 * width = omega arith in ap (λ k. n % 2 ^ k) turned
-
-cut_twice : (n width : ℕ) → width ≤ 16 → n % 2 ^ 128 % 2 ^ (width * 8) ≡ n % numbers_of width
-cut_twice n width most =
-    let bits : 128 ≡ (128 - 8 * width) + 8 * width = omega arith in
-    let turned : width * 8 ≡ 8 * width = omega arith in
-    ap (λ k. n % 2 ^ 128 % 2 ^ k) turned ∙ ap (λ k. n % 2 ^ k % 2 ^ (8 * width)) bits
-    ∙ ap (λ m. m % 2 ^ (8 * width)) (mod-pow-add n (128 - 8 * width) (8 * width))
-    ∙ mul-add-mod_self_right _ (2 ^ (8 * width)) (n % 2 ^ (8 * width)) ∙ mod-mod n (2 ^ (8 * width))
 
 -- a number that names a variant directly is the variant's, cut
 pub direct_number : (done : List Placed) (width tag : ℕ) (vs : List (ℕ × ℕ)) (i : ℕ) (d : ℕ × ℕ) → NamesDirectly width (tagged_variants_in done vs) tag i → (get_or vs i d).0 % numbers_of width ≡ tag

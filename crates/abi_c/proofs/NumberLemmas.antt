@@ -14,3 +14,5 @@ pub mod Layouts
 pub mod ValueBack
 -- values as numbers, one more
 pub mod ValueSteps
+-- types as numbers, one more
+pub mod TreeSteps

@@ -10,3 +10,5 @@ pub mod FlatValues
 pub mod FlatBytes
 -- types, values, layouts and answers about bytes as numbers
 pub mod Numbers
+-- what is answered of the types of Rust source
+pub mod Source

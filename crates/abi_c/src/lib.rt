@@ -11,6 +11,9 @@ mod laid_type;
 mod numbers;
 mod values;
 
+// Rust source, and what is answered of its types.
+mod source;
+
 ghost use Rattle.std.specs.Prelude.{◌≡◌, ℕ, List};
 ghost use Rattle.abi_text.specs.Output.{IsOutputOf, Output};
 ghost use Rattle.abi_text.specs.Report.{ReportsLayout};
@@ -19,14 +22,17 @@ ghost use Rattle.abi_c.specs.Flat.{IsLayoutReply, IsLentReply};
 ghost use Rattle.abi_c.specs.FlatBytes.{IsBytesOf, IsReplyOfTwo, IsTransmuteOf};
 ghost use Rattle.abi_c.specs.FlatValues.{IsReadOf, IsReplyOfLaid, IsWrittenOf};
 ghost use Rattle.abi_c.specs.Lent.{IsLentAnswer};
+ghost use Rattle.abi_c.specs.Source.{IsLentDocument, IsReplyOfTrees};
 
 use crate::bytes::{answer_bytes, answer_transmute};
 use crate::flat::answer_numbers;
 use crate::lend::lend;
+use crate::source::{MEMORY_DOCUMENT, answer_trees};
 use crate::values::{answer_read, answer_write};
 use abi_map::MapText;
 use abi_text::{LayoutText, Report, answer_input};
 use std::alloc::Global;
+use type_reports::{FileBytes, document_of_files};
 
 /// Lends the answer to an input, whose type is printed as `T` says, and answers its status.
 fn answer_text<T: Report>(alloc: Global, input: &[u8], output: &mut [u8], needed: &mut usize) -> u8
@@ -76,6 +82,63 @@ pub extern "C" fn abi_c_map(
     ensures one { (all : List ℕ) (a b : Output) → IsOutputOf ReportsMap all a → IsOutputOf ReportsMap all b → a ≡ b }
 {
     answer_text::<MapText>(alloc, input, output, needed)
+}
+
+/// Answers the JSON document that the program `types` writes with `--json` of a crate's types, whose files these are, the root
+/// first, and its status: 0 where each is reported on, 1 where a layout is refused, 2 where a source or a type has a fault, 3
+/// where what is asked of types isn't so. What stops the program is a fault in a document without types. `asked` is lines:
+/// `target TRIPLE`, `type TYPE`, `features NAMES`, `cfg NAME` or `cfg NAME="VALUE"`, `root`, `bytes`, `waste` and `strict`, as
+/// the program's options; and `parts`, for what the parts of types are called.
+///
+/// `needed` is the length of the document in bytes. It stands at the front of `output` where it fits, and nothing behind it
+/// changes; else `output` stays as it was. Where memory is wanting the document says so, and the status is 1.
+#[unsafe(no_mangle)]
+pub extern "C" fn abi_c_types(
+    alloc: Global,
+    files: &[FileBytes<'_>],
+    asked: &[u8],
+    output: &mut [u8],
+    needed: &mut usize,
+) -> u8
+    ensures { IsLentDocument result output.old output.new needed.new }
+{
+    match document_of_files(alloc, files, asked) {
+        Ok(answer) => {
+            lend(answer.text.as_bytes(), output, needed);
+            answer.outcome.status()
+        }
+        Err(_) => {
+            lend(MEMORY_DOCUMENT, output, needed);
+            1
+        }
+    }
+}
+
+/// Answers the numbers of the types that `abi_c_types` lists for the same question, in its order, behind their count, and its
+/// status. Where a type has no numbers, as a coroutine, the status is 1, and there are those of no type.
+///
+/// `needed` is how many numbers there are. They stand at the front of `types` where they fit, and nothing behind them
+/// changes; else `types` stays as it was. Where memory is wanting the status is 1, and the number 0.
+#[unsafe(no_mangle)]
+pub extern "C" fn abi_c_trees(
+    alloc: Global,
+    files: &[FileBytes<'_>],
+    asked: &[u8],
+    types: &mut [u64],
+    needed: &mut usize,
+) -> u8
+    ensures { IsLentReply IsReplyOfTrees result types.old types.new needed.new }
+{
+    match answer_trees(alloc, files, asked) {
+        Ok(answer) => {
+            lend(answer.numbers.as_slice(), types, needed);
+            answer.status
+        }
+        Err(_) => {
+            lend(&[0u64], types, needed);
+            1
+        }
+    }
 }
 
 /// Lays out the type that has these numbers under the data layout of a string, and answers the status: 0 where it has a

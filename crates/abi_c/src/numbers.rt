@@ -11,6 +11,7 @@ mod words;
 mod kind;
 mod layout;
 mod tree;
+mod write_tree;
 
 // Values.
 mod value;
@@ -20,4 +21,5 @@ pub(crate) use error::ReadError;
 pub(crate) use layout::write_layout;
 pub(crate) use tree::read_tree;
 pub(crate) use value::read_flat_value;
+pub(crate) use write_tree::write_flat_trees;
 pub(crate) use write_value::{write_bytes, write_flat_value};

@@ -41,7 +41,7 @@ keeps_same items old new keeps same = record {
 
 -- the scope with what another one knows of constants of types
 abbrev with_own : (scope other : Scope) → Scope
-with_own scope other = record scope { owners = other.owners; own_constants = other.own_constants }
+with_own scope other = record scope { owners = other.owners; own_constants = other.own_constants; enum_globs = other.enum_globs }
 
 -- that tells nothing of what uses bring in
 same_targets : (items : Items) (scope other : Scope) (most : ℕ) → use_targets items (with_own scope other) most ≡ use_targets items scope most

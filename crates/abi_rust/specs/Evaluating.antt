@@ -1,16 +1,18 @@
 -- The value of a constant expression.
-use Rattle.std.specs.Prelude.{◌≡◌, ℕ, zero, suc, ◌-◌, ◌&&◌, ◌||◌, not, nat_eq, is_some, slice_get, Bool, true, false, List, [], ◌∷◌, length, ℤ, pos, neg_ℤ, ◌+ℤ◌, int_lt, Option, Some, None, Ok, Err, if◌then◌else◌}
+use Rattle.std.specs.Prelude.{◌≡◌, ℕ, zero, suc, ◌+◌, ◌++◌, ◌-◌, ◌&&◌, ◌||◌, not, nat_eq, is_some, slice_get, Bool, true, false, List, [], ◌∷◌, length, ℤ, pos, neg_ℤ, ◌+ℤ◌, int_lt, Option, Some, None, Ok, Err, if◌then◌else◌}
 use Rattle.std.specs.Option.{option_and_then, option_map, option_or}
 use Rattle.rust_source.specs.declared.item.Item.{Item}
 use Rattle.rust_source.specs.declared.item.ItemKind.{ItemKind}
 use Rattle.rust_source.specs.declared.item.ItemKind.TheVariants.{Const as ConstItem, Enum as EnumItem}
+use Rattle.rust_source.specs.declared.item.Use.{Use}
+use Rattle.rust_source.specs.declared.item.UsedName.{UsedName}
 use Rattle.rust_source.specs.declared.item.Variant.{Variant}
 use Rattle.rust_source.specs.declared.place.Place.{Place}
 use Rattle.rust_source.specs.declared.place.Symbol.{Symbol}
 use Rattle.rust_source.specs.declared.syntax.Argument.{Argument, out-Argument}
 use Rattle.rust_source.specs.declared.syntax.Argument.TheOpen as layer
 use Rattle.rust_source.specs.declared.syntax.Binary.{Binary}
-use Rattle.rust_source.specs.declared.syntax.Expr.{Expr, out-Expr, Integer as IntegerExpr, Char as CharExpr, Bool as BoolExpr, Path as PathExpr, Call', Unary', Binary', Cast', If', Unevaluated as UnevaluatedExpr}
+use Rattle.rust_source.specs.declared.syntax.Expr.{Expr, out-Expr, Integer as IntegerExpr, Char as CharExpr, Bool as BoolExpr, Text as TextExpr, Path as PathExpr, Call', Unary', Binary', Cast', If', Unevaluated as UnevaluatedExpr}
 use Rattle.rust_source.specs.declared.syntax.IntegerKind.{IntegerKind}
 use Rattle.rust_source.specs.declared.syntax.IntegerKind.TheVariants.{I32, Isize, U8, U32, Usize}
 use Rattle.rust_source.specs.declared.syntax.Path.{Path, out-Path}
@@ -29,22 +31,23 @@ use Rattle.abi_rust.specs.declared.methods.Method.TheVariants.{Greatest, Least, 
 use Rattle.abi_rust.specs.declared.methods.MethodOfOne.{MethodOfOne}
 use Rattle.abi_rust.specs.declared.methods.MethodOfTwo.{MethodOfTwo}
 use Rattle.abi_rust.specs.declared.paths.Resolution.{Resolution}
-use Rattle.abi_rust.specs.declared.paths.Resolution.TheVariants.{Ambiguous as AmbiguousFound, Hidden, Module, Item as ItemFound}
+use Rattle.abi_rust.specs.declared.paths.Resolution.TheVariants.{Ambiguous as AmbiguousFound, Hidden, Module, Item as ItemFound, Unknown}
 use Rattle.abi_rust.specs.declared.paths.Space.TheVariants.{Types, Values}
 use Rattle.abi_rust.specs.declared.ty.ConstValue.{ConstValue}
 use Rattle.abi_rust.specs.declared.ty.Kind.{Kind}
 use Rattle.abi_rust.specs.declared.ty.Kind.TheVariants.{Bool as BoolKind, Char as CharKind, Integer as KindInteger}
 use Rattle.abi_rust.specs.declared.budget.Context.{Context}
 use Rattle.abi_rust.specs.declared.words.Word.TheVariants as word
+use Rattle.abi_rust.specs.EnumGlobs.{item_found}
 use Rattle.abi_rust.specs.Int.{greatest_number, least_number}
-use Rattle.abi_rust.specs.Kinds.{constant_named, constant_place, given_named, integer_call, is_shift, item_at, kind_of_names, kind_of_expr, kind_written, names_method, operand_kind, outside, owner_named, single_name}
+use Rattle.abi_rust.specs.Kinds.{FunctionRead, constant_named, constant_place, function_called, given_named, integer_call, is_shift, item_at, kind_of_names, kind_of_expr, kind_written, names_method, operand_kind, outside, owner_named, parameter_named, parameter_type, result_kind, single_name}
 use Rattle.abi_rust.specs.Known.{known_at}
 use Rattle.abi_rust.specs.Meaning.{Meaning, then_meant, fault_at, too_deep}
 use Rattle.abi_rust.specs.Methods.{end_of, kind_beside, made_of_both, made_of_one}
-use Rattle.abi_rust.specs.Names.{found, found_of}
+use Rattle.abi_rust.specs.Names.{before_last, found, found_of}
 use Rattle.abi_rust.specs.Operators.{Made, binary_of, bits_of_integer, cast_of, fitted, is_settled, is_signed, is_same_kind, unary_of}
 use Rattle.abi_rust.specs.Places.{last_name, place_of_expr, place_of_path}
-use Rattle.abi_rust.specs.Scope.{module_in}
+use Rattle.abi_rust.specs.Scope.{enum_glob, module_in, use_in}
 use Rattle.abi_rust.specs.Types.{GenericArgRead, Where, of_value, where_of}
 use Rattle.abi_rust.specs.Values.{ValueRead, code, kind_read, number, truth, value_as_read}
 use Rattle.abi_rust.specs.Words.{is_word, is_same_name, symbol_of}
@@ -180,6 +183,15 @@ length_written _ = None
 abbrev pub length_read : LengthExpr → Where × Expr
 length_read l = (where_of l.env, l.length.now)
 
+-- how many bytes the string has that a constant's value is
+abbrev pub bytes_in : Option Expr → Option ℕ
+bytes_in (Some (TextExpr bytes at)) = Some bytes
+bytes_in _ = None
+
+abbrev pub bytes_of_item : ItemKind → Option ℕ
+bytes_of_item (ConstItem c) = bytes_in c.value
+bytes_of_item _ = None
+
 -- it is a call, whose value has a type
 abbrev pub is_call : Expr → Bool
 is_call (Call' p shape all at) = true
@@ -282,9 +294,37 @@ module _ (cx : Context) where
       option_and_then (λ n. variant_of_item (out-Segment s).name (item_at cx.items.now cx.scope.now n))
       (owner_named cx.items.now cx.scope.now w p (length (out-Path p).segments.items - 1))
 
-  -- the enum and the number of the variant that a path names, by an alias too, or by `Self`
+  abbrev pub variant_at : Symbol → Option ℕ → Option (Item × ℕ)
+  variant_at name n = option_and_then (λ m. variant_of_item name (item_at cx.items.now cx.scope.now m)) n
+
+  abbrev pub variant_at_use : ℕ → Use → Option UsedName → Option (Item × ℕ)
+  variant_at_use n u None = None
+  variant_at_use n u (Some last) = variant_at last.name (item_found (before_last cx.items.now cx.scope.now n u))
+
+  -- the variant that the use of this number brings in
+  abbrev pub variant_of_use : ℕ → Option (Item × ℕ)
+  variant_of_use n =
+      option_and_then (λ u. variant_at_use n u (slice_get u.path.items (length u.path.items - 1))) (slice_get cx.items.now.uses.items n)
+
+  -- the variant of a name that no constant has: one use brings it in by its name, or a glob with all of its enum
+  abbrev pub variant_unless : (inside : ℕ) → Symbol → Option Resolution → Option (Item × ℕ)
+  variant_unless m name (Some Unknown) = option_and_then variant_of_use (use_in cx.scope.now m name)
+  variant_unless m name (Some _) = None
+  variant_unless m name None = variant_at name (enum_glob cx.scope.now m)
+
+  -- the variant that a name alone names, which is no parameter's
+  abbrev pub variant_brought_in : Where → Path → Symbol → Option (Item × ℕ)
+  variant_brought_in w p name =
+      if is_some (parameter_named cx.items.now cx.scope.now w.item name) then None
+      else variant_unless w.inside name (found cx.items.now cx.scope.now w.inside p Values)
+
+  abbrev pub variant_named_by : Where → Path → Option Symbol → Option (Item × ℕ)
+  variant_named_by w p (Some name) = variant_brought_in w p name
+  variant_named_by w p None = variant_at_path w p (last_name p)
+
+  -- the enum and the number of the variant that a path names, by an alias too, by `Self`, or as what a `use` brings in
   unfoldable pub variant_named : Where → Path → Option (Item × ℕ)
-  variant_named w p = variant_at_path w p (last_name p)
+  variant_named w p = variant_named_by w p (single_name p)
 
   abbrev pub value_in : Option GenericArgRead → Option ValueRead
   value_in (Some (of_value v)) = Some v
@@ -331,6 +371,24 @@ module _ (cx : Context) where
   abbrev pub length_of : Where → Expr → Option (Where × Expr)
   length_of w (PathExpr p) = length_of_named w p (constant_named cx.items.now cx.scope.now w p)
   length_of w _ = None
+
+  abbrev pub bytes_of_named : Option ℕ → Option ℕ
+  bytes_of_named n =
+      option_and_then (λ m. option_and_then (λ (it : Item). bytes_of_item it.kind) (item_at cx.items.now cx.scope.now m)) n
+
+  -- how many bytes the string has that an expression is: a literal, or a constant that is one
+  abbrev pub bytes_of : Where → Expr → Option ℕ
+  bytes_of w (TextExpr bytes at) = Some bytes
+  bytes_of w (PathExpr p) = if is_some (value_given w p) then None else bytes_of_named (constant_named cx.items.now cx.scope.now w p)
+  bytes_of w _ = None
+
+  -- how many bytes the string has on which the method `len` is called
+  abbrev pub bytes_asked : Where → Path → Expr → Option ℕ
+  bytes_asked w p e = if asks_length p then bytes_of w e else None
+
+  -- the length of the array on which it is called, and where that stands
+  abbrev pub length_asked : Where → Path → Expr → Option (Where × Expr)
+  length_asked w p e = if asks_length p then length_of w e else None
 
   -- the least or the greatest number of a type, which is called on nothing
   abbrev pub end_value : Place → (is_greatest : Bool) → (kind : Option IntegerKind) → List Expr → Meaning ValueRead
@@ -445,12 +503,47 @@ module _ (cx : Context) where
     length_value at None = fault_at at (Unevaluated Expression)
     length_value at (Some length) = E length.0 length.1 (Some (KindInteger Usize))
 
-    -- the value of a call: of a method of integers, of `size_of` or `align_of`, or of `len` on a constant that is an array
+    -- what is given to a parameter of this type
+    abbrev pub argument_value : Where → Place → (kind : Option Kind) → Expr → Meaning ValueRead
+    argument_value w at None e = fault_at at (Unevaluated Expression)
+    argument_value w at (Some kind) e = E w e (Some kind)
+
+    -- what a function's parameters are given, from one on, behind these
+    abbrev pub arguments_from : Where → Place → (function : ℕ) → List GenericArgRead → (index : ℕ) → List Expr → Meaning (List GenericArgRead)
+    arguments_from w at n given i [] = Ok given
+    arguments_from w at n given i (e ∷ es) =
+        then_meant (λ v. arguments_from w at n (given ++ of_value v ∷ []) (i + 1) es)
+        (argument_value w at (parameter_type cx.items.now cx.scope.now (Some n) i) e)
+
+    -- what the body of a function is worth whose parameters are given these
+    abbrev pub body_value : FunctionRead → Place → (kind : Option Kind) → List GenericArgRead → Meaning ValueRead
+    body_value f at None given = fault_at at (Unevaluated Expression)
+    body_value f at (Some kind) given = E (record { inside = f.item.«module»; item = Some f.number; given = given }) f.body (Some kind)
+
+    -- what a function gives that is called with these
+    abbrev pub function_value : Where → FunctionRead → List Expr → Place → Meaning ValueRead
+    function_value w f es at =
+        if nat_eq (length es) (length f.item.parameters.items)
+        then then_meant (body_value f at (result_kind cx.items.now cx.scope.now f)) (arguments_from w at f.number [] 0 es)
+        else fault_at at (Unevaluated Expression)
+
+    -- the length of a string of so many bytes, or else of an array
+    abbrev pub bytes_or_length : Place → (bytes : Option ℕ) → Option (Where × Expr) → Meaning ValueRead
+    bytes_or_length at (Some bytes) length = made_at at (fitted Usize false (bits_of_integer cx.pointer_bits Usize) (pos bytes))
+    bytes_or_length at None length = length_value at length
+
+    -- the value of a call that is no method's of integers: of a function, of `size_of` or `align_of`, or of `len` on what is a
+    -- string or a constant that is an array
+    abbrev pub other_called : Where → Path → List Expr → Place → Option FunctionRead → Meaning ValueRead
+    other_called w p es at (Some f) = function_value w f es at
+    other_called w p [] at None = call w p at
+    other_called w p (e ∷ []) at None = bytes_or_length at (bytes_asked w p e) (length_asked w p e)
+    other_called w p es at None = fault_at at (Unevaluated Expression)
+
+    -- the value of a call
     unfoldable pub called_value : Where → Path → List Expr → Place → Option IntegerCall → Meaning ValueRead
     called_value w p es at (Some called) = method_value w at called.method called.kind es
-    called_value w p [] at None = call w p at
-    called_value w p (e ∷ []) at None = length_value at (if asks_length p then length_of w e else None)
-    called_value w p es at None = fault_at at (Unevaluated Expression)
+    called_value w p es at None = other_called w p es at (function_called cx.items.now cx.scope.now w p)
 
     -- what a call is given
     abbrev pub arguments_given : Expr → List Expr
@@ -468,6 +561,7 @@ module _ (cx : Context) where
     value_by w wanted (Binary' b p l q r at) = binary_value w b l r wanted
     value_by w wanted (Cast' p e q t at) = cast_value w e t at
     value_by w wanted (If' p c q l o r at) = then_meant (λ v. E w (branch_of v l r) wanted) (E w c (Some BoolKind))
+    value_by w wanted (TextExpr bytes at) = fault_at at (Unevaluated Expression)
     value_by w wanted (UnevaluatedExpr what at) = fault_at at (Unevaluated what)
 
     -- the value of an expression

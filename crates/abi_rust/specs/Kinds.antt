@@ -12,12 +12,14 @@ use Rattle.rust_source.specs.declared.place.Symbol.{Symbol}
 use Rattle.rust_source.specs.declared.place.TheConstants.Symbol.{SELF_TYPE, UNDERSCORE}
 use Rattle.rust_source.specs.declared.syntax.Binary.{Binary}
 use Rattle.rust_source.specs.declared.syntax.Binary.TheVariants as operator
-use Rattle.rust_source.specs.declared.syntax.Expr.{Expr, Integer as IntegerExpr, Char as CharExpr, Bool as BoolExpr, Path as PathExpr, Call', Unary', Binary', Cast', If', Unevaluated}
+use Rattle.rust_source.specs.declared.syntax.Expr.{Expr, Integer as IntegerExpr, Char as CharExpr, Bool as BoolExpr, Text, Path as PathExpr, Call', Unary', Binary', Cast', If', Unevaluated}
 use Rattle.rust_source.specs.declared.syntax.IntegerKind.{IntegerKind}
 use Rattle.rust_source.specs.declared.syntax.IntegerKind.TheVariants.{U32, Usize}
 use Rattle.rust_source.specs.declared.syntax.Path.{Path, out-Path}
 use Rattle.rust_source.specs.declared.syntax.Segment.{Segment, out-Segment}
-use Rattle.rust_source.specs.declared.syntax.«Type».{«Type» as Written, Path as PathType}
+use Rattle.rust_source.specs.declared.syntax.Argument.TheOpen as layer
+use Rattle.rust_source.specs.declared.syntax.«Type».{«Type» as Written, Path as PathType, out-Type}
+use Rattle.abi_rust.specs.declared.calls.Function.{Function}
 use Rattle.abi_rust.specs.declared.methods.IntegerCall.{IntegerCall}
 use Rattle.abi_rust.specs.declared.methods.Method.{Method}
 use Rattle.abi_rust.specs.declared.paths.Resolution.{Resolution}
@@ -89,10 +91,29 @@ abbrev pub names_method : List Segment → Bool
 names_method (s ∷ t ∷ []) = is_same_name (out-Segment s).name UNDERSCORE
 names_method _ = false
 
--- the type of a call: of a method's, and else that of `size_of`
-abbrev pub kind_of_called : Option IntegerCall → Option Kind
-kind_of_called None = Some (KindInteger Usize)
-kind_of_called (Some called) = kind_made called.method called.kind
+-- a function that constants may call
+pub record FunctionRead : Type 0 where
+  pub number : ℕ
+  pub item : Item
+  pub result : Written
+  pub body : Expr
+
+-- the program's function as the definitions see it
+abbrev pub function_read : Function → FunctionRead
+function_read f = record { number = f.number; item = f.item.now; result = f.result.now; body = f.body.now }
+
+-- the type of the result, where a type is that of a function with its result alone
+abbrev pub function_result : Written → Option Written
+function_result t = elim (out-Type t) as (λ _. Option Written) [ layer.Function all ↦ slice_get all.items 0 | _ ↦ None ]
+
+-- the function whose result and body these are
+abbrev pub function_by : ℕ → Item → (result : Option Written) → (body : Option Expr) → Option FunctionRead
+function_by n it (Some t) (Some e) = Some (record { number = n; item = it; result = t; body = e })
+function_by n it _ _ = None
+
+abbrev pub function_on : ℕ → Item → ItemKind → Option FunctionRead
+function_on n it (ConstItem c) = if c.is_function then function_by n it (function_result c.ty) c.value else None
+function_on n it _ = None
 
 -- the type of constants that a parameter is given
 abbrev pub kind_given : Option GenericArgRead → Option Kind
@@ -240,6 +261,21 @@ module _ (items : Items) (scope : Scope) where
   unfoldable pub constant_named : Where → Path → Option ℕ
   constant_named w p = constant_found w p (found items scope w.inside p Values)
 
+  -- the function that a path names, where constants may call it
+  unfoldable pub function_called : Where → Path → Option FunctionRead
+  function_called w p =
+      option_and_then (λ n. option_and_then (λ (it : Item). function_on n it it.kind) (item_at n)) (constant_named w p)
+
+  -- the type of what a function gives
+  abbrev pub result_kind : FunctionRead → Option Kind
+  result_kind f = kind_written (outside f.item.«module») f.result
+
+  -- the type of a call: of a method's, of a function's, and else that of `size_of`
+  abbrev pub kind_of_called : Option IntegerCall → Option FunctionRead → Option Kind
+  kind_of_called (Some called) f = kind_made called.method called.kind
+  kind_of_called None (Some f) = result_kind f
+  kind_of_called None None = Some (KindInteger Usize)
+
   abbrev pub constant_type_on : ℕ → Item → ItemKind → Option Kind
   constant_type_on n it (ConstItem c) = kind_written (constant_place scope n it) c.ty
   constant_type_on n it _ = None
@@ -311,8 +347,9 @@ module _ (items : Items) (scope : Scope) where
   kind_of_expr w (IntegerExpr n suffix at) = suffix_kind suffix
   kind_of_expr w (CharExpr code at) = Some CharKind
   kind_of_expr w (BoolExpr b at) = Some BoolKind
+  kind_of_expr w (Text bytes at) = None
   kind_of_expr w (PathExpr p) = path_kind w p
-  kind_of_expr w (Call' p shape all at) = kind_of_called (integer_call w p)
+  kind_of_expr w (Call' p shape all at) = kind_of_called (integer_call w p) (function_called w p)
   kind_of_expr w (Unary' u p e at) = kind_of_expr w e
   kind_of_expr w (Binary' b p l q r at) = if is_test b then Some BoolKind else operands_kind b (kind_of_expr w l) (kind_of_expr w r)
   kind_of_expr w (Cast' p e q t at) = kind_written w t

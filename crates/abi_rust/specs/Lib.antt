@@ -1,5 +1,6 @@
 pub mod Aligned
 pub mod CopyTypes
+pub mod EnumGlobs
 pub mod Evaluating
 pub mod ExternCrates
 pub mod FaultTexts

@@ -1,5 +1,5 @@
 -- What paths name.
-use Rattle.std.specs.Prelude.{ℕ, zero, suc, ◌+◌, nat_eq, Bool, true, false, List, [], ◌∷◌, length, map, not, slice_get, is_some, ◌&&◌, ◌||◌, Option, Some, None, if◌then◌else◌}
+use Rattle.std.specs.Prelude.{ℕ, zero, suc, ◌+◌, ◌-◌, nat_eq, Bool, true, false, List, [], ◌∷◌, length, map, not, slice_get, is_some, ◌&&◌, ◌||◌, Option, Some, None, if◌then◌else◌}
 use Rattle.std.specs.Option.{option_and_then, option_map, option_or}
 use Rattle.rust_source.specs.declared.item.Items.{Items}
 use Rattle.rust_source.specs.declared.item.Use.{Use}
@@ -319,6 +319,12 @@ module _ (items : Items) (scope : Scope) where
     types = target_with (target_in known) u used Types;
     values = if used.is_glob then None else target_with (target_in known) u used Values;
   }
+
+  -- what stands in the path of a use before its last name
+  unfoldable pub before_last : (use_number : ℕ) → Use → Option Resolution
+  before_last u used =
+      path_named (target_in scope.use_targets.items) (length used.path.items - 1) used.«module» used.is_global Types (Some u)
+      (map (λ n. n.name) used.path.items)
 
   -- what each use brings in, where so many lead from one to another
   unfoldable pub use_targets : (most : ℕ) → List UseTarget

@@ -1,7 +1,7 @@
 -- Whether constants that are written in types are calculated from parameters.
 use Rattle.std.specs.Prelude.{ℕ, ◌&&◌, ◌||◌, not, nat_eq, nat_lt, is_some, Bool, true, false, List, [], ◌∷◌, length, Option, Some, None, Ok, if◌then◌else◌}
 use Rattle.std.specs.Option.{option_and_then}
-use Rattle.rust_source.specs.Syntax.{ArgumentRead, ArgumentsRead, ExprRead, ExprsRead, PathRead, SegmentRead, SegmentsRead, TypeRead, TypesRead, array, binary, binding, bool, call, cast, char, choice, constant, dyn, expr_of, function, integer, more_arguments, more_exprs, more_segments, more_types, named, never, no_arguments, no_exprs, no_segments, no_types, of_const, of_type, other_expr, other_type, path, pointer, reference, segment, slice, tuple, unary}
+use Rattle.rust_source.specs.Syntax.{ArgumentRead, ArgumentsRead, ExprRead, ExprsRead, PathRead, SegmentRead, SegmentsRead, TypeRead, TypesRead, array, binary, binding, bool, call, cast, char, choice, constant, dyn, expr_of, function, integer, more_arguments, more_exprs, more_segments, more_types, named, never, no_arguments, no_exprs, no_segments, no_types, of_const, of_type, other_expr, other_type, path, pointer, reference, segment, slice, text, tuple, unary}
 use Rattle.rust_source.specs.declared.item.Item.{Item}
 use Rattle.rust_source.specs.declared.item.Parameter.{Parameter}
 use Rattle.rust_source.specs.declared.item.ParameterKind.{ParameterKind}
@@ -88,6 +88,7 @@ module _ (cx : Context) (w : Where) where
     expr_uses (integer value kind at) = false
     expr_uses (char code at) = false
     expr_uses (bool b at) = false
+    expr_uses (text bytes at) = false
     expr_uses (constant p) = path_uses false p
     expr_uses (call p es at) = path_uses false p || exprs_use es
     expr_uses (unary u e at) = expr_uses e

@@ -1,7 +1,7 @@
 -- Where expressions and paths stand.
 use Rattle.std.specs.Prelude.{◌-◌, length, slice_get, Option, Some, None}
 use Rattle.rust_source.specs.declared.place.Place.{Place}
-use Rattle.rust_source.specs.declared.syntax.Expr.{Expr, Integer, Char, Bool, Path as PathExpr, Call', Unary', Binary', Cast', If', Unevaluated}
+use Rattle.rust_source.specs.declared.syntax.Expr.{Expr, Integer, Char, Bool, Text, Path as PathExpr, Call', Unary', Binary', Cast', If', Unevaluated}
 use Rattle.rust_source.specs.declared.syntax.Path.{Path, out-Path}
 use Rattle.rust_source.specs.declared.syntax.Segment.{Segment, out-Segment}
 
@@ -23,6 +23,7 @@ abbrev pub place_of_expr : Expr → Place
 place_of_expr (Integer n kind at) = at
 place_of_expr (Char code at) = at
 place_of_expr (Bool b at) = at
+place_of_expr (Text bytes at) = at
 place_of_expr (PathExpr p) = place_of_path p
 place_of_expr (Call' p shape all at) = at
 place_of_expr (Unary' u p e at) = at

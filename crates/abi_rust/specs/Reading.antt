@@ -14,7 +14,7 @@ use Rattle.rust_source.specs.declared.target.CfgTarget.{CfgTarget}
 use Rattle.abi_rust.specs.ExternCrates.{KeepsCrates}
 use Rattle.abi_rust.specs.Globs.{KeepsGlobs}
 use Rattle.abi_rust.specs.Imports.{repeated_import}
-use Rattle.abi_rust.specs.ScopeNames.{KeepsNames, KeepsOwn, repeated_of}
+use Rattle.abi_rust.specs.ScopeNames.{KeepsEnums, KeepsNames, KeepsOwn, repeated_of}
 use Rattle.abi_rust.specs.Standing.{IsMemory}
 use Rattle.abi_rust.specs.Words.{known_words}
 use Rattle.abi_rust.specs.declared.fault.FaultKind.TheVariants.{OutOfMemory, Source as SourceKind}
@@ -125,6 +125,7 @@ pub record IsScopeOf (s : Sources) (scope : Scope) : Type 0 where
   pub crates : KeepsCrates s.crates.items scope
   pub globs : KeepsGlobs s.items scope
   pub own : KeepsOwn s.items scope
+  pub enums : KeepsEnums s.items scope
   pub words : scope.words ≡ s.words
   pub root : scope.std_root ≡ s.std_root
 

@@ -44,6 +44,10 @@ crate_in s m name = get same_key s.crates (m, name.0)
 unfoldable pub use_in : Scope → (inside : ℕ) → Symbol → Option ℕ
 use_in s m name = get same_key s.uses (m, name.0)
 
+-- the enum whose variants a module's globs bring in
+unfoldable pub enum_glob : Scope → (inside : ℕ) → Option ℕ
+enum_glob s m = get nat_eq s.enum_globs m
+
 -- no use has this number, since there are fewer: it stands for several that bring in one name
 abbrev pub several : ℕ
 several = 2 ^ 32 - 1

@@ -5,6 +5,7 @@ use Rattle.rust_source.specs.declared.item.Items.{Items}
 use Rattle.abi_rust.specs.declared.fault.Stop.{Stop}
 use Rattle.abi_rust.specs.declared.scope.Scope.{Scope}
 use Rattle.abi_rust.specs.declared.words.Word.TheVariants.{Prelude}
+use Rattle.abi_rust.specs.EnumGlobs.{enum_brought}
 use Rattle.abi_rust.specs.OwnConstants.{own_at, type_owning}
 use Rattle.abi_rust.specs.Scope.{module_in, same_key}
 use Rattle.abi_rust.specs.Standing.{ModuleName, constant_at, first_repeated, module_at, type_at, use_at}
@@ -31,6 +32,10 @@ pub record KeepsNames (items : Items) (scope : Scope) : Type 0 where
 pub record KeepsOwn (items : Items) (scope : Scope) : Type 0 where
   pub constants : (of_type_and_name : ModuleName) → get same_key scope.own_constants of_type_and_name ≡ own_at items scope of_type_and_name
   pub owners : (number : ℕ) → get nat_eq scope.owners number ≡ type_owning items scope number
+
+-- each module has the enum whose variants its globs bring in
+abbrev pub KeepsEnums : Items → Scope → Type 0
+KeepsEnums items scope = (inside : ℕ) → get nat_eq scope.enum_globs inside ≡ enum_brought items scope.use_targets.items inside
 
 -- the words and the standard library's module are the same
 pub record HasSameRoots (old new : Scope) : Type 0 where

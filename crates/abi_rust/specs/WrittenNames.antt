@@ -50,6 +50,11 @@ abbrev pub not_a_type : Symbol → Option Resolution → FaultKind
 not_a_type name (Some found) = NotAType name
 not_a_type name None = UnknownType name
 
+-- it is a constant, or a function, of whose parameters nothing is asked before it is called
+abbrev pub is_constant : ItemKind → Bool
+is_constant (ConstItem c) = true
+is_constant _ = false
+
 -- an enum's discriminants stand beside names alone, or it has an integer as its repr
 abbrev pub kind_formed : Item → ItemKind → Checked
 kind_formed it (EnumItem all) = then_meant (λ _. Ok tt) (discriminants_checked it all.variants.items)
@@ -192,4 +197,6 @@ module _ (cx : Context) (w : Where) where
 
     -- those of an item: its parameters', and then those of what it defines; and whether that is formed well
     abbrev pub item_named : Item → Checked
-    item_named it = then_meant (λ _. then_meant (λ _. kind_formed it it.kind) (kind_named it.kind)) (parameters_named it.parameters.items)
+    item_named it =
+        if is_constant it.kind then Ok tt
+        else then_meant (λ _. then_meant (λ _. kind_formed it it.kind) (kind_named it.kind)) (parameters_named it.parameters.items)

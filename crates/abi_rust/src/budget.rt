@@ -24,6 +24,9 @@ const MOST_DEEP: u32 = 402;
 /// twice, have a million, and are to be a fault at once.
 pub(crate) const MOST_PARTS: u32 = 1 << 19;
 
+/// How many of them the call of a function counts as.
+const PARTS_OF_A_CALL: u32 = 32;
+
 /// What all work rests on.
 #[derive(Clone, Copy)]
 pub(crate) struct Context<'a, 'k> {
@@ -143,6 +146,20 @@ impl<'a> Budget<'a> {
         ensures values { self.new.values ≡ self.old.values }
     {
         match self.left.checked_sub(1) {
+            Some(left) => {
+                self.left = left;
+                Ok(())
+            }
+            None => Err(Stop::Fault(None, FaultKind::TooLarge)),
+        }
+    }
+
+    /// Calls a function, which counts as many parts, since names are looked for in its body.
+    pub(crate) fn spend_call(&mut self) -> Result<(), Stop>
+        ensures err { IfErr result (λ e. is_beside e ≡ true) }
+        ensures values { self.new.values ≡ self.old.values }
+    {
+        match self.left.checked_sub(PARTS_OF_A_CALL) {
             Some(left) => {
                 self.left = left;
                 Ok(())

@@ -2,18 +2,19 @@
 
 ghost use Rattle.std.specs.Prelude.{◌≡◌, slice_get, true};
 ghost use Rattle.std.specs.Option.{option_copied, option_map};
-ghost use Rattle.abi_rust.specs.Evaluating.{all_fieldless, cast_checked, discriminant_kind, is_castable, is_fieldless, is_integer, is_unit_at, variant_of_item, variant_from, variant_named, written_before, written_from};
+ghost use Rattle.abi_rust.specs.Evaluating.{all_fieldless, cast_checked, discriminant_kind, is_castable, is_fieldless, is_integer, is_unit_at, variant_brought_in, variant_of_item, variant_of_use, variant_from, variant_named, written_before, written_from};
 ghost use Rattle.abi_rust.specs.Meaning.{Means};
 ghost use Rattle.abi_rust.specs.Types.{where_of};
 
 use crate::budget::{Context, Env};
 use crate::constants::owner_named;
 use crate::fault::{FaultKind, Stop, stop_at};
-use crate::paths::item_at;
+use crate::kind::{parameter_named, single_name};
+use crate::paths::{Resolution, Space, before_last, find, item_at};
 use crate::ty::Kind;
 use rust_source::{Expr, IntegerKind, Item, ItemKind, Path, Place, Symbol, Variant};
 
-/// The enum and the number of the variant that a path names, by an alias too, or by `Self`.
+/// The enum and the number of the variant that a path names, by an alias too, by `Self`, or as what a `use` brings in.
 #[tactic(auto, unfolding(crate::specs::Evaluating::variant_named))]
 pub(crate) fn variant_named<'a>(
     cx: &Context<'a, '_>,
@@ -22,9 +23,44 @@ pub(crate) fn variant_named<'a>(
 ) -> Option<(&'a Item, usize)>
     ensures { option_map (λ found. (found.0.now, found.1)) result ≡ variant_named cx.now (where_of env.entry) path.now }
 {
+    if let Some(name) = single_name(path) {
+        return variant_brought_in(cx, env, path, name);
+    }
     let last = path.segments.last()?;
     let number = owner_named(cx, env, path, path.segments.len().saturating_sub(1))?;
     variant_of(cx, number, last.name)
+}
+
+/// The variant that a name alone names, where a `use` brings it into the module: by its name, or with all of its enum.
+fn variant_brought_in<'a>(
+    cx: &Context<'a, '_>,
+    env: Env<'_>,
+    path: &Path,
+    name: Symbol,
+) -> Option<(&'a Item, usize)>
+    ensures { option_map (λ found. (found.0.now, found.1)) result
+        ≡ variant_brought_in cx.now (where_of env.entry) path.now name }
+{
+    if parameter_named(cx, env.item, name).is_some() {
+        return None;
+    }
+    match find(cx.items, cx.scope, env.module, path, Space::Values) {
+        Some(Resolution::Unknown) => variant_of_use(cx, cx.scope.use_of(env.module, name)?),
+        None => variant_of(cx, cx.scope.enum_glob(env.module)?, name),
+        _ => None,
+    }
+}
+
+/// The variant that the use of this number brings in, if it does.
+fn variant_of_use<'a>(cx: &Context<'a, '_>, number: u32) -> Option<(&'a Item, usize)>
+    ensures { option_map (λ found. (found.0.now, found.1)) result ≡ variant_of_use cx.now number }
+{
+    let used = cx.items.uses.get(number as usize)?;
+    let last = used.path.last()?;
+    match before_last(cx.items, cx.scope, number, used) {
+        Some(Resolution::Item(item)) => variant_of(cx, item, last.name),
+        _ => None,
+    }
 }
 
 /// The item of this number, where it is an enum, and the number of its variant of this name.

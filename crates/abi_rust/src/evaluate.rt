@@ -1,24 +1,27 @@
 //! Constants' values.
 
-ghost use Rattle.std.specs.Prelude.{◌≡◌, IfOk, Ok, Some, nat_eq, length};
+ghost use Rattle.std.specs.Prelude.{◌≡◌, [], false, pos, IfOk, Ok, Some, nat_eq, length};
 ghost use Rattle.std.specs.Option.{option_copied, option_map};
 ghost use Rattle.indexmap.specs.IndexMap.{get};
-ghost use Rattle.abi_rust.specs.Evaluating.{AreValues, binary_value, branch_of, called_value, length_read, length_value, cast_value, cast_variant, constant_on, constant_value, counted_on, discriminant, discriminant_base, evaluator, has_own_type, is_call, end_value, both_value, method_value, one_value, operand_value, path_value, receiver_value, right_kind, second_value, typed, unary_value, value_by, value_with};
-ghost use Rattle.abi_rust.specs.Kinds.{constant_place, integer_call};
+ghost use Rattle.abi_rust.specs.Evaluating.{AreValues, argument_value, arguments_from, binary_value, branch_of, called_value, length_read, length_value, cast_value, cast_variant, constant_on, constant_value, counted_on, discriminant, discriminant_base, evaluator, function_value, has_own_type, is_call, end_value, both_value, method_value, one_value, operand_value, path_value, receiver_value, right_kind, second_value, typed, unary_value, value_by, value_with};
+ghost use Rattle.abi_rust.specs.Kinds.{constant_place, function_read, integer_call};
 ghost use Rattle.abi_rust.specs.Meaning.{Means};
 ghost use Rattle.abi_rust.specs.Scope.{same_key};
-ghost use Rattle.abi_rust.specs.Types.{where_of};
+ghost use Rattle.abi_rust.specs.Operators.{bits_of_integer, fitted, seen};
+ghost use Rattle.abi_rust.specs.Types.{all_given, where_of};
 ghost use Rattle.abi_rust.specs.Values.{IsOfKind, value_as_read};
 
-use crate::budget::{Budget, Context, Env};
+use crate::budget::{Budget, Context, Env, push_given};
+use crate::calls::{Function, function_called, result_kind};
 use crate::constants::{constant_named, inside_constant, value_given};
 use crate::discriminants::{check_cast, discriminant_kind, variant_named, written_before};
 use crate::fault::{FaultKind, Stop, stop_at};
 use crate::int::{Int, Width};
 use crate::kind::{
-    BinaryExpr, integer_call, is_shift, kind_of, kind_written, operand_kind, outside,
+    BinaryExpr, integer_call, is_shift, kind_of, kind_of_parameter, kind_written, operand_kind,
+    outside,
 };
-use crate::lengths::{LengthExpr, length_asked};
+use crate::lengths::{LengthExpr, bytes_asked, length_asked};
 use crate::limits::limit;
 use crate::literals::{inner_kind, literal};
 use crate::methods::{
@@ -28,7 +31,7 @@ use crate::operators::{binary, cast, fitting, is_settled, same_kind, unary};
 use crate::paths::item_at;
 use crate::places::{at_place, place_of, place_of_path};
 use crate::sizes::call;
-use crate::ty::{ConstValue, Kind};
+use crate::ty::{ConstValue, GenericArg, Kind};
 use rust_source::{Expr, IntegerKind, Item, ItemKind, Path, Place, Type, Unary, Unevaluated};
 
 /// An operator before its operand.
@@ -51,6 +54,14 @@ struct CastExpr<'a> {
 struct CallExpr<'a> {
     path: &'a Path,
     arguments: &'a [Expr],
+    at: Place,
+}
+
+/// What a function is given for a parameter of a type of constants, where it is one, and where it is called.
+#[derive(Clone, Copy)]
+struct ArgumentExpr<'a> {
+    kind: Option<Kind>,
+    argument: &'a Expr,
     at: Place,
 }
 
@@ -173,11 +184,12 @@ fn evaluate_any<'a>(
             let condition = evaluate(cx, budget, env, condition, Some(Kind::Bool))?;
             evaluate(cx, budget, env, branch_of(condition, yes, no), wanted)
         }
+        Expr::Text(_, at) => Err(stop_at(*at, FaultKind::Unevaluated(Unevaluated::Expression))),
         Expr::Unevaluated(what, at) => Err(stop_at(*at, FaultKind::Unevaluated(*what))),
     }
 }
 
-/// The value of a call: of a method of integers, or of `size_of` or `align_of`.
+/// The value of a call: of a method of integers, of a function, of `len`, or of `size_of` or `align_of`.
 #[cycle(evaluating)]
 #[tactic(auto, unfolding(crate::specs::Evaluating::called_value))]
 fn evaluate_call<'a>(
@@ -195,17 +207,111 @@ fn evaluate_call<'a>(
     if let Some(called) = integer_call(cx, env, expr.path) {
         return evaluate_method(cx, budget, env, called, expr);
     }
+    if let Some(function) = function_called(cx, env, expr.path) {
+        return evaluate_function(cx, budget, env, function, expr);
+    }
     match expr.arguments {
         [] => call(cx, budget, env, expr.path, expr.at),
-        [array] => evaluate_length(
-            cx,
-            budget,
-            env.depth_left,
-            length_asked(cx, env, expr.path, array),
-            expr.at,
-        ),
+        [operand] => {
+            if let Some(bytes) = bytes_asked(cx, env, expr.path, operand) {
+                return at_place(expr.at, length_in(cx, bytes));
+            }
+            let length = length_asked(cx, env, expr.path, operand);
+            evaluate_length(cx, budget, env.depth_left, length, expr.at)
+        }
         _ => Err(stop_at(expr.at, FaultKind::Unevaluated(Unevaluated::Expression))),
     }
+}
+
+/// So many bytes as a length.
+fn length_in(cx: &Context<'_, '_>, bytes: u64) -> Result<ConstValue, FaultKind>
+    ensures { seen value_as_read result
+        ≡ fitted IntegerKind.Usize false (bits_of_integer cx.now.pointer_bits IntegerKind.Usize) (pos bytes) }
+{
+    let width = Width::of(IntegerKind::Usize, cx.pointer_bits);
+    fitting(
+        IntegerKind::Usize,
+        width,
+        Some(Int::positive(u128::from(bytes))),
+    )
+}
+
+/// What a function gives that is called.
+#[cycle(evaluating)]
+fn evaluate_function<'a>(
+    cx: &Context<'a, '_>,
+    budget: &mut Budget<'a>,
+    env: Env<'_>,
+    function: Function<'a>,
+    expr: CallExpr<'a>,
+) -> Result<ConstValue, Stop>
+    requires { AreValues cx.now (get same_key budget.old.values) }
+    ensures value { Means value_as_read (function_value cx.now (evaluator cx.now env.entry.depth_left) (where_of env.entry)
+        (function_read function.entry) expr.entry.arguments.now expr.entry.at) result }
+    ensures kept { IfOk result (λ _. AreValues cx.now (get same_key budget.new.values)) }
+{
+    budget.spend_call()?;
+    if expr.arguments.len() != function.item.parameters.len() {
+        return Err(stop_at(expr.at, FaultKind::Unevaluated(Unevaluated::Expression)));
+    }
+    let given = evaluate_arguments(cx, budget, env, function.number, expr)?;
+    let Some(kind) = result_kind(cx, function) else {
+        return Err(stop_at(expr.at, FaultKind::Unevaluated(Unevaluated::Expression)));
+    };
+    let inside = Env {
+        module: function.item.module,
+        item: Some(function.number),
+        given: given.as_slice(),
+        depth_left: env.depth_left,
+    };
+    evaluate(cx, budget, inside, function.body, Some(kind))
+}
+
+/// What the function of this number is given that is called.
+#[cycle(evaluating)]
+#[tactic(auto, using(crate::proofs::Lists::arguments_more, crate::proofs::Lists::arguments_done))]
+fn evaluate_arguments<'a>(
+    cx: &Context<'a, '_>,
+    budget: &mut Budget<'a>,
+    env: Env<'_>,
+    function: u32,
+    expr: CallExpr<'a>,
+) -> Result<Vec<GenericArg>, Stop>
+    requires { AreValues cx.now (get same_key budget.old.values) }
+    ensures value { Means (λ given. all_given given.items) (arguments_from cx.now (evaluator cx.now env.entry.depth_left) (where_of env.entry)
+        expr.entry.at function [] 0 expr.entry.arguments.now) result }
+    ensures kept { IfOk result (λ _. AreValues cx.now (get same_key budget.new.values)) }
+{
+    let mut given = Vec::new(cx.alloc);
+    for (index, argument) in expr.arguments.iter().enumerate() {
+        let slot = ArgumentExpr {
+            kind: kind_of_parameter(cx, Some(function), index),
+            argument,
+            at: expr.at,
+        };
+        let value = evaluate_argument(cx, budget, env, slot)?;
+        push_given(&mut given, GenericArg::Value(value))?;
+    }
+    Ok(given)
+}
+
+/// What a function's parameter is given.
+#[cycle(evaluating)]
+fn evaluate_argument<'a>(
+    cx: &Context<'a, '_>,
+    budget: &mut Budget<'a>,
+    env: Env<'_>,
+    expr: ArgumentExpr<'a>,
+) -> Result<ConstValue, Stop>
+    requires { AreValues cx.now (get same_key budget.old.values) }
+    ensures value { Means value_as_read (argument_value cx.now (evaluator cx.now env.entry.depth_left) (where_of env.entry)
+        expr.entry.at expr.entry.kind expr.entry.argument.now) result }
+    ensures kept { IfOk result (λ _. AreValues cx.now (get same_key budget.new.values)) }
+{
+    let Some(kind) = expr.kind else {
+        return Err(stop_at(expr.at, FaultKind::Unevaluated(Unevaluated::Expression)));
+    };
+    evaluate(cx, budget, env, expr.argument, Some(kind))
 }
 
 /// The length of an array, where one is found.

@@ -3,12 +3,13 @@
 ghost use Rattle.std.specs.Prelude.{◌≡◌, IfSome, slice_get};
 ghost use Rattle.std.specs.Option.{option_and_then, option_copied, option_map};
 ghost use Rattle.rust_source.specs.declared.syntax.Path.{out-Path};
-ghost use Rattle.abi_rust.specs.Kinds.{constant_type, given_named, integer_call, is_given, is_parameter_of, is_shift, is_test, kind_of_called, kind_of_names, kind_found, kind_given, kind_of_expr, kind_of_primitive, kind_written, limit_type, name_alone, names_method, number_from, operand_kind, operands_kind, outside, parameter_named, parameter_type, parameters_of, path_kind, single_name};
+ghost use Rattle.abi_rust.specs.Kinds.{constant_type, function_called, given_named, integer_call, is_given, is_parameter_of, is_shift, is_test, kind_of_called, kind_of_names, kind_found, kind_given, kind_of_expr, kind_of_primitive, kind_written, limit_type, name_alone, names_method, number_from, operand_kind, operands_kind, outside, parameter_named, parameter_type, parameters_of, path_kind, single_name};
 ghost use Rattle.abi_rust.specs.Places.{last_name};
 ghost use Rattle.abi_rust.specs.Resolving.{most_deep};
 ghost use Rattle.abi_rust.specs.Types.{given_of, where_of};
 
 use crate::budget::{Context, Env, most_deep};
+use crate::calls::{function_called, result_kind};
 use crate::constants::{constant_named, inside_constant};
 use crate::methods::{IntegerCall, kind_made};
 use crate::paths::{Resolution, find_prefix, found_by, item_at, most_aliases};
@@ -185,6 +186,7 @@ pub(crate) fn kind_of(cx: &Context<'_, '_>, env: Env<'_>, expr: &Expr) -> Option
         Expr::Integer(_, suffix, _) => Some(Kind::Integer((*suffix)?)),
         Expr::Char(_, _) => Some(Kind::Char),
         Expr::Bool(_, _) => Some(Kind::Bool),
+        Expr::Text(_, _) => None,
         Expr::Path(path) => kind_of_path(cx, env, path),
         Expr::Call(path, _, _) => kind_of_call(cx, env, path),
         Expr::Unary(_, operand, _) => kind_of(cx, env, operand),
@@ -236,13 +238,17 @@ pub(crate) fn integer_call(cx: &Context<'_, '_>, env: Env<'_>, path: &Path) -> O
     }
 }
 
-/// The type of a call: of a method's, as far as its path tells it, and else that of `size_of`.
+/// The type of a call: of a method's, as far as its path tells it, of a function's result, and else that of `size_of`.
 fn kind_of_call(cx: &Context<'_, '_>, env: Env<'_>, path: &Path) -> Option<Kind>
-    ensures { result
-        ≡ kind_of_called (integer_call cx.now.items.now cx.now.scope.now (where_of env.entry) path.now) }
+    ensures { result ≡ kind_of_called cx.now.items.now cx.now.scope.now
+        (integer_call cx.now.items.now cx.now.scope.now (where_of env.entry) path.now)
+        (function_called cx.now.items.now cx.now.scope.now (where_of env.entry) path.now) }
 {
-    match integer_call(cx, env, path) {
-        Some(called) => kind_made(called),
+    if let Some(called) = integer_call(cx, env, path) {
+        return kind_made(called);
+    }
+    match function_called(cx, env, path) {
+        Some(function) => result_kind(cx, function),
         None => Some(Kind::Integer(IntegerKind::Usize)),
     }
 }
@@ -291,7 +297,11 @@ fn kind_of_limit(cx: &Context<'_, '_>, env: Env<'_>, path: &Path) -> Option<Kind
 
 /// The type of an item's constant parameter.
 #[tactic(auto, unfolding(crate::specs::Kinds::parameter_type))]
-fn kind_of_parameter(cx: &Context<'_, '_>, item: Option<u32>, index: usize) -> Option<Kind>
+pub(crate) fn kind_of_parameter(
+    cx: &Context<'_, '_>,
+    item: Option<u32>,
+    index: usize,
+) -> Option<Kind>
     ensures { result ≡ parameter_type cx.now.items.now cx.now.scope.now item index }
 {
     let item = item_at(cx.items, item?)?;

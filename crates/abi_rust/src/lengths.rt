@@ -1,8 +1,8 @@
-//! The lengths of arrays that constants are.
+//! The lengths of arrays and strings that constants are.
 
-ghost use Rattle.std.specs.Prelude.{◌≡◌, None, if◌then◌else◌};
+ghost use Rattle.std.specs.Prelude.{◌≡◌};
 ghost use Rattle.std.specs.Option.{option_copied, option_map};
-ghost use Rattle.abi_rust.specs.Evaluating.{asks_length, length_of, length_of_item, length_read, length_written};
+ghost use Rattle.abi_rust.specs.Evaluating.{asks_length, bytes_asked, bytes_of, bytes_of_item, length_asked, length_of, length_of_item, length_read, length_written};
 ghost use Rattle.abi_rust.specs.Kinds.{item_at};
 ghost use Rattle.abi_rust.specs.Types.{where_of};
 
@@ -11,7 +11,7 @@ use crate::constants::{constant_named, inside_constant, value_given};
 use crate::kind::names_method;
 use crate::paths::item_at;
 use crate::words::Word;
-use rust_source::{Expr, ItemKind, Path, Type};
+use rust_source::{Expr, Item, ItemKind, Path, Type};
 
 /// An array's length, and where it stands.
 #[derive(Clone, Copy)]
@@ -70,6 +70,51 @@ fn length_of<'a>(cx: &Context<'a, '_>, env: Env<'_>, expr: &Expr) -> Option<Leng
     length_of_constant(cx, number)
 }
 
+/// How many bytes the string has that a constant is.
+fn bytes_of_constant(item: &Item) -> Option<u64>
+    ensures { result ≡ bytes_of_item item.now.kind }
+{
+    let ItemKind::Const(constant) = &item.kind else {
+        return None;
+    };
+    match &constant.value {
+        Some(Expr::Text(bytes, _)) => Some(*bytes),
+        _ => None,
+    }
+}
+
+/// How many bytes the string has that an expression is: a literal, or a constant that is one.
+fn bytes_of(cx: &Context<'_, '_>, env: Env<'_>, expr: &Expr) -> Option<u64>
+    ensures { result ≡ bytes_of cx.now (where_of env.entry) expr.now }
+{
+    match expr {
+        Expr::Text(bytes, _) => Some(*bytes),
+        Expr::Path(path) => {
+            if value_given(cx, env, path).is_some() {
+                return None;
+            }
+            bytes_of_constant(item_at(cx.items, constant_named(cx, env, path)?)?)
+        }
+        _ => None,
+    }
+}
+
+/// How many bytes the string has that an expression is, where the method `len` is called on it.
+pub(crate) fn bytes_asked(
+    cx: &Context<'_, '_>,
+    env: Env<'_>,
+    path: &Path,
+    text: &Expr,
+) -> Option<u64>
+    ensures { result ≡ bytes_asked cx.now (where_of env.entry) path.now text.now }
+{
+    if asks_length(cx, path) {
+        bytes_of(cx, env, text)
+    } else {
+        None
+    }
+}
+
 /// The length of the array that an expression is, where the method `len` is called on it.
 pub(crate) fn length_asked<'a>(
     cx: &Context<'a, '_>,
@@ -77,8 +122,7 @@ pub(crate) fn length_asked<'a>(
     path: &Path,
     array: &Expr,
 ) -> Option<LengthExpr<'a>>
-    ensures { option_map length_read result
-        ≡ (if asks_length cx.now path.now then length_of cx.now (where_of env.entry) array.now else None) }
+    ensures { option_map length_read result ≡ length_asked cx.now (where_of env.entry) path.now array.now }
 {
     if asks_length(cx, path) {
         length_of(cx, env, array)

@@ -6,6 +6,7 @@
 // What is asked, and what is answered.
 mod fault;
 mod fault_text;
+mod parts;
 mod report;
 mod sources;
 mod targets;
@@ -14,6 +15,7 @@ mod targets;
 mod std_source;
 
 // Names.
+mod enum_globs;
 mod extern_crates;
 mod imports;
 mod own_constants;
@@ -39,6 +41,7 @@ mod ty;
 mod written_names;
 
 // Constants.
+mod calls;
 mod constants;
 mod discriminants;
 mod evaluate;
@@ -60,6 +63,7 @@ mod tree;
 mod unsized_types;
 
 pub use fault::{Fault, FaultKind, FaultPlace};
+pub use parts::{NamedPart, PartFields};
 pub use report::{Label, ReportShape, TypeReport, VariantLabels};
 pub use sources::Sources;
 pub use targets::{Target, data_layout_of, known_triples, nearest_triple, target_named};

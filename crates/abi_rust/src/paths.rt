@@ -1,10 +1,10 @@
 //! What a path names.
 
-ghost use Rattle.std.specs.Prelude.{◌≡◌, None, slice_get};
+ghost use Rattle.std.specs.Prelude.{◌≡◌, None, Some, map, slice_get};
 ghost use Rattle.std.specs.Option.{option_copied};
 ghost use Rattle.rust_source.specs.declared.syntax.Path.{out-Path};
 ghost use Rattle.abi_rust.specs.Kinds.{found_by, most_aliases, type_named};
-ghost use Rattle.abi_rust.specs.Names.{agreed, along, ambiguous, among, lookup_of, behind_module, beside_module, crate_above, crate_for_all, crate_named, declared, first, found, found_of, imported, is_open, is_usable, named_behind, names_in_path, one_of, other_space, own_name, own_item, own_module, path_named, perhaps, root, seen_own, unless_hidden, space_before, standing_or_import, target_in, target_with, unread_in, used_by, visibility_of_item, visibility_of_module, visibility_of_use, resolution_in};
+ghost use Rattle.abi_rust.specs.Names.{agreed, along, ambiguous, among, before_last, lookup_of, behind_module, beside_module, crate_above, crate_for_all, crate_named, declared, first, found, found_of, imported, is_open, is_usable, named_behind, names_in_path, one_of, other_space, own_name, own_item, own_module, path_named, perhaps, root, seen_own, unless_hidden, space_before, standing_or_import, target_in, target_with, unread_in, used_by, visibility_of_item, visibility_of_module, visibility_of_use, resolution_in};
 
 use crate::scope::Scope;
 use crate::standing::SEVERAL;
@@ -271,7 +271,21 @@ pub(crate) fn target_of(
         ≡ target_with tables.entry.items.now tables.entry.scope.now
         (target_in tables.entry.targets.now) number used.now space }
 {
-    let mut left = used.path.len().checked_sub(1)?;
+    use_named(tables, number, used, used.path.len(), space)
+}
+
+/// What the first names of a use name, so many of them, by what others bring in.
+fn use_named(
+    tables: NameTables<'_>,
+    number: u32,
+    used: &Use,
+    count: usize,
+    space: Space,
+) -> Option<Resolution>
+    ensures { result ≡ path_named tables.entry.items.now tables.entry.scope.now (target_in tables.entry.targets.now)
+        count used.now.«module» used.now.is_global space (Some number) (map (λ n. n.name) used.now.path.items) }
+{
+    let mut left = count.checked_sub(1)?;
     let (begin, rest) = used.path.as_slice().split_first()?;
     let first_space = space_before(left, space);
     let begins = lookup_of(used.module, begin.name, first_space, Some(number));
@@ -285,6 +299,31 @@ pub(crate) fn target_of(
         found = named_behind(tables, found, lookup);
     }
     found
+}
+
+/// What stands in the path of a use before its last name.
+#[tactic(auto, unfolding(crate::specs::Names::before_last))]
+pub(crate) fn before_last(
+    items: &Items,
+    scope: &Scope,
+    number: u32,
+    used: &Use,
+) -> Option<Resolution>
+    ensures { result ≡ before_last items.now scope.now number used.now }
+{
+    let targets = scope.use_targets.as_slice();
+    let tables = NameTables {
+        items,
+        scope,
+        targets,
+    };
+    use_named(
+        tables,
+        number,
+        used,
+        used.path.len().saturating_sub(1),
+        Space::Types,
+    )
 }
 
 /// What is asked for by a name in a module.

@@ -19,6 +19,7 @@ pub(crate) fn place_of(expr: &Expr) -> Place
         Expr::Integer(_, _, at) => *at,
         Expr::Char(_, at) => *at,
         Expr::Bool(_, at) => *at,
+        Expr::Text(_, at) => *at,
         Expr::Path(path) => place_of_path(path),
         Expr::Call(_, _, at) => *at,
         Expr::Unary(_, _, at) => *at,

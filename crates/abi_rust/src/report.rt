@@ -82,7 +82,7 @@ pub(crate) enum Subject<'a> {
 }
 
 /// A subject's type.
-fn type_of<'a>(
+pub(crate) fn type_of<'a>(
     cx: &Context<'a, '_>,
     budget: &mut Budget<'a>,
     subject: Subject<'a>,

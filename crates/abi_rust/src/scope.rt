@@ -3,10 +3,11 @@
 ghost use Rattle.std.specs.Prelude.{◌≡◌, ◌⊎◌, [], IfErr, IfOk, None, Some, false, map, not, replicate, slice_get};
 ghost use Rattle.abi_rust.specs.Globs.{AreFollowed, KeepsGlobs, Leads, glob_target, glob_to, globs_added, if_all, is_in, led_from, led_to, list_at, lists_of, lost_added, lost_target, lost_way, most_ways, with_glob, with_target, with_way, with_ways};
 ghost use Rattle.abi_rust.specs.ExternCrates.{KeepsCrates};
-ghost use Rattle.abi_rust.specs.Scope.{constant_standing, crate_in, leads_nowhere, module_in, own_constant, owner_of, reached_from, type_standing, use_in};
-ghost use Rattle.abi_rust.specs.ScopeNames.{HasSameNames, HasSameRoots, IsEmpty, KeepsNames, KeepsOwn, repeated_of};
+ghost use Rattle.abi_rust.specs.Scope.{constant_standing, crate_in, enum_glob, leads_nowhere, module_in, own_constant, owner_of, reached_from, type_standing, use_in};
+ghost use Rattle.abi_rust.specs.ScopeNames.{HasSameNames, HasSameRoots, IsEmpty, KeepsEnums, KeepsNames, KeepsOwn, repeated_of};
 ghost use Rattle.abi_rust.specs.Standing.{IsMemory};
 
+use crate::enum_globs::add_enum_globs;
 use crate::extern_crates::{ExternCrate, add_extern_crates};
 use crate::fault::{FaultKind, Stop, stop_at};
 use crate::own_constants::add_own_constants;
@@ -46,6 +47,8 @@ pub(crate) struct Scope {
     owners: IndexMap<u32, u32>,
     /// Uses that bring in a name.
     uses: IndexMap<Key, u32>,
+    /// For each module the enum whose variants its globs bring in.
+    enum_globs: IndexMap<u32, u32>,
     /// The root modules of other crates, by the root modules of those that name them, and the names.
     crates: IndexMap<Key, u32>,
     /// For each module the ways of its globs, and of the globs of the modules that these lead to, to `NOWHERE` where one
@@ -69,6 +72,7 @@ impl Scope {
         ensures crates { IfOk result (KeepsCrates crates.now.items) }
         ensures globs { IfOk result (KeepsGlobs items.now) }
         ensures own { IfOk result (KeepsOwn items.now) }
+        ensures enums { IfOk result (KeepsEnums items.now) }
         ensures roots { IfOk result (λ scope. (scope.words ≡ words) × (scope.std_root ≡ std_root)) }
         ensures once { IfOk result (λ _. repeated_of items.now ≡ None) }
         ensures err { IfErr result (λ stop. (repeated_of items.now ≡ Some stop) ⊎ IsMemory stop) }
@@ -83,6 +87,7 @@ impl Scope {
             own_constants: IndexMap::new(alloc),
             owners: IndexMap::new(alloc),
             uses: IndexMap::new(alloc),
+            enum_globs: IndexMap::new(alloc),
             crates: IndexMap::new(alloc),
             reached: Vec::new(alloc),
             use_targets: Vec::new(alloc),
@@ -100,6 +105,7 @@ impl Scope {
         ensures crates { IfOk result (λ _. KeepsCrates crates.now.items self.new) }
         ensures globs { IfOk result (λ _. KeepsGlobs items.now self.new) }
         ensures own { IfOk result (λ _. KeepsOwn items.now self.new) }
+        ensures enums { IfOk result (λ _. KeepsEnums items.now self.new) }
         ensures roots { IfOk result (λ _. HasSameRoots self.old self.new) }
         ensures once { IfOk result (λ _. repeated_of items.now ≡ None) }
         ensures err { IfErr result (λ stop. (repeated_of items.now ≡ Some stop) ⊎ IsMemory stop) }
@@ -109,8 +115,11 @@ impl Scope {
         let mut owners = IndexMap::new(alloc);
         let mut own = IndexMap::new(alloc);
         add_own_constants(&mut owners, &mut own, items, self)?;
+        let mut globs = IndexMap::new(alloc);
+        add_enum_globs(&mut globs, items, self.use_targets.as_slice())?;
         self.owners = owners;
         self.own_constants = own;
+        self.enum_globs = globs;
         Ok(())
     }
 
@@ -299,6 +308,14 @@ impl Scope {
         ensures { result ≡ use_in self.now «module» name }
     {
         self.uses.get(&key(module, name)).copied()
+    }
+
+    /// The enum whose variants a module's globs bring in.
+    #[tactic(auto, unfolding(crate::specs::Scope::enum_glob))]
+    pub(crate) fn enum_glob(&self, module: u32) -> Option<u32>
+        ensures { result ≡ enum_glob self.now «module» }
+    {
+        self.enum_globs.get(&module).copied()
     }
 
     /// The ways of a module's globs.

@@ -1,6 +1,6 @@
 //! Files of Rust source, and what their types are.
 
-ghost use Rattle.std.specs.Prelude.{◌≡◌, ◌-◌, ◌<◌, ◌^◌, ◌++◌, ◌∷◌, Err, IfErr, IfOk, Ok, OnOk, Some, [], length, slice_get, string_bytes};
+ghost use Rattle.std.specs.Prelude.{◌≡◌, ◌-◌, ◌<◌, ◌^◌, ◌++◌, ◌∷◌, Err, IfErr, IfOk, Ok, OnOk, Some, [], length, nat_lt, slice_get, string_bytes};
 ghost use Rattle.std.specs.Option.{option_map};
 ghost use Rattle.rust_source.specs.Growth.{BeginsWith};
 ghost use Rattle.rust_source.specs.Names.{text_of};
@@ -14,6 +14,7 @@ use crate::budget::Context;
 use crate::extern_crates::ExternCrate;
 use crate::fault::{Fault, FaultKind, FaultPlace, Stop, stop_at};
 use crate::imports::repeated_import;
+use crate::parts::{NamedPart, parts_of};
 use crate::paths::root_of as root_module_of;
 use crate::report::{Subject, TypeReport, report_on};
 use crate::scope::Scope;
@@ -549,6 +550,61 @@ impl Sources {
             ))),
         };
         self.report(alloc, dl, Subject::Written(self.root, &ty))
+    }
+
+    /// Whether the item is one of the standard library's.
+    pub fn is_of_library(&self, item: usize) -> bool
+        ensures { result ≡ nat_lt item self.now.first }
+    {
+        item < self.first
+    }
+
+    /// The parts of the type that an item is: itself, and behind each part its parts. None where a name leads nowhere, where a
+    /// size has to be known first, and before the names were found. An error comes where a growth of memory was refused.
+    pub fn parts_of(
+        &self,
+        alloc: Global,
+        dl: &TargetDataLayout,
+        item: usize,
+    ) -> Result<Vec<NamedPart>, AllocError> {
+        match u32::try_from(item) {
+            Ok(number) => self.parts(alloc, dl, Subject::Item(number)),
+            Err(_) => Ok(Vec::new(alloc)),
+        }
+    }
+
+    /// The same of the type that a text writes, with the names of the file's root.
+    pub fn parts_written(
+        &mut self,
+        alloc: Global,
+        dl: &TargetDataLayout,
+        text: &str,
+    ) -> Result<Vec<NamedPart>, AllocError> {
+        match read_type(alloc, &mut self.names, text, self.next) {
+            Ok(ty) => self.parts(alloc, dl, Subject::Written(self.root, &ty)),
+            Err(_) => Ok(Vec::new(alloc)),
+        }
+    }
+
+    /// The parts of a subject's type.
+    fn parts<'a>(
+        &'a self,
+        alloc: Global,
+        dl: &'a TargetDataLayout,
+        subject: Subject<'a>,
+    ) -> Result<Vec<NamedPart>, AllocError> {
+        let Some(scope) = &self.scope else {
+            return Ok(Vec::new(alloc));
+        };
+        let cx = self.context_over(alloc, dl, scope);
+        match parts_of(&cx, subject) {
+            Ok(parts) => Ok(parts),
+            Err(stop) => if self.fault(stop).is_out_of_memory() {
+                Err(AllocError)
+            } else {
+                Ok(Vec::new(alloc))
+            },
+        }
     }
 
     /// Tells of a subject.

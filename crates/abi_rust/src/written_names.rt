@@ -7,7 +7,7 @@ ghost use Rattle.abi_rust.specs.Names.{found};
 ghost use Rattle.abi_rust.specs.Places.{last_name};
 ghost use Rattle.abi_rust.specs.Resolving.{inside_item, most_deep};
 ghost use Rattle.abi_rust.specs.Types.{where_of};
-ghost use Rattle.abi_rust.specs.WrittenNames.{argument_named, begins_inside, default_named, discriminant_named, each_checked, fields_named, first_name, is_type_inside, item_named, kind_formed, kind_named, leads_out, may_name_none, module_named, named_by, names_constant, no_type_named, parameter_kind_named, parameters_named, path_named, segment_named, type_named, type_named_with, types_named, unknown_type, variant_parts_named, variants_named, whole_path_named};
+ghost use Rattle.abi_rust.specs.WrittenNames.{argument_named, begins_inside, default_named, discriminant_named, each_checked, fields_named, first_name, is_constant, is_type_inside, item_named, kind_formed, kind_named, leads_out, may_name_none, module_named, named_by, names_constant, no_type_named, parameter_kind_named, parameters_named, path_named, segment_named, type_named, type_named_with, types_named, unknown_type, variant_parts_named, variants_named, whole_path_named};
 
 use crate::budget::{Context, Env, less, most_deep};
 use crate::fault::{FaultKind, Stop, stop_at};
@@ -412,12 +412,25 @@ fn check_enum(item: &Item) -> Result<(), Stop>
     }
 }
 
+/// Whether it is a constant, or a function, of whose parameters nothing is asked before it is called.
+fn is_constant(kind: &ItemKind) -> bool
+    ensures { result ≡ is_constant kind.now }
+{
+    match kind {
+        ItemKind::Const(_) => true,
+        _ => false,
+    }
+}
+
 /// A fault where a name that stands in an item names no type, or its definition isn't well-formed, whatever its parameters
 /// are given.
 pub(crate) fn check_item(cx: &Context<'_, '_>, number: u32, item: &Item) -> Result<(), Stop>
     ensures { result ≡ item_named cx.now (inside_item number item.now [])
         (type_named cx.now (inside_item number item.now []) most_deep false) item.now }
 {
+    if is_constant(&item.kind) {
+        return Ok(());
+    }
     let env = inside_item(number, item);
     check_parameters(cx, env, item.parameters.as_slice())?;
     check_kind(cx, env, item)?;

@@ -55,7 +55,7 @@ larger_has dl P (Some a) None hx hy = hx
 larger_has dl P (Some a) (Some b) hx hy = one_of (nat_lt (available_in dl a) (available_in dl b)) P a b hx hy
 
 -- a lawful scalar's niche is lawful where the scalar lies inside
-niche_inside : (dl : TargetDataLayout) (offset size : ℕ) (s : Scalar) → IsLawfulScalar dl s → offset + scalar_size dl s ≤ size
+pub niche_inside : (dl : TargetDataLayout) (offset size : ℕ) (s : Scalar) → IsLawfulScalar dl s → offset + scalar_size dl s ≤ size
     → IfSome (niche_at dl offset s) (IsLawfulNiche dl size)
 niche_inside dl offset size (Initialized value range) h inside =
     some_else (free_count (primitive_size dl value) range == 0) (record { offset = offset; value = value; valid_range = range })

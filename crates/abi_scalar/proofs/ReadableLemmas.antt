@@ -38,33 +38,19 @@ module _ (dl : TargetDataLayout) where
 
   integer_some : (i : Integer) → 1 ≤ integer_size i
   integer_some I8 = omega arith
-  integer_some I16 = omega arith
-  integer_some I32 = omega arith
-  integer_some I64 = omega arith
-  integer_some I128 = omega arith
+  integer_some _ = omega arith
 
   integer_most : (i : Integer) → integer_size i ≤ 16
   integer_most I8 = omega arith
-  integer_most I16 = omega arith
-  integer_most I32 = omega arith
-  integer_most I64 = omega arith
-  integer_most I128 = omega arith
+  integer_most _ = omega arith
 
   float_some : (f : Float) → 1 ≤ float_size f
   float_some format.F16 = omega arith
-  float_some format.F16B = omega arith
-  float_some format.F32 = omega arith
-  float_some format.F64 = omega arith
-  float_some format.F128 = omega arith
-  float_some format.PpcF128 = omega arith
+  float_some _ = omega arith
 
   float_most : (f : Float) → float_size f ≤ 16
   float_most format.F16 = omega arith
-  float_most format.F16B = omega arith
-  float_most format.F32 = omega arith
-  float_most format.F64 = omega arith
-  float_most format.F128 = omega arith
-  float_most format.PpcF128 = omega arith
+  float_most _ = omega arith
 
   width_some : (p : Primitive) → IsLawfulPrimitive dl p → 1 ≤ primitive_size dl p
   width_some (Int i signed) h = integer_some i

@@ -159,12 +159,7 @@ impl<'a, C> TyAbiInterface<'a, C> for TreeTy<'a> {
             (tree_depth this.entry) }
     {
         match &this.layout.0.variants {
-            Variants::Multiple {
-                tag: _,
-                tag_encoding: _,
-                tag_field: _,
-                variants: _,
-            } => {
+            Variants::Multiple { .. } => {
                 let laid = this.ty.laid;
                 let shape = laid.nodes.node(this.ty.node).shape;
                 handle_at(laid, variant_node(shape, variant_index.as_usize()))

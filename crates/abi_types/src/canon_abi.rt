@@ -5,6 +5,7 @@ ghost use Rattle.std.specs.Fmt.{styled_text};
 ghost use Rattle.abi_types.specs.CanonAbi.{canon_text, is_rustic_canon, same_name};
 
 use crate::extern_abi::ExternAbi;
+use abi_base::prove_ascending;
 use std::fmt;
 use std::fmt::Display;
 
@@ -48,9 +49,7 @@ pub enum ArmCall {
 }
 
 // The order in which they are compared.
-const _: () = prove!((ArmCall::Aapcs as u8) < ArmCall::CCmseNonSecureCall as u8);
-
-const _: () = prove!((ArmCall::CCmseNonSecureCall as u8) < ArmCall::CCmseNonSecureEntry as u8);
+const _: () = prove_ascending!(ArmCall: Aapcs, CCmseNonSecureCall, CCmseNonSecureEntry);
 
 /// The targets whose handlers of interrupts have conventions of their own. No code calls them.
 #[derive(Clone, Copy, PartialEq, Eq, PartialOrd, Ord, Hash, Debug)]
@@ -70,15 +69,8 @@ pub enum InterruptKind {
 }
 
 // The order in which they are compared.
-const _: () = prove!((InterruptKind::Avr as u8) < InterruptKind::AvrNonBlocking as u8);
-
-const _: () = prove!((InterruptKind::AvrNonBlocking as u8) < InterruptKind::Msp430 as u8);
-
-const _: () = prove!((InterruptKind::Msp430 as u8) < InterruptKind::RiscvMachine as u8);
-
-const _: () = prove!((InterruptKind::RiscvMachine as u8) < InterruptKind::RiscvSupervisor as u8);
-
-const _: () = prove!((InterruptKind::RiscvSupervisor as u8) < InterruptKind::X86 as u8);
+const _: () =
+    prove_ascending!(InterruptKind: Avr, AvrNonBlocking, Msp430, RiscvMachine, RiscvSupervisor, X86);
 
 /// The conventions of x86 and x86-64.
 #[derive(Clone, Copy, PartialEq, Eq, PartialOrd, Ord, Hash, Debug)]
@@ -98,15 +90,7 @@ pub enum X86Call {
 }
 
 // The order in which they are compared.
-const _: () = prove!((X86Call::Fastcall as u8) < X86Call::Stdcall as u8);
-
-const _: () = prove!((X86Call::Stdcall as u8) < X86Call::SysV64 as u8);
-
-const _: () = prove!((X86Call::SysV64 as u8) < X86Call::Thiscall as u8);
-
-const _: () = prove!((X86Call::Thiscall as u8) < X86Call::Vectorcall as u8);
-
-const _: () = prove!((X86Call::Vectorcall as u8) < X86Call::Win64 as u8);
+const _: () = prove_ascending!(X86Call: Fastcall, Stdcall, SysV64, Thiscall, Vectorcall, Win64);
 
 impl CanonAbi {
     /// Whether it is one of Rust's own, which no other language has a say in.

@@ -1,32 +1,15 @@
 -- Cells that make a number, the greatest byte first.
-use Rattle.std.proofs.Common.{Some, None, ◌≡◌, ◌↔◌, ℕ, zero, suc, ◌+◌, ◌*◌, ◌/◌, ◌%◌, ◌^◌, ◌<◌, ◌≤◌, List, [], ◌∷◌, length, arith, refl, sym, ap, ◌∙◌, subst, inl, inr, ⊎_elim}
+use Rattle.std.proofs.Common.{Some, None, ◌≡◌, ◌↔◌, ℕ, zero, suc, ◌+◌, ◌*◌, ◌/◌, ◌%◌, ◌^◌, ◌<◌, ◌≤◌, List, [], ◌∷◌, arith, refl, sym, ap, ◌∙◌, subst, inl, inr, ⊎_elim}
 use Rattle.std.proofs.Math.Nat.{div-div-eq-div-mul, pow-le-pow_right}
 use Rattle.std.proofs.lemmas.Bool.{cases_lt}
 use Rattle.std.proofs.lemmas.Nat.{pow-add}
 use Rattle.std.proofs.lemmas.List.Elements.{All-head, All-tail}
 use Rattle.automata.specs.Cell.{Cell, IsCell, AreCells}
-use Rattle.automata.specs.Formula.{Formula, any, run, either, Reads, Same}
+use Rattle.automata.specs.Formula.{Formula, any, run, either, Reads}
 use Rattle.automata.specs.Nodes.{formula_in}
 use Rattle.automata.specs.Formulas.{IsMade}
 use Rattle.automata.specs.Number.{AreBytes, IsBig, MakeBig, StartWithBytes}
 use Rattle.automata.proofs.NodesLemmas.{Keeps-trans, Keeps-at}
-
--- one of two first cells
-pub cells_made : (s0 s1 s2 s3 : List Formula) (i j k a b c d next other : ℕ) → other < length s0 → IsMade s0 s1 (run a b (formula_in s0 next)) i → IsMade s1 s2 (run c d (formula_in s1 other)) j →
-    IsMade s2 s3 (either (formula_in s2 i) (formula_in s2 j)) k → IsMade s0 s3 (either (run a b (formula_in s0 next)) (run c d (formula_in s0 other))) k
-cells_made s0 s1 s2 s3 i j k a b c d next other there one two both =
-    let F : Formula = run a b (formula_in s0 next) in
-    let G : Formula = run c d (formula_in s0 other) in
-    let first : Same (formula_in s2 i) F = subst (λ f. Same f F) (sym (Keeps-at s1 s2 two.kept i one.there)) one.same in
-    let second : Same (formula_in s2 j) G = subst (λ f. Same (formula_in s2 j) (run c d f)) (Keeps-at s0 s1 one.kept other there) two.same in
-    record {
-      kept = Keeps-trans s0 s1 s3 one.kept (Keeps-trans s1 s2 s3 two.kept both.kept);
-      there = both.there;
-      same = λ w. (
-        λ h. ⊎_elim (λ x. inl ((first w).0 x)) (λ x. inr ((second w).0 x)) ((both.same w).0 h),
-        λ h. (both.same w).1 (⊎_elim (λ x. inl ((first w).1 x)) (λ x. inr ((second w).1 x)) h),
-      );
-    }
 
 -- ---- bytes
 

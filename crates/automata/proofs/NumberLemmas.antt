@@ -128,14 +128,14 @@ above_none fs0 fs1 fs2 i j t none one two = record {
   loose = reads_any fs2 j any (λ m. t ≤ m) two.same refl none;
 }
 
--- a formula that is split at a byte
-pub split_made : (s0 s1 s2 s3 : List Formula) (i j k at below from : ℕ) → from < length s0 → IsMade s0 s1 (run 0 at (formula_in s0 below)) i → IsMade s1 s2 (run at 256 (formula_in s1 from)) j →
-    IsMade s2 s3 (either (formula_in s2 i) (formula_in s2 j)) k → IsMade s0 s3 (either (run 0 at (formula_in s0 below)) (run at 256 (formula_in s0 from))) k
-split_made s0 s1 s2 s3 i j k at below from there one two both =
-    let F : Formula = run 0 at (formula_in s0 below) in
-    let G : Formula = run at 256 (formula_in s0 from) in
+-- one of two first cells
+pub cells_made : (s0 s1 s2 s3 : List Formula) (i j k a b c d next other : ℕ) → other < length s0 → IsMade s0 s1 (run a b (formula_in s0 next)) i → IsMade s1 s2 (run c d (formula_in s1 other)) j →
+    IsMade s2 s3 (either (formula_in s2 i) (formula_in s2 j)) k → IsMade s0 s3 (either (run a b (formula_in s0 next)) (run c d (formula_in s0 other))) k
+cells_made s0 s1 s2 s3 i j k a b c d next other there one two both =
+    let F : Formula = run a b (formula_in s0 next) in
+    let G : Formula = run c d (formula_in s0 other) in
     let first : Same (formula_in s2 i) F = subst (λ f. Same f F) (sym (Keeps-at s1 s2 two.kept i one.there)) one.same in
-    let second : Same (formula_in s2 j) G = subst (λ f. Same (formula_in s2 j) (run at 256 f)) (Keeps-at s0 s1 one.kept from there) two.same in
+    let second : Same (formula_in s2 j) G = subst (λ f. Same (formula_in s2 j) (run c d f)) (Keeps-at s0 s1 one.kept other there) two.same in
     record {
       kept = Keeps-trans s0 s1 s3 one.kept (Keeps-trans s1 s2 s3 two.kept both.kept);
       there = both.there;
@@ -144,6 +144,11 @@ split_made s0 s1 s2 s3 i j k at below from there one two both =
         λ h. (both.same w).1 (⊎_elim (λ x. inl ((first w).1 x)) (λ x. inr ((second w).1 x)) h),
       );
     }
+
+-- a formula that is split at a byte
+pub split_made : (s0 s1 s2 s3 : List Formula) (i j k at below from : ℕ) → from < length s0 → IsMade s0 s1 (run 0 at (formula_in s0 below)) i → IsMade s1 s2 (run at 256 (formula_in s1 from)) j →
+    IsMade s2 s3 (either (formula_in s2 i) (formula_in s2 j)) k → IsMade s0 s3 (either (run 0 at (formula_in s0 below)) (run at 256 (formula_in s0 from))) k
+split_made s0 s1 s2 s3 i j k at below from there one two both = cells_made s0 s1 s2 s3 i j k 0 at at 256 below from there one two both
 
 -- ---- one number
 

@@ -136,31 +136,30 @@ module _ (fs0 fs1 fs2 fs3 : List Formula) (f g h first past k : ℕ) (one two : 
   first_one : (c : Cell) → first ≤ letter_of c → letter_of c < two.end → IsBehind (formula_in fs0 g) (formula_in fs2 one.formula) c
   first_one c from to = subst (λ x. IsBehind (formula_in fs0 g) x c) (sym (Keeps-at fs1 fs2 d2.kept one.formula d1.there)) (d1.behind c from (omega (arith, d2.within)))
 
-  pub derivative_both : formula_in fs0 f ≡ both (formula_in fs0 g) (formula_in fs0 h) → IsMade fs2 fs3 (both (formula_in fs2 one.formula) (formula_in fs2 two.formula)) k →
+  derivative_of : (whole behind : Formula) → formula_in fs0 f ≡ whole → IsMade fs2 fs3 behind k → ((c : Cell) → first ≤ letter_of c → letter_of c < two.end → IsBehind whole behind c) →
       IsDerivative fs0 fs3 (formula_in fs0 f) first past (record { formula = k; end = two.end })
-  derivative_both is made = record {
+  derivative_of whole behind is made step = record {
     kept = Keeps-trans fs0 fs2 fs3 (Keeps-trans fs0 fs1 fs2 d1.kept d2.kept) made.kept;
     there = made.there;
     some = d2.some;
     within = omega (arith, d1.within, d2.within);
-    behind = λ c from to. subst (λ x. IsBehind x (formula_in fs3 k) c) (sym is) (λ w. (
-      λ r. let b = (made.same w).0 r in (((first_one c from to) w).0 b.0, ((second c from to) w).0 b.1),
-      λ r. (made.same w).1 (((first_one c from to) w).1 r.0, ((second c from to) w).1 r.1),
-    ));
+    behind = λ c from to. subst (λ x. IsBehind x (formula_in fs3 k) c) (sym is)
+        (λ w. (λ r. (step c from to w).0 ((made.same w).0 r), λ r. (made.same w).1 ((step c from to w).1 r)));
   }
+
+  pub derivative_both : formula_in fs0 f ≡ both (formula_in fs0 g) (formula_in fs0 h) → IsMade fs2 fs3 (both (formula_in fs2 one.formula) (formula_in fs2 two.formula)) k →
+      IsDerivative fs0 fs3 (formula_in fs0 f) first past (record { formula = k; end = two.end })
+  derivative_both is made = derivative_of _ _ is made (λ c from to w. (
+    λ b. ((first_one c from to w).0 b.0, (second c from to w).0 b.1),
+    λ b. ((first_one c from to w).1 b.0, (second c from to w).1 b.1),
+  ))
 
   pub derivative_either : formula_in fs0 f ≡ either (formula_in fs0 g) (formula_in fs0 h) → IsMade fs2 fs3 (either (formula_in fs2 one.formula) (formula_in fs2 two.formula)) k →
       IsDerivative fs0 fs3 (formula_in fs0 f) first past (record { formula = k; end = two.end })
-  derivative_either is made = record {
-    kept = Keeps-trans fs0 fs2 fs3 (Keeps-trans fs0 fs1 fs2 d1.kept d2.kept) made.kept;
-    there = made.there;
-    some = d2.some;
-    within = omega (arith, d1.within, d2.within);
-    behind = λ c from to. subst (λ x. IsBehind x (formula_in fs3 k) c) (sym is) (λ w. (
-      λ r. ⊎_elim (λ x. inl (((first_one c from to) w).0 x)) (λ x. inr (((second c from to) w).0 x)) ((made.same w).0 r),
-      λ r. (made.same w).1 (⊎_elim (λ x. inl (((first_one c from to) w).1 x)) (λ x. inr (((second c from to) w).1 x)) r),
-    ));
-  }
+  derivative_either is made = derivative_of _ _ is made (λ c from to w. (
+    λ r. ⊎_elim (λ x. inl ((first_one c from to w).0 x)) (λ x. inr ((second c from to w).0 x)) r,
+    λ r. ⊎_elim (λ x. inl ((first_one c from to w).1 x)) (λ x. inr ((second c from to w).1 x)) r,
+  ))
 
 -- that of a gap
 pub derivative_gap : (old new : List Formula) (f g k first end count less : ℕ) → formula_in old f ≡ gap count (formula_in old g) → count ≡ suc less → first < end →

@@ -13,7 +13,7 @@ ghost use Rattle.rustc_abi.specs.Coroutines.{IsHeld};
 use crate::inputs::{
     Fields, Leaf, Lists, Numbers, are_lawful, are_lawful_lists, list_of, list_of_one, size_of,
 };
-use crate::report::{Call, Line, Outcome, Timed, time};
+use crate::report::{Line, Outcome, time};
 use abi_base::{Integer, NicheOptimizations, StructKind, TargetDataLayout as Target};
 use abi_calc::{LayoutCalculator, state_tag};
 use abi_index::{BitMatrix, FieldIdx, IndexSlice, IndexVec, VariantIdx};
@@ -21,21 +21,7 @@ use abi_scalar::{LayoutData, ReprFlags, ReprOptions};
 use std::alloc::{AllocError, Global};
 use std::io;
 
-/// The size of these fields as a list, 0 where it is refused.
-fn list_size(alloc: Global, dl: &Target, fields: &Fields, repr: &ReprOptions) -> u64
-    requires data_layout { IsLawfulDataLayout dl.now }
-    requires fields { All (λ f. IsLawfulLayout dl.now f.now) fields.now }
-    requires repr { HasLawfulAligns repr.now }
-{
-    size_of(LayoutCalculator::new(dl).layout_of_univariant(
-        alloc,
-        fields.as_slice(),
-        repr,
-        StructKind::AlwaysSized,
-    ))
-}
-
-/// Lists, laid out one after another.
+/// Lists under a data layout, with their repr.
 #[derive(Drop)]
 struct TimedLists<'a> {
     dl: &'a Target,
@@ -43,37 +29,31 @@ struct TimedLists<'a> {
     repr: ReprOptions,
 }
 
-impl Timed for TimedLists<'_> {
-    ghost is_ready = { λ a. IsLawfulDataLayout a.dl.now × HasLawfulAligns a.repr
-        × All (All (λ f. IsLawfulLayout a.dl.now f.now)) a.lists.items };
-
-    fn answer(&self, alloc: Global) -> u64 {
-        let dl = self.dl;
-        let repr = self.repr;
-        let mut sum = 0u64;
-        for fields in &self.lists {
-            sum = sum.wrapping_add(list_size(alloc, dl, fields, &repr));
-        }
-        sum
+/// The sum of the sizes of these lists, 0 for one that is refused.
+fn size_of_lists(alloc: Global, it: &TimedLists) -> u64
+    requires data_layout { IsLawfulDataLayout it.now.dl.now }
+    requires lists { All (All (λ f. IsLawfulLayout it.now.dl.now f.now)) it.now.lists.items }
+    requires repr { HasLawfulAligns it.now.repr }
+{
+    let mut sum = 0u64;
+    for fields in &it.lists {
+        let calculator = LayoutCalculator::new(it.dl);
+        let kind = StructKind::AlwaysSized;
+        let made = calculator.layout_of_univariant(alloc, fields.as_slice(), &it.repr, kind);
+        sum = sum.wrapping_add(size_of(made));
     }
+    sum
 }
 
-/// A union of the fields of its one variant.
-#[derive(Drop)]
-struct TimedUnion<'a> {
-    dl: &'a Target,
-    variant: Vec<Fields<'a>>,
-}
-
-impl Timed for TimedUnion<'_> {
-    ghost is_ready = { λ a. IsLawfulDataLayout a.dl.now × (length a.variant.items ≡ 1)
-        × All (All (λ f. IsLawfulLayout a.dl.now f.now)) a.variant.items };
-
-    fn answer(&self, alloc: Global) -> u64 {
-        let repr = ReprOptions::default();
-        let variants: IndexSlice<VariantIdx, Fields> = IndexSlice::new(&self.variant);
-        size_of(LayoutCalculator::new(self.dl).layout_of_union(alloc, &repr, variants))
-    }
+/// The size of a union of the fields of its one variant, the only list, 0 where it is refused.
+fn size_of_union(alloc: Global, it: &TimedLists) -> u64
+    requires data_layout { IsLawfulDataLayout it.now.dl.now }
+    requires one { length it.now.lists.items ≡ 1 }
+    requires fields { All (All (λ f. IsLawfulLayout it.now.dl.now f.now)) it.now.lists.items }
+{
+    let repr = ReprOptions::default();
+    let variants: IndexSlice<VariantIdx, Fields> = IndexSlice::new(&it.lists);
+    size_of(LayoutCalculator::new(it.dl).layout_of_union(alloc, &repr, variants))
 }
 
 /// One list of `count` fields.
@@ -124,7 +104,8 @@ pub(crate) fn time_lists(
     if !are_lawful_lists(dl, &lists) {
         return Err(io::Error::other("a leaf is unlawful"));
     }
-    time(rt, line, &TimedLists { dl, lists, repr })
+    let it = TimedLists { dl, lists, repr };
+    time(rt, line, &move |alloc| size_of_lists(alloc, &it))
 }
 
 /// Times a union of the fields of its one variant.
@@ -135,7 +116,12 @@ pub(crate) fn time_union(rt: &HostRuntime, dl: &Target, line: Line, variant: Vec
     if !are_lawful_lists(dl, &variant) {
         return Err(io::Error::other("a leaf is unlawful"));
     }
-    time(rt, line, &TimedUnion { dl, variant })
+    let it = TimedLists {
+        dl,
+        lists: variant,
+        repr: ReprOptions::default(),
+    };
+    time(rt, line, &move |alloc| size_of_union(alloc, &it))
 }
 
 /// An enum of these variants, with their discriminants, which are their places, and the integer of the tag.
@@ -148,24 +134,22 @@ struct TimedEnum<'a> {
     tag: Integer,
 }
 
-impl Timed for TimedEnum<'_> {
-    ghost is_ready = { IsLawfulEnum };
-
-    fn answer(&self, alloc: Global) -> u64 {
-        let repr = self.repr;
-        let tag = self.tag;
-        let variants: IndexSlice<VariantIdx, Fields> = IndexSlice::new(&self.variants);
-        size_of(LayoutCalculator::new(self.dl).layout_of_struct_or_enum(
-            alloc,
-            &repr,
-            variants,
-            true,
-            NicheOptimizations::Enabled,
-            |_least, _greatest| (tag, false),
-            self.discriminants.iter().copied(),
-            true,
-        ))
-    }
+/// Its size, 0 where it is refused.
+fn size_of_enum(alloc: Global, it: &TimedEnum) -> u64
+    requires { IsLawfulEnum it.now }
+{
+    let tag = it.tag;
+    let variants: IndexSlice<VariantIdx, Fields> = IndexSlice::new(&it.variants);
+    size_of(LayoutCalculator::new(it.dl).layout_of_struct_or_enum(
+        alloc,
+        &it.repr,
+        variants,
+        true,
+        NicheOptimizations::Enabled,
+        |_least, _greatest| (tag, false),
+        it.discriminants.iter().copied(),
+        true,
+    ))
 }
 
 /// The indices of `count` variants, each with its place as discriminant.
@@ -188,26 +172,26 @@ fn variant_of<'a>(
     alloc: Global,
     leaves: &'a [Leaf],
     numbers: &mut Numbers,
-    call: Call,
+    call: &str,
     place: u64,
 ) -> Result<Fields<'a>, AllocError>
     requires { length leaves.now ≡ 5 }
 {
     match call {
-        Call::Units => Ok(IndexVec::new(alloc)),
-        Call::TenFields => list_of(alloc, leaves, numbers, 10),
-        Call::BesideNiche if place == 0 => {
+        "enum_units" => Ok(IndexVec::new(alloc)),
+        "enum_ten_fields" => list_of(alloc, leaves, numbers, 10),
+        "enum_niche" if place == 0 => {
             let mut fields = list_of(alloc, leaves, &mut Numbers(99), 200)?;
             let _field: FieldIdx = fields.push(&leaves[3])?;
             Ok(fields)
         }
-        Call::WithoutNiche if place % 2 == 1 => list_of_one(alloc, &leaves[2]),
+        "enum_no_niche" if place % 2 == 1 => list_of_one(alloc, &leaves[2]),
         _ => list_of_one(alloc, &leaves[0]),
     }
 }
 
 /// An enum of `count` such variants.
-pub(crate) fn enum_of<'a>(alloc: Global, leaves: &'a [Leaf], call: Call, count: u64) -> Lists<'a>
+pub(crate) fn enum_of<'a>(alloc: Global, leaves: &'a [Leaf], call: &str, count: u64) -> Lists<'a>
     requires { length leaves.now ≡ 5 }
 {
     let mut numbers = Numbers(4242);
@@ -232,14 +216,14 @@ pub(crate) fn time_enum(rt: &HostRuntime, dl: &Target, line: Line, variants: Vec
         return Err(io::Error::other("the tag is too wide"));
     }
     let discriminants = numbered_variants(rt.alloc(), count)?;
-    let call = TimedEnum {
+    let it = TimedEnum {
         dl,
         repr,
         variants,
         discriminants,
         tag,
     };
-    time(rt, line, &call)
+    time(rt, line, &move |alloc| size_of_enum(alloc, &it))
 }
 
 /// The locals that a state holds, by their places.
@@ -307,26 +291,24 @@ struct TimedCoroutine<'a> {
     conflicts: BitMatrix<u32, u32>,
 }
 
-impl Timed for TimedCoroutine<'_> {
-    ghost is_ready = { IsLawfulCoroutine };
-
-    #[tactic(auto, using(abi_calc::proofs::CoroutineLemmas::OneCoroutine::one_tag))]
-    fn answer(&self, alloc: Global) -> u64 {
-        let dl = self.dl;
-        let Ok(prefix) = list_of_one(alloc, self.prefix) else {
-            return 0;
-        };
-        let tag: Leaf = LayoutData::scalar(dl, state_tag(self.states.len()));
-        let states: IndexSlice<VariantIdx, State> = IndexSlice::new(&self.states);
-        size_of(LayoutCalculator::new(dl).layout_of_coroutine(
-            alloc,
-            IndexSlice::new(self.locals.as_slice().as_raw()),
-            prefix,
-            states,
-            &self.conflicts,
-            |_tag| &tag,
-        ))
-    }
+/// Its size, 0 where it is refused.
+#[tactic(auto, using(abi_calc::proofs::CoroutineLemmas::OneCoroutine::one_tag))]
+fn size_of_coroutine(alloc: Global, it: &TimedCoroutine) -> u64
+    requires { IsLawfulCoroutine it.now }
+{
+    let Ok(prefix) = list_of_one(alloc, it.prefix) else {
+        return 0;
+    };
+    let tag: Leaf = LayoutData::scalar(it.dl, state_tag(it.states.len()));
+    let states: IndexSlice<VariantIdx, State> = IndexSlice::new(&it.states);
+    size_of(LayoutCalculator::new(it.dl).layout_of_coroutine(
+        alloc,
+        IndexSlice::new(it.locals.as_slice().as_raw()),
+        prefix,
+        states,
+        &it.conflicts,
+        |_tag| &tag,
+    ))
 }
 
 /// Times a coroutine of as many locals as the line has, and of 3 states for 8 locals.
@@ -346,12 +328,12 @@ pub(crate) fn time_coroutine(rt: &HostRuntime, dl: &Target, leaves: &[Leaf], lin
     if !prefix.is_lawful(dl) || !are_lawful(dl, locals.as_slice().as_raw()) {
         return Err(io::Error::other("a leaf is unlawful"));
     }
-    let call = TimedCoroutine {
+    let it = TimedCoroutine {
         dl,
         prefix,
         locals,
         states,
         conflicts,
     };
-    time(rt, line, &call)
+    time(rt, line, &move |alloc| size_of_coroutine(alloc, &it))
 }

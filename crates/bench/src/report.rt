@@ -14,68 +14,40 @@ pub(crate) struct Line {
     pub(crate) size: u64,
 }
 
-/// What lines time. Small lists are a thousand short ones; enums are of units, of ten fields a variant, of one field beside
-/// the niche of the first variant, and of one field without a niche; values of a range are in half of all numbers, or spread
-/// over all.
-#[derive(Clone, Copy)]
-pub(crate) enum Call {
-    List,
-    ListInC,
-    SmallLists,
-    SmallListsInC,
-    Union,
-    Units,
-    TenFields,
-    BesideNiche,
-    WithoutNiche,
-    Coroutine,
-    Parse,
-    LeastRange,
-    SpreadRange,
-    WideTree,
-    DeepTree,
-    NodePadding,
-    HandlePadding,
-    UnusedBytes,
-    Register,
-}
-
 const TO_A_MILLION: &[u64] = &[1000, 10_000, 100_000, 1_000_000];
 
 const TWO: &[u64] = &[1000, 100_000];
 
-/// Each call by its name, and its sizes.
-pub(crate) static LINES: [(&str, Call, &[u64]); 19] = [
-    ("univariant_free", Call::List, TO_A_MILLION),
-    ("univariant_c", Call::ListInC, TO_A_MILLION),
-    ("union", Call::Union, TO_A_MILLION),
-    ("univariant_small_1000_times", Call::SmallLists, &[1000]),
-    ("small_c_1000_times", Call::SmallListsInC, &[1000]),
-    ("enum_units", Call::Units, &[1000, 10_000, 100_000]),
-    ("enum_ten_fields", Call::TenFields, &[100, 1000, 10_000]),
-    ("enum_niche", Call::BesideNiche, &[1000, 10_000, 100_000]),
-    (
-        "enum_no_niche",
-        Call::WithoutNiche,
-        &[1000, 10_000, 100_000],
-    ),
-    ("coroutine", Call::Coroutine, &[100, 200, 400]),
-    ("parse", Call::Parse, &[10_000, 100_000, 1_000_000]),
-    ("smallest_range_containing", Call::LeastRange, TWO),
-    ("smallest_range_spread", Call::SpreadRange, TWO),
-    ("lay_out_wide", Call::WideTree, &[100_000]),
-    ("lay_out_deep", Call::DeepTree, &[200]),
-    ("padding_wide", Call::NodePadding, &[100_000]),
-    ("padding_walk_wide", Call::HandlePadding, &[100_000]),
-    ("variant_dependent_padding_ranges", Call::UnusedBytes, TWO),
-    ("homogeneous_aggregate", Call::Register, TWO),
+/// Each call by its name, and its sizes. Small lists are a thousand short ones; enums are of units, of ten fields a variant,
+/// of one field beside the niche of the first variant, and of one field without a niche; values of a range are in half of
+/// all numbers, or spread over all.
+pub(crate) static LINES: [(&str, &[u64]); 19] = [
+    ("univariant_free", TO_A_MILLION),
+    ("univariant_c", TO_A_MILLION),
+    ("union", TO_A_MILLION),
+    ("univariant_small_1000_times", &[1000]),
+    ("small_c_1000_times", &[1000]),
+    ("enum_units", &[1000, 10_000, 100_000]),
+    ("enum_ten_fields", &[100, 1000, 10_000]),
+    ("enum_niche", &[1000, 10_000, 100_000]),
+    ("enum_no_niche", &[1000, 10_000, 100_000]),
+    ("coroutine", &[100, 200, 400]),
+    ("parse", &[10_000, 100_000, 1_000_000]),
+    ("smallest_range_containing", TWO),
+    ("smallest_range_spread", TWO),
+    ("lay_out_wide", &[100_000]),
+    ("lay_out_deep", &[200]),
+    ("padding_wide", &[100_000]),
+    ("padding_walk_wide", &[100_000]),
+    ("variant_dependent_padding_ranges", TWO),
+    ("homogeneous_aggregate", TWO),
 ];
 
 /// Whether each word is a call that can be timed, `all`, or a size.
 pub(crate) fn are_known(words: &str) -> bool {
     for word in words.split_ascii_whitespace() {
         let mut is_known = word == "all" || word.parse::<u64>().is_ok();
-        for &(name, _call, _sizes) in &LINES {
+        for &(name, _sizes) in &LINES {
             is_known = is_known || word == name;
         }
         if !is_known {
@@ -102,29 +74,20 @@ pub(crate) fn is_asked_for(words: &str, name: &str, size: u64) -> bool {
 /// How often each call is made.
 const RUNS: u32 = 9;
 
-/// A call with all that it is given.
-pub(crate) trait Timed {
-    ghost is_ready: { Self → Type 0 };
-
-    /// Makes the call, and answers a size of what it lays out or reads, or the sum of these, 0 where it is refused.
-    fn answer(&self, alloc: Global) -> u64
-        requires { is_ready self.now };
-}
-
 /// How long a call takes, and what it answers.
-fn run_once<T: Timed>(rt: &HostRuntime, call: &T) -> io::Result<(Duration, u64)>
-    requires { T.is_ready call.now }
+fn run_once<F: Fn(Global) -> u64>(rt: &HostRuntime, call: &F) -> io::Result<(Duration, u64)>
+    requires { F.IsAlwaysCallable call.now }
 {
     let start = Instant::now(rt)?;
-    let answer = call.answer(rt.alloc());
+    let answer = call(rt.alloc());
     let took = start.elapsed(rt)?;
     Ok((took, answer))
 }
 
-/// Prints a line: its name and size, the microseconds of the fastest run of its call, and what that answers. A call that
-/// is refused is an error.
-pub(crate) fn time<T: Timed>(rt: &HostRuntime, line: Line, call: &T) -> Outcome
-    requires { T.is_ready call.now }
+/// Prints a line: its name and size, the microseconds of the fastest run of its call, and what that answers: a size, or a
+/// sum of sizes. What answers 0 was refused, which is an error.
+pub(crate) fn time<F: Fn(Global) -> u64>(rt: &HostRuntime, line: Line, call: &F) -> Outcome
+    requires { F.IsAlwaysCallable call.now }
 {
     let Line { name, size } = line;
     let mut fastest = Duration::MAX;

@@ -1,12 +1,11 @@
 //! Trees of types, and walks over types that were laid out: their padding, what a variant leaves unused, and the register
 //! they are passed in.
 
-ghost use Rattle.std.specs.Prelude.{⊤};
 ghost use Rattle.abi_tree.specs.Handles.{IsHandle};
 
 use crate::inputs::{Numbers, scalar};
-use crate::report::{Call, Line, Outcome, Timed, time};
-use abi_base::TargetDataLayout;
+use crate::report::{Line, Outcome, time};
+use abi_base::TargetDataLayout as Target;
 use abi_index::VariantIdx;
 use abi_scalar::{ReprOptions, Variants};
 use abi_tree::Laid;
@@ -85,7 +84,7 @@ pub(crate) fn enum_in_turn(alloc: Global, count: u64) -> Result<TypeTree, AllocE
 }
 
 /// The size of a type that is laid out, 0 where it is refused.
-fn size_of_tree(alloc: Global, dl: &TargetDataLayout, tree: &TypeTree) -> u64 {
+fn size_of_tree(alloc: Global, dl: &Target, tree: &TypeTree) -> u64 {
     match lay_out(alloc, dl, tree) {
         Ok(laid) => laid.layout().size.bytes(),
         Err(_) => 0,
@@ -142,49 +141,25 @@ fn node_padding_of(alloc: Global, laid: &Laid) -> u64 {
     }
 }
 
-/// A type under a data layout, which was laid out for a walk over it: its padding, by its nodes or by its handle, what its
-/// second variant leaves unused, or the register that it is passed in.
-#[derive(Drop)]
-struct TimedTree<'a> {
-    dl: &'a TargetDataLayout,
-    tree: TypeTree,
-    laid: Option<Laid>,
-    call: Call,
-}
-
-impl Timed for TimedTree<'_> {
-    ghost is_ready = { λ _. ⊤ };
-
-    fn answer(&self, alloc: Global) -> u64 {
-        let Some(laid) = &self.laid else {
-            return size_of_tree(alloc, self.dl, &self.tree);
-        };
-        match self.call {
-            Call::NodePadding => node_padding_of(alloc, laid),
-            Call::HandlePadding => padding_of(alloc, laid.root()),
-            Call::UnusedBytes => unused_of(alloc, laid.root()),
-            _ => register_of(laid.root()),
-        }
+/// What the walk of this name answers: padding, by nodes or by the handle, what a variant leaves unused, or a register.
+fn walk_over(alloc: Global, laid: &Laid, name: &str) -> u64 {
+    match name {
+        "padding_wide" => node_padding_of(alloc, laid),
+        "padding_walk_wide" => padding_of(alloc, laid.root()),
+        "homogeneous_aggregate" => register_of(laid.root()),
+        _ => unused_of(alloc, laid.root()),
     }
 }
 
-/// Times the layout of a tree, or a walk over it.
-pub(crate) fn time_tree(
-    rt: &HostRuntime,
-    dl: &TargetDataLayout,
-    line: Line,
-    call: Call,
-    tree: TypeTree,
-) -> Outcome {
-    let laid = match call {
-        Call::WideTree | Call::DeepTree => None,
-        _ => lay_out(rt.alloc(), dl, &tree).ok(),
-    };
-    let call = TimedTree {
-        dl,
-        tree,
-        laid,
-        call,
-    };
-    time(rt, line, &call)
+/// Times the layout of a tree.
+pub(crate) fn time_layout(rt: &HostRuntime, dl: &Target, line: Line, tree: TypeTree) -> Outcome {
+    time(rt, line, &move |alloc| size_of_tree(alloc, dl, &tree))
+}
+
+/// Times a walk over a tree that was laid out.
+pub(crate) fn time_walk(rt: &HostRuntime, dl: &Target, line: Line, tree: TypeTree) -> Outcome {
+    match lay_out(rt.alloc(), dl, &tree) {
+        Ok(laid) => time(rt, line, &move |alloc| walk_over(alloc, &laid, line.name)),
+        Err(_) => time(rt, line, &|_alloc| 0),
+    }
 }

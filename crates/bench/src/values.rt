@@ -1,9 +1,9 @@
 //! Data layout strings, and least ranges.
 
-ghost use Rattle.std.specs.Prelude.{⊤, ◌^◌, ◌<◌, ◌≤◌, All, IfOk};
+ghost use Rattle.std.specs.Prelude.{◌^◌, ◌<◌, ◌≤◌, All, IfOk};
 
 use crate::inputs::Numbers;
-use crate::report::{Line, Outcome, Timed, time};
+use crate::report::{Line, Outcome, time};
 use abi_base::{AddressSpace, Size, TargetDataLayout};
 use abi_scalar::WrappingRange;
 use std::alloc::{AllocError, Global};
@@ -25,28 +25,18 @@ fn text_of(alloc: Global, count: u64) -> Result<String, AllocError> {
     Ok(text)
 }
 
-/// A data layout string.
-#[derive(Drop)]
-struct TimedText {
-    text: String,
-}
-
-impl Timed for TimedText {
-    ghost is_ready = { λ _. ⊤ };
-
-    fn answer(&self, alloc: Global) -> u64 {
-        let space = AddressSpace::ZERO;
-        match TargetDataLayout::parse_from_llvm_datalayout_string(alloc, &self.text, space) {
-            Ok(dl) => dl.pointer_size().bytes(),
-            Err(_) => 0,
-        }
+/// The size of pointers that a data layout string says, 0 where it is refused.
+fn pointer_size(alloc: Global, text: &str) -> u64 {
+    match TargetDataLayout::parse_from_llvm_datalayout_string(alloc, text, AddressSpace::ZERO) {
+        Ok(dl) => dl.pointer_size().bytes(),
+        Err(_) => 0,
     }
 }
 
 /// Times the reading of a string of as many specs as the line has.
 pub(crate) fn time_parse(rt: &HostRuntime, line: Line) -> Outcome {
     let text = text_of(rt.alloc(), line.size)?;
-    time(rt, line, &TimedText { text })
+    time(rt, line, &|alloc| pointer_size(alloc, &text))
 }
 
 /// `count` multiples of this number.
@@ -62,22 +52,14 @@ fn values_of(alloc: Global, count: u64, by: u64) -> Result<Vec<u128>, AllocError
     Ok(values)
 }
 
-/// Numbers of four bytes.
-#[derive(Drop)]
-struct TimedValues {
-    values: Vec<u128>,
-}
-
-impl Timed for TimedValues {
-    ghost is_ready = { λ a. All (λ v. v < 2 ^ 32) a.values.items };
-
-    fn answer(&self, alloc: Global) -> u64 {
-        let size = Size::from_bytes(4);
-        let values = self.values.iter().copied();
-        match WrappingRange::smallest_range_containing(alloc, values, size) {
-            Ok(Some(range)) => (range.end & 0xFFFF_FFFF) as u64,
-            _ => 0,
-        }
+/// The end of the least range of these numbers of four bytes, 0 where it is refused.
+fn end_of_range(alloc: Global, values: &[u128]) -> u64
+    requires { All (λ v. v < 2 ^ 32) values.now }
+{
+    let size = Size::from_bytes(4);
+    match WrappingRange::smallest_range_containing(alloc, values.iter().copied(), size) {
+        Ok(Some(range)) => (range.end & 0xFFFF_FFFF) as u64,
+        _ => 0,
     }
 }
 
@@ -86,5 +68,5 @@ pub(crate) fn time_least_range(rt: &HostRuntime, line: Line, by: u64) -> Outcome
     requires { by ≤ 2 }
 {
     let values = values_of(rt.alloc(), line.size, by)?;
-    time(rt, line, &TimedValues { values })
+    time(rt, line, &|alloc| end_of_range(alloc, &values))
 }

@@ -48,31 +48,14 @@ fn write_bound(dl: &TargetDataLayout, command: &mut Command) {
     command.write(dl.ptr_sized_integer().uint_ty_str());
 }
 
-/// Calls on a data layout, whose string is next.
-#[derive(Clone, Copy)]
-enum DataLayoutCall {
-    Bound,
-    Lawful,
-    LawfulPointer,
-}
-
-const DATA_LAYOUT_CALLS: [(&[u8], DataLayoutCall); 3] = [
-    (b"bound", DataLayoutCall::Bound),
-    (b"lawful", DataLayoutCall::Lawful),
-    (b"lawful-pointer", DataLayoutCall::LawfulPointer),
-];
-
 /// Answers a call on a data layout; the space is what it has before it.
-fn answer(
-    dl: &TargetDataLayout,
-    command: &mut Command,
-    asked: DataLayoutCall,
-    space: AddressSpace,
-) {
-    match asked {
-        DataLayoutCall::Bound => write_bound(dl, command),
-        DataLayoutCall::Lawful => command.write_truth(dl.is_lawful()),
-        DataLayoutCall::LawfulPointer => command.write_truth(dl.has_lawful_pointer(space)),
+fn answer(dl: &TargetDataLayout, command: &mut Command, space: AddressSpace) {
+    if command.is_named(b"bound") {
+        write_bound(dl, command);
+    } else if command.is_named(b"lawful") {
+        command.write_truth(dl.is_lawful());
+    } else {
+        command.write_truth(dl.has_lawful_pointer(space));
     }
 }
 
@@ -84,16 +67,16 @@ pub(crate) fn answers(command: &mut Command) -> bool {
         }
         return true;
     }
-    let Some(asked) = command.meaning_of_name(&DATA_LAYOUT_CALLS) else {
+    let space = if command.is_named(b"lawful-pointer") {
+        AddressSpace(command.short())
+    } else if command.is_named(b"bound") || command.is_named(b"lawful") {
+        AddressSpace::ZERO
+    } else {
         return false;
-    };
-    let space = match asked {
-        DataLayoutCall::LawfulPointer => AddressSpace(command.short()),
-        _ => AddressSpace::ZERO,
     };
     let text = command.text();
     match data_layout_of(command.alloc, command.text_at(text)) {
-        Ok(dl) => answer(&dl, command, asked, space),
+        Ok(dl) => answer(&dl, command, space),
         Err(stop) => command.stop(stop),
     }
     true

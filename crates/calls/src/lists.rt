@@ -20,20 +20,6 @@ use abi_index::{FieldIdx, IndexSlice, IndexVec};
 use abi_scalar::ReprOptions;
 use std::alloc::Global;
 
-/// What a list may be.
-#[derive(Clone, Copy)]
-enum KindWord {
-    AlwaysSized,
-    MaybeUnsized,
-    Prefixed,
-}
-
-const KIND_WORDS: [(&[u8], KindWord); 3] = [
-    (b"always-sized", KindWord::AlwaysSized),
-    (b"maybe-unsized", KindWord::MaybeUnsized),
-    (b"prefixed", KindWord::Prefixed),
-];
-
 /// What is known of a list beside its fields.
 #[derive(Clone, Copy)]
 pub(crate) struct ListRepr {
@@ -43,13 +29,14 @@ pub(crate) struct ListRepr {
 
 /// The kind of list that is next.
 fn kind(command: &mut Command) -> StructKind {
-    match command.one_of(&KIND_WORDS, KindWord::AlwaysSized) {
-        KindWord::AlwaysSized => StructKind::AlwaysSized,
-        KindWord::MaybeUnsized => StructKind::MaybeUnsized,
-        KindWord::Prefixed => {
-            let size = command.size();
-            StructKind::Prefixed(size, command.align())
-        }
+    if command.takes(b"prefixed") {
+        let size = command.size();
+        StructKind::Prefixed(size, command.align())
+    } else if command.takes(b"maybe-unsized") {
+        StructKind::MaybeUnsized
+    } else {
+        command.expect(b"always-sized");
+        StructKind::AlwaysSized
     }
 }
 
@@ -227,37 +214,6 @@ fn write_lawful(dl: &TargetDataLayout, command: &mut Command)
     command.write_truth(layout.is_lawful(dl));
 }
 
-/// Calls that answer a layout.
-#[derive(Clone, Copy)]
-enum ListCall {
-    Layout,
-    Univariant,
-    UnivariantInOrder,
-    Union,
-    Scalable,
-}
-
-const LIST_CALLS: [(&[u8], ListCall); 5] = [
-    (b"layout", ListCall::Layout),
-    (b"univariant", ListCall::Univariant),
-    (b"univariant-in-order", ListCall::UnivariantInOrder),
-    (b"union", ListCall::Union),
-    (b"scalable", ListCall::Scalable),
-];
-
-/// The answer to a call.
-fn answer(dl: &TargetDataLayout, command: &mut Command, asked: ListCall) -> Result<Layout, Refusal>
-    requires { IsLawfulDataLayout dl.now }
-{
-    match asked {
-        ListCall::Layout => Ok(layout(dl, command)),
-        ListCall::Univariant => univariant(dl, command),
-        ListCall::UnivariantInOrder => univariant_in_order(dl, command),
-        ListCall::Union => union_of(dl, command),
-        ListCall::Scalable => scalable(dl, command),
-    }
-}
-
 /// Answers the call; whether it is one of these.
 pub(crate) fn answers(dl: &TargetDataLayout, command: &mut Command) -> bool
     requires { IsLawfulDataLayout dl.now }
@@ -266,10 +222,19 @@ pub(crate) fn answers(dl: &TargetDataLayout, command: &mut Command) -> bool
         write_lawful(dl, command);
         return true;
     }
-    let Some(asked) = command.meaning_of_name(&LIST_CALLS) else {
+    let made = if command.is_named(b"layout") {
+        Ok(layout(dl, command))
+    } else if command.is_named(b"univariant") {
+        univariant(dl, command)
+    } else if command.is_named(b"univariant-in-order") {
+        univariant_in_order(dl, command)
+    } else if command.is_named(b"union") {
+        union_of(dl, command)
+    } else if command.is_named(b"scalable") {
+        scalable(dl, command)
+    } else {
         return false;
     };
-    let made = answer(dl, command, asked);
     write_layout_or_stop(command, made);
     true
 }

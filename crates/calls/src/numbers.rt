@@ -33,38 +33,22 @@ fn write_vectors(command: &mut Command) {
     }
 }
 
-/// Calls on numbers.
-#[derive(Clone, Copy)]
-enum NumberCall {
-    AlignFromBytes,
-    CheckedAdd,
-    CheckedMul,
-    ScalableVectors,
-}
-
-const NUMBER_CALLS: [(&[u8], NumberCall); 4] = [
-    (b"align-from-bytes", NumberCall::AlignFromBytes),
-    (b"checked-add", NumberCall::CheckedAdd),
-    (b"checked-mul", NumberCall::CheckedMul),
-    (b"scalable-vectors", NumberCall::ScalableVectors),
-];
-
 /// Answers the call; whether it is one of these.
 pub(crate) fn answers(dl: &TargetDataLayout, command: &mut Command) -> bool
     requires { IsLawfulDataLayout dl.now }
 {
-    match command.meaning_of_name(&NUMBER_CALLS) {
-        Some(NumberCall::AlignFromBytes) => write_align_from_bytes(command),
-        Some(NumberCall::CheckedAdd) => {
-            let (first, second) = (command.size(), command.size());
-            write_size(command, first.checked_add(second, dl));
-        }
-        Some(NumberCall::CheckedMul) => {
-            let (size, count) = (command.size(), command.number());
-            write_size(command, size.checked_mul(count, dl));
-        }
-        Some(NumberCall::ScalableVectors) => write_vectors(command),
-        None => return false,
+    if command.is_named(b"align-from-bytes") {
+        write_align_from_bytes(command);
+    } else if command.is_named(b"checked-add") {
+        let (first, second) = (command.size(), command.size());
+        write_size(command, first.checked_add(second, dl));
+    } else if command.is_named(b"checked-mul") {
+        let (size, count) = (command.size(), command.number());
+        write_size(command, size.checked_mul(count, dl));
+    } else if command.is_named(b"scalable-vectors") {
+        write_vectors(command);
+    } else {
+        return false;
     }
     true
 }

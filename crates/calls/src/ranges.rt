@@ -187,33 +187,19 @@ fn write_from_scalar(dl: &TargetDataLayout, command: &mut Command) {
     }
 }
 
-/// Calls on ranges and niches.
-#[derive(Clone, Copy)]
-enum RangeCall {
-    ContainsRange,
-    LeastRange,
-    Reserve,
-    NicheFromScalar,
-}
-
-const RANGE_CALLS: [(&[u8], RangeCall); 4] = [
-    (b"contains-range", RangeCall::ContainsRange),
-    (b"least-range", RangeCall::LeastRange),
-    (b"reserve", RangeCall::Reserve),
-    (b"niche-from-scalar", RangeCall::NicheFromScalar),
-];
-
 /// Answers the call; whether it is one of these.
 pub(crate) fn answers(dl: &TargetDataLayout, command: &mut Command) -> bool {
-    match command.meaning_of_name(&RANGE_CALLS) {
-        Some(RangeCall::ContainsRange) => write_contained(command),
-        Some(RangeCall::LeastRange) => {
-            let done = write_least(command);
-            command.keep(done);
-        }
-        Some(RangeCall::Reserve) => write_reserve(dl, command),
-        Some(RangeCall::NicheFromScalar) => write_from_scalar(dl, command),
-        None => return false,
+    if command.is_named(b"contains-range") {
+        write_contained(command);
+    } else if command.is_named(b"least-range") {
+        let done = write_least(command);
+        command.keep(done);
+    } else if command.is_named(b"reserve") {
+        write_reserve(dl, command);
+    } else if command.is_named(b"niche-from-scalar") {
+        write_from_scalar(dl, command);
+    } else {
+        return false;
     }
     true
 }

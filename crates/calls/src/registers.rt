@@ -111,34 +111,19 @@ fn write_names(command: &mut Command) -> Result<(), AllocError> {
     Ok(())
 }
 
-/// Calls on registers and conventions.
-#[derive(Clone, Copy)]
-enum RegisterCall {
-    RegAlign,
-    Convention,
-    ConventionNames,
-}
-
-const REGISTER_CALLS: [(&[u8], RegisterCall); 3] = [
-    (b"reg-align", RegisterCall::RegAlign),
-    (b"convention", RegisterCall::Convention),
-    (b"convention-names", RegisterCall::ConventionNames),
-];
-
 /// Answers the call; whether it is one of these.
 pub(crate) fn answers(dl: &TargetDataLayout, command: &mut Command) -> bool {
-    match command.meaning_of_name(&REGISTER_CALLS) {
-        Some(RegisterCall::RegAlign) => write_reg_align(dl, command),
-        Some(RegisterCall::Convention) => {
-            let abi = convention(command);
-            write_convention(command, abi);
+    if command.is_named(b"reg-align") {
+        write_reg_align(dl, command);
+    } else if command.is_named(b"convention") {
+        let abi = convention(command);
+        write_convention(command, abi);
+    } else if command.is_named(b"convention-names") {
+        if write_names(command).is_err() {
+            command.mark_cut();
         }
-        Some(RegisterCall::ConventionNames) => {
-            if write_names(command).is_err() {
-                command.mark_cut();
-            }
-        }
-        None => return false,
+    } else {
+        return false;
     }
     true
 }

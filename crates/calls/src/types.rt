@@ -67,12 +67,7 @@ fn is_variant(layout: &Layout, index: VariantIdx) -> bool
     ensures { IsTrue result → IsVariantIndex layout.now.variants index }
 {
     match &layout.variants {
-        Variants::Multiple {
-            tag: _,
-            tag_encoding: _,
-            tag_field: _,
-            variants,
-        } => index.as_usize() < variants.len(),
+        Variants::Multiple { variants, .. } => index.as_usize() < variants.len(),
         _ => true,
     }
 }

@@ -1,5 +1,5 @@
 -- An enum without fields is as large as its integer, from its exact layout.
-use Rattle.std.proofs.Common.{◌≡◌, ℕ, ◌+◌, ◌-◌, ◌*◌, ◌%◌, ◌^◌, ◌<◌, ◌≤◌, Bool, true, false, List, [], ◌∷◌, None, Some, Option, length, map, cond, refl, sym, ap, ap₂, ◌∙◌, subst, arith, inl, inr, Ok, Err, Result}
+use Rattle.std.proofs.Common.{◌≡◌, ℕ, ◌+◌, ◌-◌, ◌*◌, ◌%◌, ◌^◌, ◌<◌, ◌≤◌, Bool, true, false, List, [], ◌∷◌, None, Some, Option, length, map, cond, refl, sym, ap, ap₂, ◌∙◌, subst, arith, inl, inr, Ok, Err}
 use Rattle.std.specs.Prelude.{All, MatchOption, filter, max, not, option_map, unwrap_or, ◌&&◌, ◌||◌, ℤ, pos, nat_le, nat_lt, if◌then◌else◌, is_some}
 use Rattle.std.specs.Int.{◌∣◌, next_multiple_of}
 use Rattle.std.specs.List.{list_all}
@@ -16,22 +16,20 @@ use Rattle.abi_base.specs.declared.niche_optimizations.NicheOptimizations.TheVar
 use Rattle.abi_base.specs.Integer.{integer_align, integer_size}
 use Rattle.abi_base.specs.IntegerType.{integer_of_type, is_signed_type}
 use Rattle.abi_base.specs.Size.{signed_value}
-use Rattle.abi_scalar.specs.declared.error.LayoutCalculatorError.{LayoutCalculatorError}
 use Rattle.abi_scalar.specs.declared.repr.ReprOptions.{ReprOptions}
 use Rattle.abi_scalar.specs.declared.variants.Variants.{Variants as LayoutVariants}
-use Rattle.abi_scalar.specs.declared.variants.Variants.TheVariants.{Empty, Single, Multiple}
+use Rattle.abi_scalar.specs.declared.variants.Variants.TheVariants.{Empty}
 use Rattle.abi_scalar.specs.Repr.{discr_type_of, is_c}
 use Rattle.abi_univariant.specs.Fields.{greatest, greatest_size}
 use Rattle.abi_univariant.specs.List.{IsUnivariantAnswer}
 use Rattle.abi_univariant.specs.Placement.{cut, end_from, in_order, own_align, start_of}
 use Rattle.abi_calc.specs.declared.enums.strategy.EnumStrategy.{EnumStrategy}
-use Rattle.abi_calc.specs.declared.enums.strategy.EnumStrategy.TheVariants.{Several}
 use Rattle.abi_calc.specs.Enums.Answer.{IsTypeAnswer}
-use Rattle.abi_calc.specs.Enums.Discriminants.{IsGreatestOf, IsLeastOf, counted_discriminants, counts, meant_by}
+use Rattle.abi_calc.specs.Enums.Discriminants.{IsGreatestOf, IsLeastOf, counts, meant_by}
 use Rattle.abi_calc.specs.Enums.Lists.{AreListLayouts, align_with_all, behind_tag, tag_align}
-use Rattle.abi_calc.specs.Enums.EnumStrategy.{has_no_value, is_free, strategy_among, strategy_of, variant_at}
-use Rattle.abi_calc.specs.Enums.Several.{IsAskedFor, IsSeveralAnswer}
-use Rattle.abi_calc.specs.Enums.Tagged.{lists_align, lists_size}
+use Rattle.abi_calc.specs.Enums.EnumStrategy.{has_no_value, is_free, variant_at}
+use Rattle.abi_calc.specs.Enums.Several.{IsAskedFor}
+use Rattle.abi_calc.specs.Enums.Tagged.{lists_align}
 use Rattle.abi_tree.specs.Placed.{Placed, layout_of}
 use Rattle.abi_scalar.specs.Layout.{Layout}
 use Rattle.abi_tree.specs.Tree.{Tree, enum}
@@ -44,6 +42,7 @@ use Rattle.guarantees.specs.EnumInC.{HasNumber, IsEnumInC, IsIntegerOfEnum, Lies
 use Rattle.guarantees.specs.InC.{HasExtent, IsLeastMultiple}
 use Rattle.guarantees.proofs.Integers.{IsSignedIn, bits, has_meaning, least_has_each, same_meaning, signed_by}
 use Rattle.guarantees.proofs.Ordered.{inj-Ok, no_error}
+use Rattle.guarantees.proofs.ReferenceLemmas.EnumLists.{IsTaggedBehind, is_several, tagged_by}
 use Rattle.guarantees.proofs.Rounded.{rounded_up}
 
 -- ---- variants without fields, as they are laid out
@@ -137,15 +136,6 @@ through a b from mid place le first second = record {
 
 -- ---- how such an enum is answered
 
-abbrev ok : Layout → Result Layout (LayoutCalculatorError Placed)
-ok l = Ok l
-
-inj-layout : (a b : Layout) → ok a ≡ ok b → a ≡ b
-inj-layout a b e = cc
-
-no_refusal : (a : Layout) (e : LayoutCalculatorError Placed) → ok a ≡ Err e → ⊥
-no_refusal a e is = cc
-
 true_or : (b more : Bool) → b ≡ true → (b || more) ≡ true
 true_or true more e = refl
 true_or false more e = absurd (cc)
@@ -154,49 +144,9 @@ true_or false more e = absurd (cc)
 not_free : (repr : ReprOptions) → is_c repr ≡ true → is_free repr ≡ false
 not_free repr c = ap not (true_or (is_c repr) (is_some repr.int) c)
 
-several_by : (free more : Bool) (xs : List ℕ) → free ≡ false → strategy_among free (if not free || more then 0 ∷ xs else xs) ≡ Several
-several_by true more xs e = absurd (cc)
-several_by false more [] e = refl
-several_by false more (x ∷ xs) e = refl
-
-is_several : (repr : ReprOptions) (v : List Placed) (vs : List (List Placed)) → is_free repr ≡ false → strategy_of true repr (layouts_of (v ∷ vs)) ≡ Several
-is_several repr v vs free = several_by (is_free repr) _ _ free
-
--- The integer that is asked for, and the lists of the variants behind it.
-record IsBehindTag (dl : TargetDataLayout) (repr : ReprOptions) (numbers : List ℕ) (variants : List (List Placed)) (layout : Layout) : Type 0 where
-  pub asked : Integer
-  pub signed : Bool
-  pub for : IsAskedFor dl repr (IsTagIntegerAnswer dl repr) (counted repr numbers variants) asked signed
-  pub lists : List Layout
-  pub are : AreListLayouts layout_of (λ i. i) 0 dl repr (behind_tag dl repr asked (layouts_of variants)) variants lists
-  pub size : layout.size ≡ lists_size dl lists
-  pub align : layout.align.abi ≡ lists_align dl lists
-
-tagged_by : (dl : TargetDataLayout) (repr : ReprOptions) (numbers : List ℕ) (variants : List (List Placed)) (layout : Layout) → is_free repr ≡ false →
-    IsSeveralAnswer layout_of (λ i. i) (λ i. i) (λ i. i) (λ i. i) dl repr (IsTagIntegerAnswer dl repr) variants (λ items. items ≡ numbered_from 0 numbers) (Ok layout) →
-    IsBehindTag dl repr numbers variants layout
-tagged_by dl repr numbers variants layout free (inl packed) = absurd (no_refusal layout _ packed.1)
-tagged_by dl repr numbers variants layout free (inr (inl want)) = absurd (no_refusal layout _ want.1)
-tagged_by dl repr numbers variants layout free (inr (inr (none, items, are, inl want))) = absurd (no_refusal layout _ want)
-tagged_by dl repr numbers variants layout free (inr (inr (none, items, are, inr (niche, inr (inl f), tagged, asked, is)))) = absurd (let no : true ≡ false = sym f.0 ∙ free in cc)
-tagged_by dl repr numbers variants layout free (inr (inr (none, items, are, inr (niche, inr (inr f), tagged, asked, is)))) = absurd (let no : true ≡ false = sym f.0 ∙ free in cc)
-tagged_by dl repr numbers variants layout free (inr (inr (none, items, are, inr (None, inl n, Err e, asked, is)))) = absurd (no_refusal layout e is)
-tagged_by dl repr numbers variants layout free (inr (inr (none, items, are, inr (Some l, inl n, tagged, asked, is)))) = absurd (let no : Some l ≡ None = n.1 in cc)
-tagged_by dl repr numbers variants layout free (inr (inr (none, items, are, inr (None, inl n, Ok l, (asked, signed, for, (lists, lay, by)), is)))) =
-    let same : layout ≡ _ = inj-layout layout l is ∙ by.ranged.2 in
-    record {
-      asked = asked;
-      signed = signed;
-      for = subst (λ its. IsAskedFor dl repr (IsTagIntegerAnswer dl repr) (counted_discriminants (λ v. v) repr (layouts_of variants) its) asked signed) are for;
-      lists = lists;
-      are = lay;
-      size = ap (λ (l : Layout). l.size) same;
-      align = ap (λ (l : Layout). l.align.abi) same;
-    }
-
 -- ---- the integer that is asked for
 
-fitting : (index align equal fits : Bool) → ◌≡◌ {A = Option LayError} (if index then Some BadIndex else (if align then Some BadAlign
+pub fitting : (index align equal fits : Bool) → ◌≡◌ {A = Option LayError} (if index then Some BadIndex else (if align then Some BadAlign
     else (if equal then Some DuplicateDiscriminant else (if not fits then Some DiscriminantTooWide else None)))) None → fits ≡ true
 fitting true align equal fits e = absurd (cc)
 fitting false true equal fits e = absurd (cc)
@@ -274,7 +224,7 @@ module _ (dl : TargetDataLayout) (law : IsLawfulDataLayout dl) (repr : ReprOptio
 
   module _ (loose : repr.pack ≡ None) (unraised : repr.align ≡ None) where
     behind : (n : ℕ) (ns : List ℕ) (layout : Layout) → list_all (is_discriminant dl repr) (n ∷ ns) ≡ true →
-        IsBehindTag dl repr (n ∷ ns) (empties (n ∷ ns)) layout → LiesAsEnumInC dl (map (signed_value 128) (n ∷ ns)) layout.size layout.align.abi
+        IsTaggedBehind dl repr (n ∷ ns) (empties (n ∷ ns)) layout → LiesAsEnumInC dl (map (signed_value 128) (n ∷ ns)) layout.size layout.align.abi
     behind n ns layout fits b =
         let own : ℕ = integer_align dl b.asked in
         let width : ℕ = integer_size b.asked in
@@ -283,15 +233,16 @@ module _ (dl : TargetDataLayout) (law : IsLawfulDataLayout dl) (repr : ReprOptio
         let large : ℕ = next_multiple_of up (2 ^ most) in
         let lists = greatest_is dl repr loose unraised b.asked (n ∷ ns) c n ns b.lists b.are in
         let aligned : lists_align dl b.lists ≡ most = ap (max dl.aggregate_align) lists.1 ∙ omega arith in
-        let sized : layout.size ≡ next_multiple_of large (2 ^ most) = b.size ∙ ap₂ (λ n a. next_multiple_of n (2 ^ a)) lists.0 aligned in
+        let whole : layout.align.abi ≡ most = ap (λ (l : Layout). l.align.abi) b.is ∙ aligned in
+        let sized : layout.size ≡ next_multiple_of large (2 ^ most) = ap (λ (l : Layout). l.size) b.is ∙ ap₂ (λ n a. next_multiple_of n (2 ^ a)) lists.0 aligned in
         let rounded : IsLeastMultiple most width (next_multiple_of large (2 ^ most)) =
         through most most width large (next_multiple_of large (2 ^ most)) (omega arith)
         (through own most width up large (omega arith) (rounded_up own width) (rounded_up most up)) (rounded_up most large) in
         record {
           integer = b.asked;
           is = integer_is (n ∷ ns) (empties (n ∷ ns)) b.asked b.signed fits b.for;
-          aligned = b.align ∙ aligned;
-          rounded = subst (λ a. IsLeastMultiple a width layout.size) (sym (b.align ∙ aligned)) (subst (IsLeastMultiple most width) (sym sized) rounded);
+          aligned = whole;
+          rounded = subst (λ a. IsLeastMultiple a width layout.size) (sym whole) (subst (IsLeastMultiple most width) (sym sized) rounded);
         }
 
     calculated : (n : ℕ) (ns : List ℕ) (layout : Layout) → list_all (is_discriminant dl repr) (n ∷ ns) ≡ true →
@@ -308,8 +259,7 @@ module _ (dl : TargetDataLayout) (law : IsLawfulDataLayout dl) (repr : ReprOptio
 layout_is : (dl : TargetDataLayout) (repr : ReprOptions) (ns : List ℕ) (vs : List (List Placed)) (layout : Layout) (variants : LayoutVariants ℕ ℕ) →
     layout_of (placed_variants dl repr ns vs layout variants) ≡ layout
 layout_is dl repr ns vs layout Empty = refl
-layout_is dl repr ns vs layout (Single i) = refl
-layout_is dl repr ns vs layout (Multiple tag encoding field layouts) = refl
+layout_is dl repr ns vs layout _ = refl
 
 -- The enum's layout, as the calculator answers it.
 record IsEnumLaid (dl : TargetDataLayout) (repr : ReprOptions) (ns : List ℕ) (placed : Placed) : Type 0 where

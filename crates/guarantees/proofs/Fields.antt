@@ -7,7 +7,7 @@ use Rattle.abi_types.specs.Ty.Lawful.{IsWellFormedType}
 use Rattle.abi_types.specs.Ty.Typed.{Typed, typed, no_type, field_in, layout_in}
 use Rattle.abi_tree.specs.Bytes.{bytes_at}
 use Rattle.abi_tree.specs.Holding.{HoldParts, Holds, IsAt}
-use Rattle.abi_tree.specs.Placed.{Placed, scalar, pair, never, elements, vector, fields, union, single, tagged, states, Parts, no_parts, part, layout_of, size_of}
+use Rattle.abi_tree.specs.Placed.{Placed, scalar, pair, never, fields, Parts, no_parts, part, layout_of, size_of}
 use Rattle.abi_scalar.specs.Layout.{Layout}
 use Rattle.abi_tree.specs.Seen.{HasOffset, Sees, SeesParts}
 use Rattle.abi_tree.specs.Value.{Value, Values, no_values, more_values, list}
@@ -19,13 +19,7 @@ layout-Sees : (t : Typed) (p : Placed) → Sees t p → layout_in t ≡ layout_o
 layout-Sees t (scalar layout s) h = h.0
 layout-Sees t (pair layout parts) h = h.0.0
 layout-Sees t (never layout mark) h = h.0
-layout-Sees t (elements layout count element) h = h.0.0
-layout-Sees t (vector layout lanes) h = h.0.0
-layout-Sees t (fields layout mark parts) h = h.0.0
-layout-Sees t (union layout mark parts) h = h.0.0
-layout-Sees t (single layout mark index parts) h = h.0.0
-layout-Sees t (tagged layout mark offset tag encoding tagged_variants) h = h.0.0
-layout-Sees t (states layout prefix offset tag tagged_variants) h = h.0.0
+layout-Sees t _ h = h.0.0
 
 -- the field with this index is seen at the offset
 abbrev IsSeenAt : Typed → (index offset : ℕ) → Placed → Type 0

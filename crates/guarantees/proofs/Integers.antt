@@ -29,31 +29,19 @@ meaning i n = signed_value (bits i) (n % 2 ^ bits i)
 
 low_kept : (i : Integer) (n : ℕ) → n < 2 ^ (bits i - 1) → n % 2 ^ bits i ≡ n
 low_kept I8 n low = omega arith
-low_kept I16 n low = omega arith
-low_kept I32 n low = omega arith
-low_kept I64 n low = omega arith
-low_kept I128 n low = omega arith
+low_kept _ n low = omega arith
 
 high_moved : (i : Integer) (n : ℕ) → n < 2 ^ 128 → 2 ^ 128 - 2 ^ (bits i - 1) ≤ n → n % 2 ^ bits i + 2 ^ 128 ≡ n + 2 ^ bits i
 high_moved I8 n short high = omega arith
-high_moved I16 n short high = omega arith
-high_moved I32 n short high = omega arith
-high_moved I64 n short high = omega arith
-high_moved I128 n short high = omega arith
+high_moved _ n short high = omega arith
 
-half_below : (i : Integer) → 2 ^ (bits i - 1) + 2 ^ (bits i - 1) ≡ 2 ^ bits i
+pub half_below : (i : Integer) → 2 ^ (bits i - 1) + 2 ^ (bits i - 1) ≡ 2 ^ bits i
 half_below I8 = refl
-half_below I16 = refl
-half_below I32 = refl
-half_below I64 = refl
-half_below I128 = refl
+half_below _ = refl
 
-whole_below : (i : Integer) → 2 ^ bits i ≤ 2 ^ 128
+pub whole_below : (i : Integer) → 2 ^ bits i ≤ 2 ^ 128
 whole_below I8 = omega arith
-whole_below I16 = omega arith
-whole_below I32 = omega arith
-whole_below I64 = omega arith
-whole_below I128 = omega arith
+whole_below _ = omega arith
 
 pub signed_by : (i : Integer) (n : ℕ) → (nat_lt n (2 ^ (bits i - 1)) || (nat_le (2 ^ 128 - 2 ^ (bits i - 1)) n && nat_lt n (2 ^ 128))) ≡ true → IsSignedIn i n
 signed_by i n is =
@@ -66,7 +54,7 @@ signed_by i n is =
           (ltb-true n (2 ^ 128) both.1, inr (leb-true (2 ^ 128 - half) n both.0))
     ]
 
-meant_low : (i : Integer) (n : ℕ) → n < 2 ^ (bits i - 1) → meaning i n ≡ pos n
+pub meant_low : (i : Integer) (n : ℕ) → n < 2 ^ (bits i - 1) → meaning i n ≡ pos n
 meant_low i n low =
     let kept : n % 2 ^ bits i ≡ n = low_kept i n low in
     rw kept (ap (λ b. cond b (pos n) (pos n -ℤ pos (2 ^ bits i))) (lt-ltb n (2 ^ (bits i - 1)) low))
@@ -74,7 +62,7 @@ meant_low i n low =
 negative : (low whole n : ℕ) → low + 2 ^ 128 ≡ n + whole → n < 2 ^ 128 → pos low -ℤ pos whole ≡ negsuc (2 ^ 128 - 1 - n)
 negative low whole n moved short = omega (arith, ints)
 
-meant_high : (i : Integer) (n : ℕ) → n < 2 ^ 128 → 2 ^ 128 - 2 ^ (bits i - 1) ≤ n → meaning i n ≡ negsuc (2 ^ 128 - 1 - n)
+pub meant_high : (i : Integer) (n : ℕ) → n < 2 ^ 128 → 2 ^ 128 - 2 ^ (bits i - 1) ≤ n → meaning i n ≡ negsuc (2 ^ 128 - 1 - n)
 meant_high i n short high =
     let moved = high_moved i n short high in
     let low : ℕ = n % 2 ^ bits i in

@@ -3,7 +3,7 @@ use Rattle.std.proofs.Common.{◌≡◌, ℕ, List, Option, None, Some, refl, sy
 use Rattle.std.specs.Prelude.{IfSome, MatchOption}
 use Rattle.abi_base.specs.declared.endian.Endian.{Endian}
 use Rattle.abi_tree.specs.Holding.{Holds}
-use Rattle.abi_tree.specs.Placed.{Placed, scalar, pair, never, elements, vector, fields, union, single, tagged, states}
+use Rattle.abi_tree.specs.Placed.{Placed, single, tagged}
 use Rattle.abi_tree.specs.Value.{Value, Values, variant}
 use Rattle.guarantees.specs.Loaded.{IsNamed}
 use Rattle.guarantees.proofs.Held.{inj-variant}
@@ -12,14 +12,7 @@ use Rattle.guarantees.proofs.Held.{inj-variant}
 holds_named : (order : Endian) (placed : Placed) (b : List ℕ) (i : ℕ) (vs : Values) → Holds order placed b (variant i vs) → IsNamed order placed b i
 holds_named order (single layout mark index parts) b i vs h = h.1
 holds_named order (tagged layout mark offset tag encoding tagged_variants) b i vs h = h.2
-holds_named order (scalar layout s) b i vs h = absurd h
-holds_named order (pair layout parts) b i vs h = absurd h
-holds_named order (never layout mark) b i vs h = absurd h
-holds_named order (elements layout count element) b i vs h = absurd h
-holds_named order (vector layout lanes) b i vs h = absurd h
-holds_named order (fields layout mark parts) b i vs h = absurd h
-holds_named order (union layout mark parts) b i vs h = absurd h
-holds_named order (states layout prefix offset tag tagged_variants) b i vs h = absurd h
+holds_named order _ b i vs h = absurd h
 
 -- the index of the variant that the value is of
 abbrev pub IsIndexOf : Value → Option ℕ → Type 0

@@ -5,9 +5,9 @@ use Rattle.std.proofs.Math.Nat.{pow-le-pow_right}
 use Rattle.std.proofs.lemmas.Nat.{pow-add}
 use Rattle.abi_base.specs.declared.data_layout.TargetDataLayout.{TargetDataLayout}
 use Rattle.abi_base.specs.declared.float.Float.{Float}
-use Rattle.abi_base.specs.declared.float.Float.TheVariants.{F16, F16B, F32, F64, F128, PpcF128}
+use Rattle.abi_base.specs.declared.float.Float.TheVariants.{F16}
 use Rattle.abi_base.specs.declared.integer.Integer.{Integer}
-use Rattle.abi_base.specs.declared.integer.Integer.TheVariants.{I8, I16, I32, I64, I128}
+use Rattle.abi_base.specs.declared.integer.Integer.TheVariants.{I8}
 use Rattle.abi_base.specs.declared.primitive.Primitive.{Primitive}
 use Rattle.abi_base.specs.declared.primitive.Primitive.TheVariants.{Int, Float as OneFloat, Pointer}
 use Rattle.abi_base.specs.Float.{float_size}
@@ -43,18 +43,11 @@ with_last b last rest some most byte lt = more_fits (length b) _ last rest (omeg
 
 integer_most : (i : Integer) → integer_size i ≤ 16
 integer_most I8 = lit≤ tt
-integer_most I16 = lit≤ tt
-integer_most I32 = lit≤ tt
-integer_most I64 = lit≤ tt
-integer_most I128 = lit≤ tt
+integer_most _ = lit≤ tt
 
 float_most : (f : Float) → float_size f ≤ 16
 float_most F16 = lit≤ tt
-float_most F16B = lit≤ tt
-float_most F32 = lit≤ tt
-float_most F64 = lit≤ tt
-float_most F128 = lit≤ tt
-float_most PpcF128 = lit≤ tt
+float_most _ = lit≤ tt
 
 -- a primitive whose pointer is lawful has at most 16 bytes
 pub primitive_most : (dl : TargetDataLayout) (p : Primitive) → IsLawfulPrimitive dl p → primitive_size dl p ≤ 16

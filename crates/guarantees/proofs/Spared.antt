@@ -21,7 +21,7 @@ use Rattle.abi_tree.specs.Runs.{is_place_of_variant}
 use Rattle.abi_tree.specs.Unused.{IsOfVariant, is_left_unused}
 use Rattle.abi_tree.specs.declared.value.Value.{Value as Kept}
 use Rattle.abi_tree.specs.Reading.{Finds}
-use Rattle.abi_tree.specs.Value.{Value, bytes, list, number, state, two, value_of, variant}
+use Rattle.abi_tree.specs.Value.{Value, state, value_of, variant}
 use Rattle.guarantees.specs.Field.{IsValueFound}
 use Rattle.guarantees.specs.Spared.{is_in_set_of, is_spared, with_spared}
 
@@ -66,10 +66,7 @@ module _ (laid : Laid) (of_tree : IsOfTree laid) (b : List ℕ) where
       → is_spared (placed_of laid) v k ≡ true → is_covered (placed_of laid) v k ≡ false
   uncovered (variant i vs) held k spared = left_uncovered (variant i vs) held i refl k spared
   uncovered (state i ps vs) held k spared = left_uncovered (state i ps vs) held i refl k spared
-  uncovered (number n) held k spared = absurd (true≢false (sym spared))
-  uncovered (two n m) held k spared = absurd (true≢false (sym spared))
-  uncovered (list vs) held k spared = absurd (true≢false (sym spared))
-  uncovered (bytes content) held k spared = absurd (true≢false (sym spared))
+  uncovered _ held k spared = absurd (true≢false (sym spared))
 
   module _ (sets : List (List (ℕ × ℕ))) (same : layout_in (typed_of laid) ≡ layout_of (placed_of laid))
       (tag_distinguishes : AreUnused (typed_of laid) sets) where
@@ -102,10 +99,7 @@ module _ (laid : Laid) (of_tree : IsOfTree laid) (b : List ℕ) where
         → is_in_set_of sets v k ≡ is_spared (placed_of laid) v k
     told_spared (variant i vs) held k = set_of (variant i vs) held i refl k
     told_spared (state i ps vs) held k = set_of (state i ps vs) held i refl k
-    told_spared (number n) held k = refl
-    told_spared (two n m) held k = refl
-    told_spared (list vs) held k = refl
-    told_spared (bytes content) held k = refl
+    told_spared _ held k = refl
 
 -- ---- what is read after a byte that it spares was changed
 

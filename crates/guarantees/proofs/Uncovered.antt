@@ -1,5 +1,5 @@
 -- Whether bytes hold a value rests on the bytes that the value covers, and on no others.
-use Rattle.std.proofs.Common.{◌≡◌, ℕ, zero, suc, ◌+◌, ◌-◌, ◌<◌, ◌≤◌, List, [], ◌∷◌, Bool, true, false, Option, None, Some, Result, Ok, Err, drop, length, length-take, length-drop, length-set, get_or, get_or-set_other, set, arith, refl, sym, ap, ◌∙◌, subst, ⊎_elim}
+use Rattle.std.proofs.Common.{◌≡◌, ℕ, zero, suc, ◌+◌, ◌-◌, ◌<◌, ◌≤◌, List, Bool, true, false, Option, None, Some, Result, Ok, Err, drop, length, length-take, length-drop, length-set, get_or, get_or-set_other, set, arith, refl, sym, ap, ◌∙◌, subst, ⊎_elim}
 use Rattle.std.specs.Prelude.{◌&&◌, ◌||◌, ◌==◌, IfOk, IfSome, not, nat_le, nat_lt}
 use Rattle.std.specs.declared.alloc.AllocError.{AllocError}
 use Rattle.std.proofs.lemmas.Bool.{cases_Bool, cases_lt, eqb-true, le-leb, lt-ltb, true≢false}
@@ -10,12 +10,12 @@ use Rattle.abi_scalar.specs.declared.variants.TagEncoding.{TagEncoding}
 use Rattle.abi_scalar.specs.declared.variants.TagEncoding.TheVariants.{Direct, Niche}
 use Rattle.abi_tree.specs.declared.laid.Laid.{Laid}
 use Rattle.abi_tree.specs.declared.value.Value.{Value as Kept}
-use Rattle.abi_tree.specs.Bytes.{bytes_at, number_of, picked_bytes, put_if}
+use Rattle.abi_tree.specs.Bytes.{bytes_at, number_of}
 use Rattle.abi_tree.specs.Covering.{are_covered, each_covered, is_tagged_variant_covered, is_byte_at, is_covered, is_tagged}
 use Rattle.abi_tree.specs.Holding.{HoldTaggedVariant, HoldEach, HoldParts, Holds, IsAt, tag_at}
 use Rattle.abi_tree.specs.Laid.{endian_of, placed_of}
 use Rattle.abi_tree.specs.OfTree.{IsOfTree}
-use Rattle.abi_tree.specs.Placed.{Placed, scalar, pair, never, elements, vector, fields, union, single, tagged, states, Parts, no_parts, part, TaggedVariants, nothing_tagged, tagged_variant, size_of}
+use Rattle.abi_tree.specs.Placed.{Placed, scalar, pair, elements, vector, fields, union, single, tagged, states, Parts, no_parts, part, TaggedVariants, nothing_tagged, tagged_variant, size_of}
 use Rattle.abi_tree.specs.Places.{is_data_place}
 use Rattle.abi_tree.specs.Reading.{Finds, KeepsValues}
 use Rattle.abi_tree.specs.Tag.{Names}
@@ -23,6 +23,7 @@ use Rattle.abi_tree.specs.Tree.{Tree}
 use Rattle.abi_tree.specs.Untagged.{NamesItself, UntaggedNamed, UntaggedNamedOf, UntaggedNamedOfTaggedVariants}
 use Rattle.abi_tree.specs.Value.{Value, number, two, list, variant, state, bytes, Values, no_values, more_values, value_of}
 use Rattle.guarantees.specs.Field.{IsValueFound}
+use Rattle.abi_tree.proofs.Bytes.PickedLemmas.{picked-same}
 
 -- the byte lists are equally long, and agree wherever the test takes a byte
 abbrev Agree : (ℕ → Bool) → (b w : List ℕ) → Type 0
@@ -94,19 +95,6 @@ rests_each P covered n rests offset (more_values v vs) b w same h =
     let later : ℕ → Bool = each_covered covered n (offset + n) vs in
     (rests_at offset n (covered v) (λ slice. P slice v) (rests v) b w (left here later b w same) h.0, rests_each P covered n rests (offset + n) vs b w (right here later b w same) h.1)
 
-put_if-same : (t : Bool) (x y : ℕ) (xs ys : List ℕ) → (t ≡ true → x ≡ y) → xs ≡ ys → put_if t x xs ≡ put_if t y ys
-put_if-same true x y xs ys here later = let first : x ≡ y = here refl in cc
-put_if-same false x y xs ys here later = later
-
-picked-same : (p : ℕ → Bool) (k : ℕ) (xs ys : List ℕ) → length xs ≡ length ys → ((j : ℕ) → p (k + j) ≡ true → get_or xs j 0 ≡ get_or ys j 0) → picked_bytes p k xs ≡ picked_bytes p k ys
-picked-same p k [] [] e agree = refl
-picked-same p k [] (y ∷ ys) e agree = absurd (omega arith)
-picked-same p k (x ∷ xs) [] e agree = absurd (omega arith)
-picked-same p k (x ∷ xs) (y ∷ ys) e agree =
-    let first : k ≡ k + 0 = omega arith in
-    put_if-same (p k) x y (picked_bytes p (k + 1) xs) (picked_bytes p (k + 1) ys) (λ t. agree 0 (subst (λ i. p i ≡ true) first t))
-    (picked-same p (k + 1) xs ys (omega arith) (λ j place. let at : k + 1 + j ≡ k + suc j = omega arith in agree (suc j) (subst (λ i. p i ≡ true) at place)))
-
 -- ---- tags
 
 module _ (order : Endian) where
@@ -177,16 +165,7 @@ module _ (order : Endian) where
           told_again Direct (size_of tag) tagged_variants _ _ i again h.3,
           rests_tagged_variant tagged_variants i vs u.1 b w (right (is_byte_at offset (size_of tag)) (is_tagged_variant_covered tagged_variants i vs) b w more) h.4,
         )
-    rests (scalar layout s) _ u b w same h = absurd h
-    rests (pair layout parts) _ u b w same h = absurd h
-    rests (never layout mark) _ u b w same h = absurd h
-    rests (elements layout count element) _ u b w same h = absurd h
-    rests (vector layout lanes) _ u b w same h = absurd h
-    rests (fields layout mark parts) _ u b w same h = absurd h
-    rests (union layout mark parts) _ u b w same h = absurd h
-    rests (single layout mark index parts) _ u b w same h = absurd h
-    rests (tagged layout mark offset tag encoding tagged_variants) _ u b w same h = absurd h
-    rests (states layout prefix offset tag tagged_variants) _ u b w same h = absurd h
+    rests _ _ u b w same h = absurd h
 
     rests_parts : (parts : Parts) (vs : Values) → UntaggedNamedOf order parts → RestsOn (are_covered parts vs) (λ b. HoldParts order parts b vs)
     rests_parts no_parts no_values u b w same h = tt

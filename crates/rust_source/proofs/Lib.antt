@@ -1,3 +1,4 @@
+mod CfgIfTurns
 mod CfgTurns
 mod Digits
 mod Facts
@@ -20,4 +21,5 @@ mod Turns
 mod Until
 mod UseTurns
 mod UnreadTurns
+mod WrapperTurns
 mod AroundTurns

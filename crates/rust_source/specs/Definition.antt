@@ -1,5 +1,5 @@
 -- Items that make types, and constants, as they are written.
-use Rattle.std.specs.Prelude.{ℕ, zero, suc, ◌+◌, ◌&&◌, ◌||◌, Bool, codes, List, map, Option, None, Some, Result, if◌then◌else◌}
+use Rattle.std.specs.Prelude.{ℕ, zero, suc, ◌+◌, ◌&&◌, ◌||◌, Bool, false, codes, List, map, Option, None, Some, Result, if◌then◌else◌}
 use Rattle.rust_source.specs.declared.fault.SourceFault.{SourceFault}
 use Rattle.rust_source.specs.declared.fault.SourceFaultKind.TheVariants.{ExpectedColon, ExpectedEquals, ExpectedFields, ExpectedSemicolon}
 use Rattle.rust_source.specs.declared.place.Place.{Place}
@@ -120,7 +120,7 @@ unfoldable pub const_typed : (owner : Option ℕ) → Reader ItemKindRead
 const_typed owner c names =
     read_on (λ (t : TypeRead × Cursor) ns.
     read_on (λ (v : Option ExprRead × Cursor) ms.
-    read_on (λ d ls. done (const_of t.0 v.0 owner, d) ls) (expected v.1 59 ExpectedSemicolon, ms))
+    read_on (λ d ls. done (const_of t.0 v.0 owner false, d) ls) (expected v.1 59 ExpectedSemicolon, ms))
     (value_read 59 t.1 ns))
     (type_read most_nested c names)
 

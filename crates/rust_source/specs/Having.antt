@@ -1,6 +1,7 @@
 -- What sources have so far, beside the names that have numbers.
 use Rattle.std.specs.Prelude.{ℕ, ◌+◌, ◌-◌, ◌^◌, Bool, false, true, List, [], ◌∷◌, ◌++◌, length, min, slice_set, Result}
 use Rattle.rust_source.specs.declared.fault.SourceFault.{SourceFault}
+use Rattle.rust_source.specs.declared.item.Macro.{Macro}
 use Rattle.rust_source.specs.declared.item.Module.{Module}
 use Rattle.rust_source.specs.declared.place.Place.{Place}
 use Rattle.rust_source.specs.declared.reader.attributes.Attributes.{Attributes}
@@ -50,6 +51,10 @@ with_item i items = record items { items = items.items ++ i ∷ [] }
 -- with a type more that has constants of its own
 abbrev pub with_owner : PathRead → ItemsRead → ItemsRead
 with_owner p items = record items { owners = items.owners ++ p ∷ [] }
+
+-- with a macro more
+abbrev pub with_macro : Macro → ItemsRead → ItemsRead
+with_macro m items = record items { macros = items.macros ++ m ∷ [] }
 
 -- the number of the next such type
 abbrev pub next_owner : ItemsRead → ℕ

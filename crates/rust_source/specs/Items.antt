@@ -10,6 +10,7 @@ use Rattle.rust_source.specs.declared.item.Item.{Item}
 use Rattle.rust_source.specs.declared.item.ItemKind.{ItemKind}
 use Rattle.rust_source.specs.declared.item.ItemKind.TheVariants as item
 use Rattle.rust_source.specs.declared.item.Items.{Items}
+use Rattle.rust_source.specs.declared.item.Macro.{Macro}
 use Rattle.rust_source.specs.declared.item.Module.{Module}
 use Rattle.rust_source.specs.declared.item.Outline.{Outline}
 use Rattle.rust_source.specs.declared.item.Parameter.{Parameter}
@@ -61,7 +62,7 @@ pub data ItemKindRead : Type 0 where
   enum_of : List VariantRead → ItemKindRead
   union_of : FieldsRead → ItemKindRead
   alias_of : TypeRead → ItemKindRead
-  const_of : TypeRead → (value : Option ExprRead) → (owner : Option ℕ) → ItemKindRead
+  const_of : TypeRead → (value : Option ExprRead) → (owner : Option ℕ) → (is_function : Bool) → ItemKindRead
 
 -- an item, where its name stands, and the number of the module that it is in
 pub record ItemRead : Type 0 where
@@ -95,6 +96,7 @@ pub record ItemsRead : Type 0 where
   pub items : List ItemRead
   pub uses : List UseRead
   pub owners : List PathRead
+  pub macros : List Macro
   pub passed_over : ℕ
   pub types_passed : ℕ
   pub unknown : List Symbol
@@ -102,7 +104,7 @@ pub record ItemsRead : Type 0 where
 
 -- nothing is read
 abbrev pub no_items : ItemsRead
-no_items = record { modules = []; are_read = []; outlines = []; items = []; uses = []; owners = []; passed_over = 0; types_passed = 0; unknown = []; unread = [] }
+no_items = record { modules = []; are_read = []; outlines = []; items = []; uses = []; owners = []; macros = []; passed_over = 0; types_passed = 0; unknown = []; unread = [] }
 
 -- the program's field as the definitions see it, and so on
 abbrev pub field_of : Field → FieldRead
@@ -127,7 +129,7 @@ parameter_of p = record { name = p.name; at = p.at; may_be_unsized = p.may_be_un
 
 -- a constant, with the type that it is of
 abbrev pub constant_of : Const → ItemKindRead
-constant_of c = const_of (type_of c.ty) (option_map expr_of c.value) c.owner
+constant_of c = const_of (type_of c.ty) (option_map expr_of c.value) c.owner c.is_function
 
 -- what an item is
 abbrev pub item_kind_of : ItemKind → ItemKindRead
@@ -166,6 +168,7 @@ items_as_read i = record {
   items = map item_of i.items.items;
   uses = map use_of i.uses.items;
   owners = map path_as_read i.owners.items;
+  macros = i.macros.items;
   passed_over = i.passed_over;
   types_passed = i.types_passed;
   unknown = i.unknown_cfgs.items;

@@ -17,6 +17,7 @@ pub mod Passing
 pub mod Lifetimes
 pub mod Reading
 pub mod Repr
+pub mod Texts
 pub mod Simple
 pub mod Terms
 pub mod Joining
@@ -30,6 +31,8 @@ pub mod Uses
 pub mod Visibility
 pub mod Definition
 pub mod Having
+pub mod CfgIf
+pub mod Wrappers
 pub mod Constants
 pub mod Functions
 pub mod Traits

@@ -1,5 +1,5 @@
 -- Items, one after another, and modules within one another.
-use Rattle.std.specs.Prelude.{ℕ, zero, suc, ◌-◌, ◌&&◌, ◌||◌, Bool, true, false, not, codes, [], nat_lt, Option, None, Some, Result, Ok, Err, if◌then◌else◌}
+use Rattle.std.specs.Prelude.{ℕ, zero, suc, ◌-◌, ◌&&◌, ◌||◌, Bool, true, false, not, codes, [], is_some, nat_lt, Option, None, Some, Result, Ok, Err, if◌then◌else◌}
 use Rattle.std.specs.Str.{bytes_eq}
 use Rattle.rust_source.specs.declared.fault.SourceFault.{SourceFault}
 use Rattle.rust_source.specs.declared.fault.SourceFaultKind.TheVariants.{ExpectedItem, ExpectedSemicolon, TooDeep}
@@ -17,6 +17,7 @@ use Rattle.rust_source.specs.declared.tokens.token.Bracket.TheVariants as bracke
 use Rattle.rust_source.specs.declared.tokens.token.TokenKind.{TokenKind}
 use Rattle.rust_source.specs.declared.tokens.token.TokenKind.TheVariants as kind
 use Rattle.rust_source.specs.Attributes.{attributes_read}
+use Rattle.rust_source.specs.CfgIf.{chosen_items}
 use Rattle.rust_source.specs.Constants.{own_constants}
 use Rattle.rust_source.specs.Cursor.{behind_group, expected, fault, inside, is_done, is_named_next, is_next, is_keyword_next, next_kind, passed}
 use Rattle.rust_source.specs.Fields.{by_names, visibility_passed}
@@ -32,6 +33,7 @@ use Rattle.rust_source.specs.Traits.{trait_read}
 use Rattle.rust_source.specs.Unread.{any_name, item_unread, one_item, with_unread}
 use Rattle.rust_source.specs.Uses.{tree_read}
 use Rattle.rust_source.specs.Visibility.{rules_in, visibility_read}
+use Rattle.rust_source.specs.Wrappers.{macro_read, wrapped_items}
 use Rattle.rust_source.specs.Definition.{DefinitionRead, is_union, definition_read, types_from}
 
 -- what follows names and `:`, of at most so many
@@ -109,12 +111,21 @@ abbrev pub ModuleReader : Type 0
 ModuleReader = (number : ℕ) → Cursor → Having → Result (Unit {0}) SourceFault × Having
 
 module _ (rules : Rules) where
+  -- the items that stand in place of a call by a macro of the source, or those of `cfg_if!`
+  abbrev pub wrapped_or_chosen : (number : ℕ) → Cursor → Option Cursor → Having → Result (Option Cursor) SourceFault × Having
+  wrapped_or_chosen number c (Some i) known = done (Some i) known
+  wrapped_or_chosen number c None known = chosen_items rules number c known
+
+  -- the items that stand in place of the call that is next, in the module with this number; none where they aren't known
+  unfoldable pub items_of_call : (number : ℕ) → Cursor → Having → Result (Option Cursor) SourceFault × Having
+  items_of_call number c known = wrapped_or_chosen number c (wrapped_items rules number c known) known
+
   -- the item that is next, which makes no type and is no constant
   unfoldable pub other_read : Standing → Attributes → Cursor → Having → Result Cursor SourceFault × Having
   other_read standing said c known =
       if is_keyword_next c keyword.Use then use_read false standing (passed c 1) known
       else (if renames_crate c then use_read true standing (passed c 2) known
-      else read_on (λ _ ns. read_on (λ _ ms. read_on (λ _ ls. over_passed c ls) (trait_read standing c ms)) (function_read standing said c ns)) (own_constants rules standing.«module» c known))
+      else read_on (λ _ ns. read_on (λ _ ms. read_on (λ _ ls. read_on (λ _ ks. over_passed c ks) (macro_read rules standing.«module» (is_some said.unknown) c ls)) (trait_read standing c ms)) (function_read standing said c ns)) (own_constants rules standing.«module» c known))
 
   -- the item that is next, which this was or another one is
   abbrev pub next_item_by : Standing → Attributes → Option DefinitionRead → Cursor → Having → Result Cursor SourceFault × Having
@@ -147,10 +158,21 @@ module _ (rules : Rules) where
     module_read standing said c known =
         read_on (λ (n : (Symbol × Place) × Cursor) ns. module_on standing said n.0 n.1 ns) (by_names known.1 (name (passed c 1) known.0))
 
+    -- these items, which stand in place of the call that is next, or an item where they aren't known
+    abbrev pub items_or_item : Standing → Attributes → Cursor → Option Cursor → Having → Result Cursor SourceFault × Having
+    items_or_item standing said c None known = item_read standing said c known
+    items_or_item standing said c (Some i) known = read_on (λ _ ns. done (item_passed c) ns) (M standing.«module» i known)
+
+    -- a call whose items are known, or an item: what stands at an attribute that isn't known is an item, since that may rewrite it
+    unfoldable pub call_read : Standing → Attributes → Cursor → Having → Result Cursor SourceFault × Having
+    call_read standing said c known =
+        if is_some said.unknown then item_read standing said c known
+        else read_on (λ found ns. items_or_item standing said c found ns) (items_of_call standing.«module» c known)
+
     -- what stands behind these attributes and its `pub`, and what follows it
     abbrev pub standing_read : Standing → Attributes → Cursor → Having → Result Cursor SourceFault × Having
     standing_read standing said c known =
-        read_on (λ _ ns. if is_keyword_next c keyword.Mod then module_read standing said c ns else item_read standing said c ns) (repr_judged said c, known)
+        read_on (λ _ ns. if is_keyword_next c keyword.Mod then module_read standing said c ns else call_read standing said c ns) (repr_judged said c, known)
 
     -- what stands behind these attributes, which no `cfg` takes out, and what follows it
     unfoldable pub said_read : (number : ℕ) → Attributes → Cursor → Having → Result Cursor SourceFault × Having

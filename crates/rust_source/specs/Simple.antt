@@ -24,7 +24,8 @@ use Rattle.rust_source.specs.Literals.{char_code, number_written}
 use Rattle.rust_source.specs.Operators.{with_operators}
 use Rattle.rust_source.specs.Passing.{angles_passed, bounds}
 use Rattle.rust_source.specs.Reading.{is_path_name, read_as}
-use Rattle.rust_source.specs.Syntax.{ExprRead, PathRead, TypeRead, bool, char, dyn, integer, named, never, other_expr, other_type, pointer, reference}
+use Rattle.rust_source.specs.Texts.{text_length}
+use Rattle.rust_source.specs.Syntax.{ExprRead, PathRead, TypeRead, bool, char, dyn, integer, named, never, other_expr, other_type, pointer, reference, text}
 
 -- how many others a type or an expression may stand in, and how many operators may follow one another
 unfoldable pub most_nested : ℕ
@@ -199,11 +200,17 @@ abbrev pub byte_read : Cursor → Result ℕ SourceFaultKind → Result ExprRead
 byte_read c (Ok code) = if nat_lt code 256 then Ok (integer code (Some U8) (place c)) else Err (fault c BadCharacter)
 byte_read c (Err k) = Err (fault c BadCharacter)
 
+-- the expression that a string of so many bytes is; C's isn't read
+abbrev pub text_read : Cursor → Option ℕ → ExprRead
+text_read c None = other_expr other.Expression (place c)
+text_read c (Some bytes) = text bytes (place c)
+
 -- the expression that a token of this kind is
 abbrev pub literal_of : Cursor → Token → TokenKind → Result ExprRead SourceFault
 literal_of c t kind.Number = number_read c (number_written (token_text c t))
 literal_of c t kind.Char = char_read c (char_code (token_text c t))
 literal_of c t kind.Byte = byte_read c (char_code (drop 1 (token_text c t)))
+literal_of c t kind.Text = Ok (text_read c (text_length (token_text c t)))
 literal_of c t (kind.Keyword k) = Ok (bool (is_same_word k keyword.True) (place c))
 literal_of c t _ = Ok (other_expr other.Expression (place c))
 

@@ -8,6 +8,7 @@ use Rattle.rust_source.specs.declared.reader.attributes.Rules.{Rules}
 use Rattle.rust_source.specs.declared.syntax.«Type».{«Type» as Written}
 use Rattle.rust_source.specs.declared.target.CfgTarget.{CfgTarget}
 use Rattle.rust_source.specs.declared.tokens.token.Token.{Token}
+use Rattle.rust_source.specs.CfgIf.{has_own}
 use Rattle.rust_source.specs.Cursor.{is_done}
 use Rattle.rust_source.specs.Having.{Having}
 use Rattle.rust_source.specs.Modules.{root_read}
@@ -16,6 +17,7 @@ use Rattle.rust_source.specs.Simple.{most_nested}
 use Rattle.rust_source.specs.Syntax.{TypeRead, type_of}
 use Rattle.rust_source.specs.Terms.{Known, done, fault_next, type_read}
 use Rattle.rust_source.specs.Tokens.{tokens}
+use Rattle.rust_source.specs.Wrappers.{has_macro_use}
 
 -- the tokens, or the fault, whose place is counted from where the text begins
 abbrev pub placed : (start : ℕ) → Result (List Token) SourceFault → Result (List Token) SourceFault
@@ -53,15 +55,15 @@ MeansBy text start old new answer (Err e) = Reads type_of (Err e, old) new answe
 abbrev pub MeansType : (text : List ℕ) (start : ℕ) (old new : Known) → Result Written SourceFault → Type 0
 MeansType text start old new answer = WantsMemory answer ⊎ MeansBy text start old new answer (tokens_at start text)
 
--- how a source is read for a target
-abbrev pub rules_of : CfgTarget → Source → Rules
-rules_of target source = record { target = target; is_trusted = source.is_trusted; has_outer = true }
+-- how a source is read for a target, whose tokens are these
+abbrev pub rules_of : CfgTarget → Source → Cursor → Rules
+rules_of target source c = record { target = target; is_trusted = source.is_trusted; has_outer = true; has_own_cfg_if = has_own c; has_macro_use = has_macro_use c }
 
 -- the answer and what sources have then are what these tokens mean, or their first fault, or this one
 abbrev pub MeansItemsBy : CfgTarget → Source → (old new : Having) → Result ℕ SourceFault → Result (List Token) SourceFault → Type 0
 MeansItemsBy target source old new answer (Ok ts) =
     (c : Cursor) × StandsBefore c source.text.now source.start.0 ts
-    × Reads (λ root. root) (root_read (rules_of target source) source.root c old) new answer
+    × Reads (λ root. root) (root_read (rules_of target source c) source.root c old) new answer
 MeansItemsBy target source old new answer (Err e) = Reads (λ root. root) (Err e, old) new answer
 
 -- the answer is the number of the new root module, or the text's first fault; names have the numbers, and sources have

@@ -66,6 +66,8 @@ mutual
     integer : (value : ℕ) → (kind : Option IntegerKind) → Place → ExprRead
     char : (code : ℕ) → Place → ExprRead
     bool : Bool → Place → ExprRead
+    -- a string of so many bytes
+    text : (bytes : ℕ) → Place → ExprRead
     constant : PathRead → ExprRead
     call : PathRead → ExprsRead → Place → ExprRead
     unary : Unary → ExprRead → Place → ExprRead
@@ -120,6 +122,7 @@ abbrev pub layer_expr : Expr-F ArgumentRead ExprRead TypeRead PathRead SegmentRe
 layer_expr (layer.Integer n kind at) = integer n kind at
 layer_expr (layer.Char code at) = char code at
 layer_expr (layer.Bool b at) = bool b at
+layer_expr (layer.Text bytes at) = text bytes at
 layer_expr (layer.Expr::Path p) = constant p
 layer_expr (layer.Call p all at) = call p (exprs all.items) at
 layer_expr (layer.Unary u e at) = unary u e.value at

@@ -94,7 +94,7 @@ pub struct Enum {
     pub variants: Vec<Variant>,
 }
 
-/// The type and the value of a constant, of a module's or of a type's own.
+/// The type and the value of a constant, of a module's or of a type's own; or a function or a static, as constants see it.
 #[derive(Drop)]
 pub struct Const {
     pub ty: Type,
@@ -102,6 +102,9 @@ pub struct Const {
     pub value: Option<Expr>,
     /// The number of the type whose own it is among those of `Items::owners`; none where it is a module's.
     pub owner: Option<u32>,
+    /// Whether it is a function. Where constants may call one, its value is its body, its parameters are the item's, and
+    /// its type is that of a function with its result alone; else it has no value.
+    pub is_function: bool,
 }
 
 /// What an item defines: a type, another name of one, or a constant (Rust Reference, "Items").
@@ -187,6 +190,19 @@ pub struct Outline {
     pub at: Place,
 }
 
+/// A macro that `macro_rules!` defines outside of bodies.
+#[derive(Clone, Copy, PartialEq, Eq)]
+pub struct Macro {
+    pub name: Symbol,
+    /// Where its name stands.
+    pub at: Place,
+    /// The module that it stands in, by its number.
+    pub module: u32,
+    /// Where it puts attributes in front of the items of a call, whether these stand, by the `cfg`s among them. None where
+    /// it is the second one of its name in the crate, or isn't of that form.
+    pub stands: Option<bool>,
+}
+
 /// What sources have, in the order in which they were read.
 #[derive(Drop)]
 pub struct Items {
@@ -201,6 +217,8 @@ pub struct Items {
     pub uses: Vec<Use>,
     /// Types that have constants of their own, as their `impl` blocks name them.
     pub owners: Vec<Path>,
+    /// The macros that stand outside of bodies, in the order of the sources.
+    pub macros: Vec<Macro>,
     /// How many items were passed over, since they make no type and are no constant.
     pub passed_over: u64,
     /// How many types are defined within these, in bodies and in macros' calls, by their words: what a macro makes of them

@@ -16,8 +16,8 @@ mod tokens;
 
 pub use fault::{SourceFault, SourceFaultKind};
 pub use item::{
-    Const, Enum, Field, FieldName, Fields, Item, ItemKind, Items, Module, Outline, Parameter,
-    ParameterKind, Repr, Use, UsedName, Variant,
+    Const, Enum, Field, FieldName, Fields, Item, ItemKind, Items, Macro, Module, Outline,
+    Parameter, ParameterKind, Repr, Use, UsedName, Variant,
 };
 pub use names::Names;
 pub use place::{Place, Symbol};

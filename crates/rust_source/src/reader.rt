@@ -2,6 +2,7 @@
 
 mod attributes;
 mod cfg;
+mod cfg_if;
 mod constants;
 mod cursor;
 mod definition;
@@ -22,11 +23,13 @@ mod paths;
 mod repeated;
 mod repr;
 mod signatures;
+mod texts;
 mod traits;
 mod types;
 mod unread;
 mod uses;
 mod visibility;
+mod wrappers;
 
 ghost use Rattle.std.specs.Prelude.{◌≡◌, [], IfOk, length};
 ghost use Rattle.rust_source.specs.Growth.{KeepsItems};
@@ -45,10 +48,12 @@ use crate::item::Items;
 use crate::names::Names;
 use crate::place::Place;
 use crate::reader::attributes::Rules;
+use crate::reader::cfg_if::has_own;
 use crate::reader::cursor::{Cursor, fault, is_done};
 use crate::reader::depth::most_nested;
 use crate::reader::items::read_root;
 use crate::reader::modules::SourceRoot;
+use crate::reader::wrappers::has_macro_use;
 use crate::syntax::Type;
 use crate::target::CfgTarget;
 use crate::tokens::token::Token;
@@ -83,6 +88,7 @@ impl Items {
             items: Vec::new(alloc),
             uses: Vec::new(alloc),
             owners: Vec::new(alloc),
+            macros: Vec::new(alloc),
             passed_over: 0,
             types_passed: 0,
             unknown_cfgs: Vec::new(alloc),
@@ -122,6 +128,9 @@ fn cursor_at_start<'a>(text: &'a str, start: Place, tokens: &'a [Token]) -> Curs
 /// be read. A `mod name;` makes a module without items, and an outline. The modules, the items and the uses that are there
 /// stay in front.
 ///
+/// In place of a call of `cfg_if!`, of the crate `cfg-if`, and of a macro that puts attributes in front of the items of a call,
+/// these items stand where it is certain which macro that is; all other calls are passed over.
+///
 /// An item that can't be read is passed over, up to its `;` or the end of its braces, and its fault is kept beside the items;
 /// it may have a name, which leads nowhere then. What can't be cut into tokens, or has a bracket without its partner, is the
 /// fault of the whole source, at its place. `OutOfMemory` comes where a growth of memory was refused.
@@ -142,6 +151,8 @@ pub fn read_items(
         target: *target,
         is_trusted: source.is_trusted,
         has_outer: true,
+        has_own_cfg_if: has_own(&cursor),
+        has_macro_use: has_macro_use(&cursor),
     };
     read_root(&rules, names, items, source.root, &mut cursor)
 }

@@ -30,7 +30,7 @@ pub enum Unevaluated {
     Associated,
     /// `_`.
     Inferred,
-    /// A string, a float, a block of statements, a `match`, a closure, a field, an index, a list, or what else is no
+    /// C's string, a float, a block of statements, a `match`, a closure, a field, an index, a list, or what else is no
     /// constant that is read here.
     Expression,
 }
@@ -141,6 +141,8 @@ pub enum Expr {
     Char(u32, Place),
     /// `true` or `false`, and where it stands.
     Bool(bool, Place),
+    /// A string or a byte string: how many bytes it has, and where it stands.
+    Text(u64, Place),
     /// A constant, or one of a type, as `u8::MAX`.
     Path(Path),
     /// A call of what a path names, its arguments, and where it begins. A method's, `A.name(B)`, is one of `_::name` with

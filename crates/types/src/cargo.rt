@@ -1,14 +1,13 @@
 //! A manifest, `Cargo.toml`: where it stands, its package's root file, and its workspace (The Cargo Book, "The Manifest
 //! Format").
 
-use crate::answer::Outcome;
-use crate::crate_files::{folder_of, is_there};
+use crate::disk_files::is_there;
 use crate::options::is_manifest;
-use crate::place::write_fault;
 use cargo_manifest::{Dependency, Features, Manifest, ManifestError};
 use std::alloc::{AllocError, Global};
 use std::io::ErrorKind;
 use std::{fs, io};
+use type_reports::{Outcome, folder_of, write_fault};
 
 /// A manifest, and where it stands.
 #[derive(Drop)]

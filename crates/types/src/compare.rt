@@ -1,9 +1,9 @@
 //! Types under several targets, or of an earlier answer and of now, side by side.
 
-use crate::facts::{FieldFact, TypeFacts, text_in};
 use serde_json::Value;
 use std::alloc::{AllocError, Global};
 use std::collections::{HashMap, HashSet};
+use type_reports::{FieldFact, TypeFacts, text_in};
 
 /// The types of one column: what they are called, and what is known of each.
 #[derive(Drop)]

@@ -1,15 +1,11 @@
 //! Lays out the types that a Rust source defines, and reports on each by the names of its fields.
 #![tactic(auto)]
 
-// What is asked for, and where a fault lies.
-mod assertions;
+// What is asked for.
 mod options;
-mod place;
-mod sorting;
 
 // The files of a crate.
-mod crate_files;
-mod module_files;
+mod disk_files;
 
 // Packages: their manifests, and what they ask of one another.
 mod cargo;
@@ -18,17 +14,6 @@ mod requests;
 mod target_tables;
 mod vendored;
 
-// Types as lines, as maps and as JSON, and the answer to a source.
-mod answer;
-mod bytes;
-mod entries;
-mod json;
-mod labels;
-mod lines;
-mod mapped;
-mod notes;
-mod pretty;
-
 // Types as a page.
 mod escape;
 mod page;
@@ -36,22 +21,12 @@ mod page_marks;
 
 // Types side by side.
 mod compare;
-mod facts;
 
-// What could be saved of types.
-mod least;
-mod savings;
-mod savings_text;
-mod waste;
-
-use crate::answer::{FileFailure, FileReport, Outcome, answer_source};
 use crate::cargo::{CargoFailure, manifest_path};
 use crate::compare::{Column, write_comparison};
-use crate::crate_files::SourceFile;
-use crate::facts::list_in;
-use crate::json::JsonLists;
-use crate::options::{Form, OptionFault, Options, command, is_root, options_of};
-use crate::packages::{PackageSet, crates_under, packages_of};
+use crate::disk_files::DiskFiles;
+use crate::options::{OptionFault, Options, command, options_of};
+use crate::packages::packages_of;
 use crate::page::page_of;
 use abi_rust::known_triples;
 use serde_json::Value;
@@ -60,25 +35,10 @@ use std::collections::HashSet;
 use std::io::Write;
 use std::process::ExitCode;
 use std::{env, fs, io};
-
-/// The status where all types are reported on.
-const REPORTED: u8 = 0;
-/// The status where a layout is refused, and where memory, reading or writing fails.
-const REFUSED: u8 = 1;
-/// The status where a source, or a type, has a fault, and where the command line can't be carried out.
-const FAULTY: u8 = 2;
-/// The status where what was asked of types isn't so.
-const DENIED: u8 = 3;
-
-/// The status that tells what came of the types.
-fn status_of(outcome: Outcome) -> u8 {
-    match outcome {
-        Outcome::Reported => REPORTED,
-        Outcome::Denied => DENIED,
-        Outcome::Refused => REFUSED,
-        Outcome::Faulty => FAULTY,
-    }
-}
+use type_reports::{
+    FileFailure, FileReport, Form, JsonLists, Outcome, PackageSet, SourceFile, answer_source,
+    crates_under, document_text, is_root, list_in,
+};
 
 /// Writes on standard error that memory is wanting.
 fn report_memory(rt: &HostRuntime) -> Outcome {
@@ -146,9 +106,9 @@ fn report_option(rt: &HostRuntime, fault: OptionFault<'_>) -> Outcome {
 fn report_failure(rt: &HostRuntime, failure: &FileFailure) -> Outcome {
     match failure {
         FileFailure::OutOfMemory => report_memory(rt),
-        FileFailure::Stopped(outcome, text) => {
-            let _ = rt.eprint(text.as_str());
-            *outcome
+        FileFailure::Stopped(stop) => {
+            let _ = rt.eprint(stop.text.as_str());
+            stop.outcome
         }
     }
 }
@@ -183,7 +143,7 @@ fn print_notes(
     name: Option<&str>,
     notes: &str,
 ) {
-    if !options.names_target && !options.is_quiet && !progress.is_target_noted {
+    if !options.names_target && !options.report.is_quiet && !progress.is_target_noted {
         progress.is_target_noted = true;
         let _ = rt.eprintln(
             "types: laid out for x86_64-unknown-linux-gnu; --target names another target",
@@ -217,7 +177,7 @@ fn print_answer(
     if progress.put_asserted(asserted).is_err() {
         return report_memory(rt);
     }
-    if options.form != Form::Json {
+    if options.report.form != Form::Json {
         return match rt.print(text.as_str()) {
             Ok(()) => outcome,
             Err(_) => Outcome::Refused,
@@ -229,26 +189,12 @@ fn print_answer(
     }
 }
 
-/// The text of the JSON document of these lists.
-fn json_text(
-    rt: &HostRuntime,
-    options: &Options<'_>,
-    lists: JsonLists,
-) -> Result<String, AllocError> {
-    let target = match options.targets.first() {
-        Some(target) if options.targets.len() == 1 => Some(target.triple),
-        _ => None,
-    };
-    let document = lists.into_document(rt.alloc(), target)?;
-    document.to_string_pretty(rt.alloc())
-}
-
 /// Writes the JSON document of these lists on standard output.
 fn print_json(rt: &HostRuntime, options: &Options<'_>, lists: JsonLists) -> Outcome {
-    let Ok(text) = json_text(rt, options, lists) else {
+    let Ok(text) = document_text(rt.alloc(), &options.report, lists) else {
         return report_memory(rt);
     };
-    match rt.println(text.as_str()) {
+    match rt.print(text.as_str()) {
         Ok(()) => Outcome::Reported,
         Err(_) => Outcome::Refused,
     }
@@ -269,7 +215,7 @@ fn columns_of<'a>(
         columns.push(Column::of(alloc, "now", types, None)?)?;
         return Ok(columns);
     }
-    for target in &options.targets {
+    for target in &options.report.targets {
         let triple = target.triple;
         columns.push(Column::of(alloc, triple, types, Some(triple))?)?;
     }
@@ -358,7 +304,7 @@ fn print_lists(rt: &HostRuntime, options: &Options<'_>, lists: JsonLists) -> Out
 /// Writes on standard error which assertions are of types that weren't found.
 fn report_assertions(rt: &HostRuntime, options: &Options<'_>, asserted: &[usize]) -> Outcome {
     let mut outcome = Outcome::Reported;
-    for (place, assertion) in options.assertions.iter().enumerate() {
+    for (place, assertion) in options.report.assertions.iter().enumerate() {
         if !asserted.contains(&place) {
             let name = assertion.name;
             let _ = eprintln!(rt;
@@ -414,7 +360,8 @@ fn report_source(
         features: root.features,
         crates: &[],
     };
-    match answer_source(rt, options, file, root.packages) {
+    let from = DiskFiles::new(rt, options.report.is_quiet);
+    match answer_source(rt.alloc(), &from, &options.report, file, root.packages) {
         Ok(answer) => print_answer(rt, options, progress, name, answer),
         Err(failure) => report_failure(rt, &failure),
     }
@@ -441,7 +388,7 @@ fn report_package(
     path: &str,
 ) -> Result<Outcome, CargoFailure> {
     let sets = packages_of(rt, options, path)?;
-    if !options.is_quiet {
+    if !options.report.is_quiet {
         print_package_notes(rt, &sets)?;
     }
     if let Some(package) = crates_under(&sets, 0).first() {
@@ -533,7 +480,7 @@ fn carry_out(rt: &HostRuntime, options: &Options<'_>) -> Outcome {
     } = progress;
     outcome = outcome.worse_of(report_assertions(rt, options, &asserted));
     let is_answered = outcome == Outcome::Reported || outcome == Outcome::Denied;
-    if options.form == Form::Json && (is_answered || !lists.is_empty()) {
+    if options.report.form == Form::Json && (is_answered || !lists.is_empty()) {
         outcome = outcome.worse_of(print_lists(rt, options, lists));
     }
     outcome
@@ -569,7 +516,7 @@ fn main(rt: HostRuntime) -> ExitCode {
     };
     let words: Vec<String> = match words {
         Ok(words) => words,
-        Err(_) => return ExitCode::from(status_of(report_memory(&rt))),
+        Err(_) => return ExitCode::from(report_memory(&rt).status()),
     };
-    ExitCode::from(status_of(run(&rt, &words)))
+    ExitCode::from(run(&rt, &words).status())
 }

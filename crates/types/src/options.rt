@@ -1,46 +1,21 @@
 //! What the command line asks for.
 
-use crate::assertions::{Assertion, assertion_in};
-use crate::sorting::{Selection, TypeOrder};
 use abi_rust::{Target, nearest_triple, target_named};
 use clap::{Arg, ArgAction, ArgMatches, Command};
 use rust_source::CfgOption;
 use std::alloc::{AllocError, Global};
-
-/// The target where none is named.
-pub(crate) const DEFAULT_TARGET: &str = "x86_64-unknown-linux-gnu";
-
-/// The form of the report.
-#[derive(Clone, Copy, PartialEq, Eq)]
-pub(crate) enum Form {
-    /// A line for each fact.
-    Lines,
-    /// One JSON document.
-    Json,
-    /// A declaration of Rust for each type, with comments.
-    Pretty,
-    /// A line for each run of bytes that the same parts have.
-    Map,
-}
+use type_reports::{
+    Assertion, Form, ReportOptions, Selection, TypeOrder, assertion_in, default_targets,
+    file_name_of, put_cfg, put_features,
+};
 
 /// What the command line asks for.
 #[derive(Drop)]
 pub(crate) struct Options<'a> {
-    /// The targets, in the order in which they were named; one where none was.
-    pub(crate) targets: Vec<Target>,
+    /// What the report is asked for.
+    pub(crate) report: ReportOptions<'a>,
     /// Whether a target was named.
     pub(crate) names_target: bool,
-    /// The types that are asked for by name; all of the source where there is none.
-    pub(crate) types: Vec<&'a str>,
-    /// Whether it is asked if each value of the first of these is one of the second.
-    pub(crate) transmutes: bool,
-    /// Whether it is said what may be done with each type's bytes.
-    pub(crate) with_bytes: bool,
-    /// Whether it is said what could be saved of each type.
-    pub(crate) with_savings: bool,
-    pub(crate) form: Form,
-    /// Which types are listed, and in which order.
-    pub(crate) selection: Selection,
     /// Whether the report is a page of HTML, which is written from what JSON has.
     pub(crate) is_page: bool,
     /// Whether the types under several targets are compared.
@@ -49,18 +24,12 @@ pub(crate) struct Options<'a> {
     pub(crate) against: Option<&'a str>,
     /// Whether it is denied that types differ.
     pub(crate) denies_differences: bool,
-    /// What is asserted of types.
-    pub(crate) assertions: Vec<Assertion<'a>>,
-    /// Whether nothing is noted on standard error but faults and what isn't as it is asserted.
-    pub(crate) is_quiet: bool,
     /// The features of the crates, as Cargo names them.
     pub(crate) features: Vec<&'a str>,
     /// Whether the default features of packages are on, too.
     pub(crate) with_default_features: bool,
     /// Whether all features of packages are on.
     pub(crate) with_all_features: bool,
-    /// What `cfg` finds set beside what a target has.
-    pub(crate) cfg_options: Vec<CfgOption<'a>>,
     /// The folder of vendored packages, where one was named.
     pub(crate) vendor: Option<&'a str>,
     /// The files, and the folders or manifests of packages, in the order in which they were named; standard input is read
@@ -68,8 +37,6 @@ pub(crate) struct Options<'a> {
     pub(crate) files: Vec<&'a str>,
     /// Whether each file is taken for the root of a crate, whatever it is called.
     pub(crate) are_roots: bool,
-    /// Whether a fault of one type is a fault of its file, of which nothing is reported then.
-    pub(crate) is_strict: bool,
     /// Whether the targets are listed, and nothing else is done.
     pub(crate) prints_targets: bool,
 }
@@ -416,15 +383,6 @@ fn targets_of<'a>(alloc: Global, triples: &[&'a str]) -> Result<Vec<Target>, Opt
     Ok(targets)
 }
 
-/// The one target that there is where none was named.
-fn default_targets(alloc: Global) -> Result<Vec<Target>, AllocError> {
-    let mut targets = Vec::new(alloc);
-    if let Some(known) = target_named(DEFAULT_TARGET) {
-        targets.push(known).map_err(AllocError::from)?;
-    }
-    Ok(targets)
-}
-
 /// The words, as they were named, in a list of their own.
 fn words_of<'a>(alloc: Global, words: &[&'a str]) -> Result<Vec<&'a str>, AllocError> {
     let mut all = Vec::with_capacity(alloc, words.len())?;
@@ -438,49 +396,9 @@ fn words_of<'a>(alloc: Global, words: &[&'a str]) -> Result<Vec<&'a str>, AllocE
 fn features_of<'a>(alloc: Global, lists: &[&'a str]) -> Result<Vec<&'a str>, AllocError> {
     let mut all = Vec::new(alloc);
     for list in lists {
-        for words in list.split(',') {
-            for name in words.split_ascii_whitespace() {
-                all.push(name)?;
-            }
-        }
+        put_features(&mut all, list)?;
     }
     Ok(all)
-}
-
-/// What stands between quotes. None where none stand around it, or one more between them.
-fn unquoted(text: &str) -> Option<&str> {
-    let inside = text.strip_prefix('"')?.strip_suffix('"')?;
-    if inside.contains('"') {
-        None
-    } else {
-        Some(inside)
-    }
-}
-
-/// Whether a text is a name, as `cfg` has them.
-fn is_name(text: &str) -> bool {
-    let mut is_begun = false;
-    for c in text.chars() {
-        if !(c == '_' || c.is_ascii_alphabetic() || is_begun && c.is_ascii_digit()) {
-            return false;
-        }
-        is_begun = true;
-    }
-    is_begun
-}
-
-/// What a text sets: a name, or a name and a value in quotes. None for any other text.
-fn cfg_option_in(text: &str) -> Option<CfgOption<'_>> {
-    let (name, value) = match text.split_once('=') {
-        Some((name, value)) => (name, Some(unquoted(value.trim())?)),
-        None => (text, None),
-    };
-    let name = name.trim();
-    if is_name(name) {
-        Some(CfgOption { name, value })
-    } else {
-        None
-    }
 }
 
 /// What is set for `cfg`, but the features, which are put behind those that were named.
@@ -491,14 +409,8 @@ fn cfg_options_of<'a>(
 ) -> Result<Vec<CfgOption<'a>>, OptionFault<'a>> {
     let mut all = Vec::new(alloc);
     for text in texts {
-        let Some(option) = cfg_option_in(text) else {
+        if !put_cfg(&mut all, features, text)? {
             return Err(OptionFault::BadCfg(text));
-        };
-        match option.value {
-            Some(feature) if option.name == "feature" => {
-                features.push(feature).map_err(AllocError::from)?;
-            }
-            _ => all.push(option).map_err(AllocError::from)?,
         }
     }
     Ok(all)
@@ -518,26 +430,9 @@ fn form_of(matches: &ArgMatches<'_>) -> Form {
     }
 }
 
-/// The name of a file, without its folder.
-fn name_of(path: &str) -> &str {
-    match path.rsplit_once('/') {
-        Some((_, name)) => name,
-        None => path,
-    }
-}
-
 /// Whether a file is a manifest by its name.
 pub(crate) fn is_manifest(path: &str) -> bool {
-    name_of(path) == "Cargo.toml"
-}
-
-/// Whether a file is the root of a crate by its name; standard input is one.
-pub(crate) fn is_root(file: Option<&str>) -> bool {
-    let Some(path) = file else {
-        return true;
-    };
-    let name = name_of(path);
-    name == "lib.rs" || name == "main.rs"
+    file_name_of(path) == "Cargo.toml"
 }
 
 /// The files that are named, and the manifests behind them.
@@ -686,29 +581,35 @@ pub(crate) fn options_of<'a>(
     let named = matches.get_strs("target").unwrap_or(&[]);
     let targets = asked_targets(alloc, named)?;
     let assertions = assertions_of(alloc, matches.get_strs("assert").unwrap_or(&[]))?;
-    Ok(Options {
+    let report = ReportOptions {
         targets,
-        names_target: !named.is_empty(),
         types,
         transmutes: matches.get_strs("transmute").is_some(),
         with_bytes: matches.get_flag("bytes"),
         with_savings: matches.get_flag("waste"),
+        with_parts: false,
+        keeps_trees: false,
         form: form_of(matches),
         selection,
+        assertions,
+        is_quiet: matches.get_flag("quiet"),
+        cfg_options,
+        with_files: files.len() > 1,
+        is_strict: matches.get_flag("strict"),
+    };
+    Ok(Options {
+        report,
+        names_target: !named.is_empty(),
         is_page: matches.get_flag("html"),
         compares: matches.get_flag("compare"),
         against: matches.get_str("against"),
         denies_differences,
-        assertions,
-        is_quiet: matches.get_flag("quiet"),
         features,
         with_default_features: !matches.get_flag("no-default-features"),
         with_all_features: matches.get_flag("all-features"),
-        cfg_options,
         vendor: matches.get_str("vendor"),
         files,
         are_roots: matches.get_flag("root"),
-        is_strict: matches.get_flag("strict"),
         prints_targets,
     })
 }

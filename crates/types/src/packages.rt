@@ -12,42 +12,10 @@ use cargo_manifest::FeatureRequest;
 use std::alloc::{AllocError, Global};
 use std::fs;
 use std::io::ErrorKind;
+use type_reports::{PackageCrate, PackageSet};
 
 /// How many packages may be read.
 const MOST_PACKAGES: usize = 1_000;
-
-/// A crate of a run: a package's, whose sources are read.
-#[derive(Drop)]
-pub(crate) struct PackageCrate {
-    /// The path of its root file; empty where it has none.
-    pub(crate) root: String,
-    /// The features that are on.
-    pub(crate) features: Vec<String>,
-    /// The crates that its sources know: the name of each there, and its number.
-    pub(crate) crates: Vec<(String, usize)>,
-}
-
-impl PackageCrate {
-    /// The features that are on, as `cfg` asks for them: without one there is an empty name, which no feature has, so that
-    /// they are known to be off.
-    pub(crate) fn features_on(&self, alloc: Global) -> Result<Vec<&str>, AllocError> {
-        let mut on = Vec::new(alloc);
-        on.push("")?;
-        for feature in &self.features {
-            on.push(feature.as_str())?;
-        }
-        Ok(on)
-    }
-}
-
-/// The packages of a run under one target.
-#[derive(Drop)]
-pub(crate) struct PackageSet {
-    /// Their crates, that of the package that is asked for first.
-    pub(crate) crates: Vec<PackageCrate>,
-    /// Lines for standard error.
-    pub(crate) notes: Vec<String>,
-}
 
 /// A dependency whose package was looked for.
 #[derive(Drop)]
@@ -550,8 +518,8 @@ pub(crate) fn packages_of(
         Some(folder) => Vendored::read_folder(rt, folder)?,
         None => Vendored::around(rt, path)?,
     };
-    let mut sets = Vec::with_capacity(rt.alloc(), options.targets.len())?;
-    for target in &options.targets {
+    let mut sets = Vec::with_capacity(rt.alloc(), options.report.targets.len())?;
+    for target in &options.report.targets {
         let cx = PackageContext {
             rt,
             target,
@@ -561,12 +529,4 @@ pub(crate) fn packages_of(
             .map_err(AllocError::from)?;
     }
     Ok(sets)
-}
-
-/// The crates of a run under the target with this index; none where no manifest was read.
-pub(crate) fn crates_under(sets: &[PackageSet], target: usize) -> &[PackageCrate] {
-    match sets.get(target) {
-        Some(set) => &set.crates,
-        None => &[],
-    }
 }

@@ -1,12 +1,11 @@
 //! A report as one page of HTML, which asks for nothing from elsewhere.
 
 use crate::escape::write_escaped;
-use crate::facts::{list_in, number_in, text_in};
-use crate::json::JsonLists;
 use crate::page_marks::{FIELDS_HEAD, FOOT, HEAD, LIST_FOOT, LIST_HEAD};
 use serde_json::Value;
 use std::alloc::{AllocError, Global};
 use std::collections::HashMap;
+use type_reports::{JsonLists, list_in, number_in, text_in};
 
 /// A page as far as it is written.
 #[derive(Drop)]

@@ -2,12 +2,13 @@
 //! for each, that is called as the package is, with the version behind a `-` or without.
 
 use crate::cargo::{CargoFailure, manifest_in, read_manifest, unreadable};
-use crate::crate_files::{folder_of, is_there};
+use crate::disk_files::is_there;
 use cargo_manifest::greatest_match;
 use semver::{Version, VersionReq};
 use std::alloc::{AllocError, Global};
 use std::io::ErrorKind;
 use std::{fs, io};
+use type_reports::folder_of;
 
 /// The version of a package that says none (The Cargo Book, "The `version` field").
 const NO_VERSION: &str = "0.0.0";

@@ -32,7 +32,7 @@ pub(crate) fn write_wide(out: &mut Vec<u64>, number: u128) -> Result<(), AllocEr
 }
 
 /// Adds a primitive.
-fn write_primitive(out: &mut Vec<u64>, value: Primitive) -> Result<(), AllocError>
+pub(crate) fn write_primitive(out: &mut Vec<u64>, value: Primitive) -> Result<(), AllocError>
     ensures { OnOk result (out.new.items ≡ out.old.items ++ flat_primitive value) }
 {
     match value {

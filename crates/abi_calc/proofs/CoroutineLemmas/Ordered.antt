@@ -1,18 +1,16 @@
 -- The fields of a coroutine and of its states follow one another in memory, and never back.
-use Rattle.std.proofs.Common.{◌≡◌, ◌≢◌, ℕ, ◌+◌, ◌-◌, ◌==◌, ◌<◌, ◌≤◌, ◌∙◌, Bool, true, false, cond, List, [], ◌∷◌, ◌++◌, ap, ap₂, arith, drop, get_or, inl, inr, length, map, refl, subst, suc, sym, zero}
+use Rattle.std.proofs.Common.{◌≡◌, ◌≢◌, ℕ, ◌+◌, ◌-◌, ◌==◌, ◌<◌, ◌≤◌, ◌∙◌, Bool, true, false, cond, List, [], ◌∷◌, ap, ap₂, arith, drop, get_or, inl, inr, length, map, refl, subst, suc, sym, zero}
 use Rattle.std.specs.Prelude.{All, Err, IfOk, IsPermutation, None, Ok, Result, filter, flat_map, if◌then◌else◌, nat_lt, not, slice_get, slice_index, Some, sum_by, take, unwrap_or}
-use Rattle.std.specs.List.{AllPairs, list_any, range_with_len}
+use Rattle.std.specs.List.{AllPairs, range_with_len}
 use Rattle.std.specs.Option.{option_map}
-use Rattle.std.proofs.Math.Dec.{eqb}
 use Rattle.std.proofs.lemmas.Bool.{cases_order, eq-eqb, eqb-true, le-ltb, lt-ltb, ltb-false, ltb-true, ne_eqb}
 use Rattle.std.proofs.lemmas.Bool.Decides.{Decides-eqb}
 use Rattle.std.proofs.lemmas.List.{get_or-map, get_or-take, length-append, length-map, length-take-le}
 use Rattle.std.proofs.lemmas.List.Concat.{flat_map-cons, length-flat_map}
 use Rattle.std.proofs.lemmas.List.Elements.{All-append, All-cons, All-filter, All-head, All-map, All-nil, All-tail, filter_passes}
 use Rattle.std.proofs.lemmas.List.Filters.{length-filter_both}
-use Rattle.std.proofs.lemmas.List.Folds.{Any-from_list_any}
 use Rattle.std.proofs.lemmas.List.FromFn.{fill_by_all}
-use Rattle.std.proofs.lemmas.List.Kept.{AllPairs-cons, AllPairs-filter}
+use Rattle.std.proofs.lemmas.List.Kept.{AllPairs-filter}
 use Rattle.std.proofs.lemmas.List.Sorted.{IsPermutation-refl, sum_by-IsPermutation}
 use Rattle.std.proofs.lemmas.List.Sums.{sum_by-append, sum_by-cons}
 use Rattle.std.proofs.lemmas.Map.Made.{IsDistinct-from_AllPairs}
@@ -46,7 +44,7 @@ use Rattle.abi_calc.proofs.CoroutineLemmas.Promised.{first_count, own_list_count
 use Rattle.abi_calc.proofs.CoroutineLemmas.Layout.{ranks_count, ranks_within}
 use Rattle.abi_calc.proofs.CoroutineLemmas.Places.{item_left, own_offset, promoted_offset}
 use Rattle.abi_calc.proofs.CoroutineLemmas.Promotion.{promoted_count}
-use Rattle.abi_calc.proofs.CoroutineLemmas.States.{count_own_places, kept_map, member_rank, members_few, range_split}
+use Rattle.abi_calc.proofs.CoroutineLemmas.States.{count_own_places, found_below, kept_map, member_rank, members_few, pairs_append, range_split}
 use Rattle.abi_calc.proofs.EnumLemmas.Ordered.{IsOrderedList, list_ordered}
 use Rattle.abi_calc.proofs.EnumLemmas.Places.{named_back}
 
@@ -180,13 +178,6 @@ below_order : (n : ℕ) → All (λ k. k < n) (source_order n)
 below_order n = within_order n (source_order n) (IsPermutation-refl (source_order n))
 
 -- ---- pairs
-
-pairs_append : {A : Type 0} (R : A → A → Type 0) (xs ys : List A) → AllPairs R xs → AllPairs R ys → All (λ x. All (R x) ys) xs → AllPairs R (xs ++ ys)
-pairs_append R [] ys hx hy cross = hy
-pairs_append R (x ∷ xs) ys hx hy cross =
-    AllPairs-cons R x (xs ++ ys)
-    (All-append (R x) xs ys (λ k d short. hx 0 (suc k) d (omega arith) (omega (arith, short))) (All-head (λ z. All (R z) ys) x xs cross))
-    (pairs_append R xs ys (λ i j d low short. hx (suc i) (suc j) d (omega (arith, low)) (omega (arith, short))) hy (All-tail (λ z. All (R z) ys) x xs cross))
 
 flat_all : (P : ℕ → Type 0) (f : ℕ → List ℕ) (rs : List ℕ) → All (λ r. All P (f r)) rs → All P (flat_map f rs)
 flat_all P f [] h = All-nil P
@@ -433,15 +424,6 @@ apart_below whole [] [] h = All-nil (λ o. o ≤ whole)
 apart_below whole [] (m ∷ sizes) h = absurd h
 apart_below whole (o ∷ offsets) [] h = absurd h
 apart_below whole (o ∷ offsets) (m ∷ sizes) h = All-cons (λ p. p ≤ whole) o offsets (omega (arith, h.0)) (apart_below whole offsets sizes h.2)
-
--- a number that a list has is below what all are
-found_below : (xs : List ℕ) (n q : ℕ) → All (λ x. x < n) xs → list_any (eqb q) xs ≡ true → q < n
-found_below xs n q all found =
-    let some = Any-from_list_any (eqb q) xs found in
-    let e : q ≡ some.1 = eqb-true q some.1 some.4 in
-    let same = some.3 in
-    let low = all some.0 some.1 some.2 in
-    omega (arith, e, same, low)
 
 -- a state has no more locals than there are
 state_few : (state : List ℕ) (n : ℕ) → AllPairs (λ a b. a ≢ b) state → All (λ l. l < n) state → length state ≤ n

@@ -222,7 +222,7 @@ count_own_places promoted state =
     sym (kept_map (λ l. not (is_member promoted l)) (slice_index state) (source_order (length state))) ∙ ap (λ s. length (own_of promoted s)) (sym same)
 
 -- distinct lists that share nothing are distinct together
-pairs_append : {A : Type 0} (R : A → A → Type 0) (xs ys : List A) → AllPairs R xs → AllPairs R ys → All (λ x. All (R x) ys) xs → AllPairs R (xs ++ ys)
+pub pairs_append : {A : Type 0} (R : A → A → Type 0) (xs ys : List A) → AllPairs R xs → AllPairs R ys → All (λ x. All (R x) ys) xs → AllPairs R (xs ++ ys)
 pairs_append R [] ys hx hy cross = hy
 pairs_append R (x ∷ xs) ys hx hy cross =
     AllPairs-cons R x (xs ++ ys)
@@ -230,7 +230,7 @@ pairs_append R (x ∷ xs) ys hx hy cross =
     (pairs_append R xs ys (λ i j d low short. hx (suc i) (suc j) d (omega (arith, low)) (omega (arith, short))) hy (All-tail (λ z. All (R z) ys) x xs cross))
 
 -- a number that a list has is below what all are
-found_below : (xs : List ℕ) (n q : ℕ) → All (λ x. x < n) xs → list_any (eqb q) xs ≡ true → q < n
+pub found_below : (xs : List ℕ) (n q : ℕ) → All (λ x. x < n) xs → list_any (eqb q) xs ≡ true → q < n
 found_below xs n q all found =
     let some = Any-from_list_any (eqb q) xs found in
     let e : q ≡ some.1 = eqb-true q some.1 some.4 in

@@ -1,5 +1,5 @@
 -- Where the fields of an enum's variants lie beside a niche that distinguishes them, and which numbers name them.
-use Rattle.std.proofs.Common.{◌≡◌, ℕ, zero, suc, ◌+◌, ◌-◌, ◌*◌, ◌==◌, ◌&&◌, not, ◌<◌, ◌≤◌, ◌∙◌, Bool, true, false, List, [], ◌∷◌, Option, None, Some, ap, ap₂, arith, cond, get_or, inl, inr, length, map, refl, subst, sym}
+use Rattle.std.proofs.Common.{◌≡◌, ℕ, zero, suc, ◌+◌, ◌-◌, ◌*◌, ◌==◌, ◌&&◌, not, ◌<◌, ◌≤◌, ◌∙◌, Bool, true, false, List, [], ◌∷◌, None, Some, ap, ap₂, arith, cond, get_or, inl, inr, length, map, refl, subst, sym}
 use Rattle.std.specs.Prelude.{◌⊎◌, All, Contains, MatchBool, filter, if◌then◌else◌, nat_le, slice_get}
 use Rattle.std.specs.List.{AllPairs}
 use Rattle.std.proofs.lemmas.Bool.{eq-eqb, leb-true}
@@ -31,11 +31,11 @@ use Rattle.abi_univariant.proofs.Offsets.Rounding.{rounded_to}
 use Rattle.abi_calc.specs.declared.enums.niche.Room.{Room}
 use Rattle.abi_calc.specs.Enums.Beside.{AreApartBeside, AreNumbersInNiche, HasTagAt, IsToldByNiche}
 use Rattle.abi_calc.specs.Enums.Lists.{AreGoodLists, IsGoodList}
-use Rattle.abi_calc.specs.Enums.Niche.{beside_niche, last_or, layout_in_niche, moved_on, needing_numbers, niche_of_list, place_after, room_beside, span_count, span_of, untagged_of, variants_from, with_first, without_niche}
+use Rattle.abi_calc.specs.Enums.Niche.{beside_niche, last_or, layout_in_niche, moved_on, needing_numbers, niche_of_list, place_after, room_beside, span_count, span_of, untagged_of, variants_from, without_niche}
 use Rattle.abi_calc.specs.Enums.EnumStrategy.{is_absent, variant_at}
 use Rattle.abi_calc.specs.Enums.Tagged.{lists_size}
 use Rattle.abi_calc.proofs.EnumLemmas.InNiche.{handed_from, holds_there, needing_ascends, needing_within, niche_known, of_some, span_holds}
-use Rattle.abi_calc.proofs.EnumLemmas.NicheLawful.{size_at_most, tag_size}
+use Rattle.abi_calc.proofs.EnumLemmas.NicheLawful.{first_parts, never_empty, size_at_most, tag_size}
 use Rattle.abi_calc.proofs.EnumLemmas.Places.{greatest_within, sizes_as, wider}
 
 -- ---- parts that share no byte, in a larger whole beside a niche
@@ -107,18 +107,6 @@ variant_apart true room width list sizes variant ends fits less apart e =
 variant_apart false room width list sizes variant ends fits less apart e = beside_apart room width list sizes variant ends fits less apart e
 
 -- ---- all variants
-
--- a first item and the others, where there are some
-first_parts : {A : Type 0} (o : Option A) (more : Option (List A)) (x : A) (xs : List A) → with_first o more ≡ Some (x ∷ xs) → (o ≡ Some x) × (more ≡ Some xs)
-first_parts None more x xs e = absurd (cc)
-first_parts (Some y) None x xs e = absurd (cc)
-first_parts (Some y) (Some ys) x xs e = let same : y ∷ ys ≡ x ∷ xs = cc in (cc, cc)
-
--- with a first item there are some
-never_empty : {A : Type 0} (o : Option A) (more : Option (List A)) → with_first o more ≡ Some [] → ⊥
-never_empty None more e = absurd (cc)
-never_empty (Some y) None e = absurd (cc)
-never_empty (Some y) (Some ys) e = absurd (cc)
 
 -- a list that is placed has a variant
 placed_there : {F V : Type 0} (room : Room) (untagged from i : ℕ) (lists : List (LayoutData F V)) (placed : List (VariantLayout F)) (list : LayoutData F V) → variants_from room untagged from lists ≡ Some placed

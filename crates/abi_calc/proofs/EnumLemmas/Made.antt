@@ -38,7 +38,7 @@ use Rattle.abi_calc.specs.Enums.Discriminants.{counted_discriminants}
 use Rattle.abi_calc.specs.Enums.Growth.{grown_tag, grown_variant, moved_offset, start_align}
 use Rattle.abi_calc.specs.Enums.Lists.{AreGoodLists, AreListLayouts, behind_tag}
 use Rattle.abi_calc.specs.Enums.Made.{AreBehindTag, AreBesideNiche, HaveViewBehindTag, AreVariantsAligned, HasLeastTag, IsBehindTag, IsBesideNiche, IsMadeOfLists, IsMovedBy, IsSeenBehindTag, takes_view}
-use Rattle.abi_calc.specs.Enums.Niche.{beside_niche, moved_on, niche_layout, niche_view, place_after, room_beside, span_count, untagged_of, variants_from, with_first, without_niche}
+use Rattle.abi_calc.specs.Enums.Niche.{beside_niche, moved_on, niche_layout, niche_view, place_after, room_beside, span_count, untagged_of, variants_from, without_niche}
 use Rattle.abi_calc.specs.Enums.EnumStrategy.{has_no_value}
 use Rattle.abi_calc.specs.Enums.Payload.{is_memory, is_of_scalars, variant_with_view, tagged_view}
 use Rattle.abi_calc.specs.Enums.Promised.{IsGoodEnum}
@@ -47,7 +47,7 @@ use Rattle.abi_calc.specs.Enums.Tagged.{IsTaggedBy, lists_align, lists_size, pay
 use Rattle.abi_calc.specs.Ordered.{IsOrderedWhole, IsTagField}
 use Rattle.abi_calc.proofs.EnumLemmas.Deep.{niche_is_sized, no_values, tagged_is_sized}
 use Rattle.abi_calc.proofs.EnumLemmas.Growth.{grown_size}
-use Rattle.abi_calc.proofs.EnumLemmas.NicheLawful.{niche_parts}
+use Rattle.abi_calc.proofs.EnumLemmas.NicheLawful.{first_parts, never_empty, niche_parts}
 use Rattle.abi_calc.proofs.EnumLemmas.Ordered.{AreLeft, IsLeft, behind_aligned, behind_ordered, beside_aligned, beside_ordered, left_clear, one_field, size_divides}
 use Rattle.abi_calc.proofs.EnumLemmas.Places.{behind, clear_grown}
 use Rattle.abi_calc.proofs.EnumLemmas.Several.{by_both}
@@ -163,17 +163,6 @@ module _ {F V : Type 0} (old new : ℕ) (le : old ≤ new) (view : BackendRepr) 
   all_behind (l ∷ ls) = (one_behind l, all_behind ls)
 
 -- ---- variants beside a niche
-
--- of what begins with an item, the item and the rest are there
-first_parts : {A : Type 0} (o : Option A) (more : Option (List A)) (x : A) (xs : List A) → with_first o more ≡ Some (x ∷ xs) → (o ≡ Some x) × (more ≡ Some xs)
-first_parts None more x xs e = absurd (cc)
-first_parts (Some y) None x xs e = absurd (cc)
-first_parts (Some y) (Some ys) x xs e = let same : y ∷ ys ≡ x ∷ xs = cc in (cc, cc)
-
-never_empty : {A : Type 0} (o : Option A) (more : Option (List A)) → with_first o more ≡ Some [] → ⊥
-never_empty None more e = absurd (cc)
-never_empty (Some y) None e = absurd (cc)
-never_empty (Some y) (Some ys) e = absurd (cc)
 
 from_start : (os : List ℕ) → os ≡ map (λ o. 0 + o) os
 from_start [] = refl

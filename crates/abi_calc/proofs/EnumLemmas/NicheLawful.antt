@@ -20,14 +20,14 @@ use Rattle.abi_scalar.specs.Niche.{available_in, niche_at, niche_size}
 use Rattle.abi_scalar.specs.Range.{free_count}
 use Rattle.abi_scalar.specs.Reserve.{reserved}
 use Rattle.abi_scalar.specs.Scalar.{IsLawfulScalar, primitive_of, scalar_size}
-use Rattle.abi_scalar.proofs.RangeLemmas.{free_after}
 use Rattle.abi_scalar.proofs.ReserveLemmas.{reserved_hands_out}
+use Rattle.abi_scalar.proofs.PairLemmas.{niche_inside}
 use Rattle.abi_univariant.specs.Fields.{greatest_size}
 use Rattle.abi_univariant.proofs.Views.LawfulList.{by_test}
 use Rattle.abi_univariant.proofs.Views.NicheLemmas.{readable_size}
 use Rattle.abi_univariant.proofs.Offsets.Rounding.{rounded_to}
 use Rattle.abi_calc.specs.Enums.Beside.{HasTagAt}
-use Rattle.abi_calc.specs.Enums.Niche.{if_list, if_niche, if_placed, if_span, layout_in_niche, needing_numbers, niche_layout, niche_view, others_empty, room_beside, span_count, span_of, untagged_of, variants_from, view_with}
+use Rattle.abi_calc.specs.Enums.Niche.{if_list, if_niche, if_placed, if_span, layout_in_niche, needing_numbers, niche_layout, niche_view, others_empty, room_beside, span_count, span_of, untagged_of, variants_from, view_with, with_first}
 use Rattle.abi_calc.specs.Enums.Tagged.{lists_align, lists_size}
 use Rattle.abi_calc.proofs.EnumLemmas.InNiche.{handed_from, handed_lawful, holds_there, of_some}
 use Rattle.abi_calc.proofs.EnumLemmas.Places.{greatest_within}
@@ -111,18 +111,6 @@ tag_in_niche dl size niche count own some room =
 some_unless : (b : Bool) {A : Type 0} (niche : A) (P : A → Type 0) → (b ≡ false → P niche) → IfSome (if b then None else Some niche) P
 some_unless true niche P h = tt
 some_unless false niche P h = h refl
-
--- a lawful scalar's niche, wherever it lies inside
-pub niche_at_lawful : (dl : TargetDataLayout) (offset size : ℕ) (tag : Scalar) → IsLawfulScalar dl tag → offset + scalar_size dl tag ≤ size → IfSome (niche_at dl offset tag) (IsLawfulNiche dl size)
-niche_at_lawful dl offset size (Initialized value range) h fits =
-    some_unless (free_count (primitive_size dl value) range == 0) (record { offset = offset; value = value; valid_range = range })
-    (IsLawfulNiche dl size) (λ there. record {
-      inside = fits;
-      pointer = h.pointer;
-      within = h.within;
-      free = free_after (primitive_size dl value) range h.within (λ none. cc (eq-eqb _ 0 none));
-    })
-niche_at_lawful dl offset size (Union value) h fits = tt
 
 -- it lies there, and is the scalar
 niche_at_is : (dl : TargetDataLayout) (offset : ℕ) (tag : Scalar) → IfSome (niche_at dl offset tag) (λ n. (n.offset ≡ offset) × (tag ≡ Initialized n.value n.valid_range))
@@ -251,7 +239,7 @@ module _ {F V : Type 0} (first : F) (index : ℕ → V) (dl : TargetDataLayout) 
   niche_of_niche all l e =
       let p = niche_parts first index dl repr variants lists l e in
       subst (λ m. IfSome m.largest_niche (IsLawfulNiche dl m.size)) (sym p.is)
-      (niche_at_lawful dl p.niche.offset (lists_size dl lists) (reserved dl p.niche (span_count p.span)).1 (own_tag all l p) (tag_inside all l p))
+      (niche_inside dl p.niche.offset (lists_size dl lists) (reserved dl p.niche (span_count p.span)).1 (own_tag all l p) (tag_inside all l p))
 
   -- the layout is lawful where its size is below the bound
   pub niche_lawful : IsLawfulDataLayout dl → All (IsLawfulLayout dl) lists → (l : LayoutData F V) → niche_layout first index dl repr variants lists ≡ Some l → l.size < size_bound dl → IsLawfulLayout dl l
@@ -264,8 +252,22 @@ module _ {F V : Type 0} (first : F) (index : ℕ → V) (dl : TargetDataLayout) 
         multiple = (rounded_to (greatest_size lists) (lists_align dl lists)).multiple;
         bound = omega (arith, small, size);
         limit = align_of_lists_small dl lists law all;
-        niche = niche_at_lawful dl p.niche.offset (lists_size dl lists) tag (own_tag all l p) (tag_inside all l p);
+        niche = niche_inside dl p.niche.offset (lists_size dl lists) tag (own_tag all l p) (tag_inside all l p);
         view = view.0;
         niche_of_view = niche_of_tag_at dl p.niche.offset tag (niche_view (lists_size dl lists) (lists_align dl lists) (untagged_of lists) p.list p.niche.offset tag p.placed) view.1;
         tag = own_tag all l p;
       })
+
+-- ---- lists that begin with an item
+
+-- a first item and the others, where there are some
+pub first_parts : {A : Type 0} (o : Option A) (more : Option (List A)) (x : A) (xs : List A) → with_first o more ≡ Some (x ∷ xs) → (o ≡ Some x) × (more ≡ Some xs)
+first_parts None more x xs e = absurd (cc)
+first_parts (Some y) None x xs e = absurd (cc)
+first_parts (Some y) (Some ys) x xs e = let same : y ∷ ys ≡ x ∷ xs = cc in (cc, cc)
+
+-- with a first item there are some
+pub never_empty : {A : Type 0} (o : Option A) (more : Option (List A)) → with_first o more ≡ Some [] → ⊥
+never_empty None more e = absurd (cc)
+never_empty (Some y) None e = absurd (cc)
+never_empty (Some y) (Some ys) e = absurd (cc)

@@ -1,9 +1,9 @@
 -- Numbers read from bytes, and the bytes of numbers.
 use Rattle.std.proofs.Common.{◌≡◌, ℕ, zero, suc, ◌+◌, ◌-◌, ◌*◌, ◌/◌, ◌%◌, ◌^◌, ◌<◌, ◌≤◌, List, [], ◌∷◌, length, get_or, reverse, arith, sym, ap, ◌∙◌, subst}
-use Rattle.std.proofs.Math.Nat.{div-div-eq-div-mul, pow-le-pow_right}
+use Rattle.std.proofs.Math.Nat.{div-div-eq-div-mul, mod-mod, mul-add-mod_self_right, pow-le-pow_right}
 use Rattle.std.proofs.lemmas.List.{get_or-reverse, length-reverse}
 use Rattle.std.proofs.lemmas.List.Elements.{All-head, All-tail}
-use Rattle.std.proofs.lemmas.Nat.{pow-add}
+use Rattle.std.proofs.lemmas.Nat.{mod-pow-add, pow-add}
 use Rattle.abi_base.specs.declared.endian.Endian.TheVariants.{Big}
 use Rattle.abi_scalar.specs.Range.{numbers_of}
 use Rattle.abi_tree.specs.Bytes.{AreBytes, little, number_of}
@@ -47,3 +47,15 @@ big-byte b i all lt =
     let back : length b - 1 - (length b - 1 - i) ≡ i = omega arith in
     little-byte (reverse b) (length b - 1 - i) (AreBytes-reverse b all) (omega (arith, length-reverse b))
     ∙ get_or-reverse b (length b - 1 - i) 0 (omega arith) ∙ ap (λ j. get_or b j 0) back
+
+-- a number of 128 bits cut to a width is the number itself cut to it
+pub cut_twice : (n width : ℕ) → width ≤ 16 → n % 2 ^ 128 % 2 ^ (width * 8) ≡ n % numbers_of width
+cut_twice n width most =
+    let bits : 128 ≡ (128 - 8 * width) + 8 * width = omega arith in
+    let turned : width * 8 ≡ 8 * width = omega arith in
+    ap (λ k. n % 2 ^ 128 % 2 ^ k) turned ∙ ap (λ k. n % 2 ^ k % 2 ^ (8 * width)) bits
+    ∙ ap (λ m. m % 2 ^ (8 * width)) (mod-pow-add n (128 - 8 * width) (8 * width))
+    ∙ mul-add-mod_self_right _ (2 ^ (8 * width)) (n % 2 ^ (8 * width)) ∙ mod-mod n (2 ^ (8 * width))
+
+pub cut_width : (n width : ℕ) → n % 2 ^ (width * 8) ≡ n % numbers_of width
+cut_width n width = let turned : width * 8 ≡ 8 * width = omega arith in ap (λ k. n % 2 ^ k) turned

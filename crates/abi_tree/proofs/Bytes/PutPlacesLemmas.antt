@@ -184,6 +184,10 @@ module _ (runs : List (ℕ × ℕ)) (i from : ℕ) (d : ℕ × ℕ) (left : AreL
   pub left-covered : (k : ℕ) → run.0 ≤ k → k < run.0 + run.1 → is_in_ranges runs k ≡ true
   left-covered k le below = seen k (omega (arith, left-before)) ∙ in_first run.0 run.1 (drop (i + 1) runs) k le below
 
+  -- which lie in a whole that it ends in
+  pub left-inside : (size k : ℕ) → run.0 + run.1 ≤ size → run.0 ≤ k → k < run.0 + run.1 → (is_in_ranges runs k ≡ true) × (k < size)
+  left-inside size k ends le below = (left-covered k le below, omega arith)
+
   -- behind it the later ones are left
   pub AreLeft-more : AreLeft runs (i + 1) (run.0 + run.1)
   AreLeft-more = record {

@@ -9,7 +9,7 @@ use Rattle.abi_scalar.specs.declared.variants.TagEncoding.{TagEncoding}
 use Rattle.abi_scalar.specs.declared.variants.TagEncoding.TheVariants.{Direct, Niche}
 use Rattle.abi_tree.specs.Bytes.{AreBytes, bytes_at, number_of}
 use Rattle.abi_tree.specs.Value.{Value, number, two, list, variant, state, bytes, Values, no_values, more_values}
-use Rattle.abi_tree.specs.Placed.{Placed, scalar, pair, never, elements, vector, fields, union, single, tagged, states, Parts, no_parts, part, TaggedVariants, nothing_tagged, tagged_variant, size_of}
+use Rattle.abi_tree.specs.Placed.{Placed, scalar, pair, elements, vector, fields, union, single, tagged, states, Parts, no_parts, part, TaggedVariants, nothing_tagged, tagged_variant, size_of}
 use Rattle.abi_tree.specs.Places.{is_data_place}
 use Rattle.abi_tree.specs.Tag.{Names, NamesDirectly}
 use Rattle.abi_tree.specs.Holding.{IsAt, HoldEach, Holds, HoldParts, HoldTaggedVariant, tag_at}
@@ -121,16 +121,7 @@ module _ (order : Endian) where
         agree_or (are_covered prefix ps) (λ k. is_byte_at offset (size_of tag) k || is_tagged_variant_covered tagged_variants i vs k) b w (agree_parts prefix ps b w bb bw h.1 g.1)
         (agree_or (is_byte_at offset (size_of tag)) (is_tagged_variant_covered tagged_variants i vs) b w
         (agree_tag offset (size_of tag) b w bb bw h.2 g.2 (one_direct (size_of tag) tagged_variants _ _ i h.3 g.3)) (agree_tagged_variant tagged_variants i vs b w bb bw h.4 g.4))
-    agree (scalar layout s) _ b w bb bw h g = absurd h
-    agree (pair layout parts) _ b w bb bw h g = absurd h
-    agree (never layout mark) _ b w bb bw h g = absurd h
-    agree (elements layout count element) _ b w bb bw h g = absurd h
-    agree (vector layout lanes) _ b w bb bw h g = absurd h
-    agree (fields layout mark parts) _ b w bb bw h g = absurd h
-    agree (union layout mark parts) _ b w bb bw h g = absurd h
-    agree (single layout mark index parts) _ b w bb bw h g = absurd h
-    agree (tagged layout mark offset tag encoding tagged_variants) _ b w bb bw h g = absurd h
-    agree (states layout prefix offset tag tagged_variants) _ b w bb bw h g = absurd h
+    agree _ _ b w bb bw h g = absurd h
 
     -- so it is with parts
     agree_parts : (parts : Parts) (vs : Values) → AgreeIn (are_covered parts vs) (λ b. HoldParts order parts b vs)

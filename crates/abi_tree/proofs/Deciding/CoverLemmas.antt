@@ -9,9 +9,9 @@ use Rattle.abi_scalar.specs.declared.scalar.Scalar.{Scalar}
 use Rattle.abi_scalar.specs.declared.variants.TagEncoding.{TagEncoding}
 use Rattle.abi_scalar.specs.declared.variants.TagEncoding.TheVariants.{Direct}
 use Rattle.abi_index.specs.RangeSet.{is_in_ranges, is_in_run}
-use Rattle.abi_tree.specs.Value.{Value, number, two, list, variant, state, bytes, Values, no_values, more_values}
+use Rattle.abi_tree.specs.Value.{Value, number, two, Values, no_values, more_values}
 use Rattle.abi_tree.specs.Bytes.{AreBytes, bytes_at, picked_bytes, count_picked}
-use Rattle.abi_tree.specs.Placed.{Placed, scalar, pair, never, elements, vector, fields, union, single, tagged, states, Parts, no_parts, part, TaggedVariants, size_of, nothing}
+use Rattle.abi_tree.specs.Placed.{Placed, scalar, pair, fields, states, Parts, no_parts, part, TaggedVariants, size_of, nothing}
 use Rattle.abi_scalar.specs.Layout.{Layout}
 use Rattle.abi_tree.specs.Places.{is_data_place, is_place_of_part}
 use Rattle.abi_tree.specs.Nodes.{tagged_variants_in, own_fields, parts_at, placed_in}
@@ -45,29 +45,12 @@ some_two : (vs : Values) → (n m : ℕ) × (two_of vs ≡ two n m)
 some_two no_values = (0, 0, refl)
 some_two (more_values (number n) no_values) = (0, 0, refl)
 some_two (more_values (number n) (more_values (number m) vs)) = (n, m, refl)
-some_two (more_values (number n) (more_values (two a b) vs)) = (0, 0, refl)
-some_two (more_values (number n) (more_values (list ws) vs)) = (0, 0, refl)
-some_two (more_values (number n) (more_values (variant i ws) vs)) = (0, 0, refl)
-some_two (more_values (number n) (more_values (state i ps ws) vs)) = (0, 0, refl)
-some_two (more_values (number n) (more_values (bytes content) vs)) = (0, 0, refl)
-some_two (more_values (two a b) vs) = (0, 0, refl)
-some_two (more_values (list ws) vs) = (0, 0, refl)
-some_two (more_values (variant i ws) vs) = (0, 0, refl)
-some_two (more_values (state i ps ws) vs) = (0, 0, refl)
-some_two (more_values (bytes content) vs) = (0, 0, refl)
+some_two _ = (0, 0, refl)
 
 -- what holds a number is a scalar
 holds_number : (order : Endian) (p : Placed) (b : List ℕ) (n : ℕ) → Holds order p b (number n) → (layout : Layout) × (s : Scalar) × (p ≡ scalar layout s)
 holds_number order (scalar layout s) b n h = (layout, s, refl)
-holds_number order (pair layout parts) b n h = absurd h
-holds_number order (never layout mark) b n h = absurd h
-holds_number order (elements layout count element) b n h = absurd h
-holds_number order (vector layout lanes) b n h = absurd h
-holds_number order (fields layout mark parts) b n h = absurd h
-holds_number order (union layout mark parts) b n h = absurd h
-holds_number order (single layout mark index parts) b n h = absurd h
-holds_number order (tagged layout mark offset tag encoding tagged_variants) b n h = absurd h
-holds_number order (states layout prefix offset tag tagged_variants) b n h = absurd h
+holds_number order _ b n h = absurd h
 
 module _ (order : Endian) (layout : Layout) (place : Option ℕ) (at : ℕ) (b old new : List ℕ) where
   abbrev PairPut : Parts → Type 0
@@ -231,15 +214,6 @@ own_like n parts vs room k =
 pub variant_put : (order : Endian) (p : Placed) (place : Option ℕ) (at : ℕ) (old new : List ℕ) → has_list p ≡ true → has_room p ≡ true → PutsCovering order at old new place p →
     (b : List ℕ) → AreBytes b → size_of p ≤ length b → HoldParts order (own_fields p) b (covering_values (own_fields p) place) →
     IsPutOver (are_covered (own_fields p) (covering_values (own_fields p) place)) at b old new
-variant_put order (scalar layout s) place at old new listed room put b all le held = absurd (cc)
-variant_put order (pair layout parts) place at old new listed room put b all le held = absurd (cc)
-variant_put order (never layout mark) place at old new listed room put b all le held = absurd (cc)
-variant_put order (elements layout count element) place at old new listed room put b all le held = absurd (cc)
-variant_put order (vector layout lanes) place at old new listed room put b all le held = absurd (cc)
-variant_put order (union layout mark parts) place at old new listed room put b all le held = absurd (cc)
-variant_put order (single layout mark index parts) place at old new listed room put b all le held = absurd (cc)
-variant_put order (tagged layout mark offset tag encoding tagged_variants) place at old new listed room put b all le held = absurd (cc)
-variant_put order (states layout prefix offset tag tagged_variants) place at old new listed room put b all le held = absurd (cc)
 variant_put order (fields layout mark parts) place at old new listed room put b all le held =
     let n : ℕ = layout.size in
     let vs : Values = covering_values parts place in
@@ -248,6 +222,7 @@ variant_put order (fields layout mark parts) place at old new listed room put b 
     let own = put (bytes_at b 0 n) (AreBytes-bytes_at b 0 n all) (long, own_bytes order parts n b vs le room held) in
     put_like (λ k. is_byte_at 0 n k && are_covered parts vs (k - 0)) (are_covered parts vs) at b old new (own_like n parts vs room)
     (put_part (are_covered parts vs) at 0 n b old new (omega (arith, le)) (subst (λ a. IsPutOver (are_covered parts vs) a (bytes_at b 0 n) old new) start own))
+variant_put order _ place at old new listed room put b all le held = absurd (cc)
 
 -- the tagged variant with an index has the values of its variant's fields
 pub tagged_variant_values_own : (done : List Placed) (vs : List (ℕ × ℕ)) (i : ℕ) (d : ℕ × ℕ) (place : Option ℕ) → i < length vs →

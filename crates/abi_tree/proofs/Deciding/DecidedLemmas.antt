@@ -9,7 +9,7 @@ use Rattle.abi_scalar.specs.declared.variants.TagEncoding.{TagEncoding}
 use Rattle.abi_scalar.specs.declared.variants.TagEncoding.TheVariants.{Direct, Niche}
 use Rattle.abi_tree.specs.Bytes.{bytes_at, number_of}
 use Rattle.abi_tree.specs.Value.{Value, number, two, list, variant, state, bytes, Values, no_values, more_values}
-use Rattle.abi_tree.specs.Placed.{Placed, scalar, pair, never, elements, vector, fields, union, single, tagged, states, Parts, no_parts, part, TaggedVariants, nothing_tagged, tagged_variant, size_of}
+use Rattle.abi_tree.specs.Placed.{Placed, scalar, pair, elements, vector, fields, union, single, tagged, states, Parts, no_parts, part, TaggedVariants, nothing_tagged, tagged_variant, size_of}
 use Rattle.abi_tree.specs.Places.{is_data_place}
 use Rattle.abi_tree.specs.Tag.{Names, NamesDirectly, NamesByNiche}
 use Rattle.abi_tree.specs.Holding.{IsAt, HoldEach, Holds, HoldParts, HoldTaggedVariant, tag_at}
@@ -117,16 +117,7 @@ module _ (order : Endian) where
           subst (λ x. NamesDirectly n tagged_variants (number_of order x) i) number_same h.3,
           decides_tagged_variant tagged_variants named.1 i vs b w long h.4 (λ k place. same k (or_right (are_covered prefix ps k) _ (or_right (is_byte_at offset n k) _ place))),
         )
-    decides (scalar layout s) named _ b w long h same = absurd h
-    decides (pair layout parts) named _ b w long h same = absurd h
-    decides (never layout mark) named _ b w long h same = absurd h
-    decides (elements layout count element) named _ b w long h same = absurd h
-    decides (vector layout lanes) named _ b w long h same = absurd h
-    decides (fields layout mark parts) named _ b w long h same = absurd h
-    decides (union layout mark parts) named _ b w long h same = absurd h
-    decides (single layout mark index parts) named _ b w long h same = absurd h
-    decides (tagged layout mark offset tag encoding tagged_variants) named _ b w long h same = absurd h
-    decides (states layout prefix offset tag tagged_variants) named _ b w long h same = absurd h
+    decides _ named _ b w long h same = absurd h
 
     -- so it is with parts
     decides_parts : (parts : Parts) → UntaggedNamedOf order parts → (vs : Values) (b w : List ℕ) → length w ≡ length b → HoldParts order parts b vs →

@@ -1,9 +1,7 @@
 -- Which variant, or state, a tag's number names: what says it.
-use Rattle.std.proofs.Common.{◌≡◌, ◌≢◌, ℕ, zero, suc, ◌+◌, ◌-◌, ◌*◌, ◌^◌, ◌%◌, ◌<◌, ◌≤◌, List, [], ◌∷◌, length, get_or, drop, min, true, false, arith, ⊎_elim, refl, sym, ap, ◌∙◌, subst}
+use Rattle.std.proofs.Common.{◌≡◌, ◌≢◌, ℕ, zero, suc, ◌+◌, ◌%◌, ◌<◌, ◌≤◌, List, [], ◌∷◌, length, get_or, drop, min, true, false, arith, ⊎_elim, refl, sym, ap, ◌∙◌, subst}
 use Rattle.std.specs.Prelude.{◌||◌, ◌==◌, not, Bool, MatchBool}
 use Rattle.std.proofs.lemmas.Bool.{cases_lt, eqb-true, eqb-false, false≢true, ne_eqb}
-use Rattle.std.proofs.Math.Nat.{mod-mod, mul-add-mod_self_right}
-use Rattle.std.proofs.lemmas.Nat.{mod-pow-add}
 use Rattle.std.proofs.lemmas.List.{get_or-map, length-map}
 use Rattle.abi_scalar.specs.Range.{numbers_of}
 use Rattle.abi_tree.specs.Placed.{Placed, layout_of, is_flagged, nothing}
@@ -67,18 +65,6 @@ flagged_from os ps i lt below = ap is_flagged (parts_from os ps i lt below)
 
 pub flagged_end : (os : List ℕ) (ps : List Placed) (i : ℕ) → min (length os) (length ps) ≤ i → is_flagged (parts_at (drop i os) (drop i ps)) ≡ false
 flagged_end os ps i end = ap is_flagged (parts_end os ps i end)
-
--- a number of 128 bits cut to a width is the number itself cut to it
-pub cut_twice : (n width : ℕ) → width ≤ 16 → n % 2 ^ 128 % 2 ^ (width * 8) ≡ n % numbers_of width
-cut_twice n width most =
-    let bits : 128 ≡ (128 - 8 * width) + 8 * width = omega arith in
-    let turned : width * 8 ≡ 8 * width = omega arith in
-    ap (λ k. n % 2 ^ 128 % 2 ^ k) turned ∙ ap (λ k. n % 2 ^ k % 2 ^ (8 * width)) bits
-    ∙ ap (λ m. m % 2 ^ (8 * width)) (mod-pow-add n (128 - 8 * width) (8 * width))
-    ∙ mul-add-mod_self_right _ (2 ^ (8 * width)) (n % 2 ^ (8 * width)) ∙ mod-mod n (2 ^ (8 * width))
-
-pub cut_width : (n width : ℕ) → n % 2 ^ (width * 8) ≡ n % numbers_of width
-cut_width n width = let turned : width * 8 ≡ 8 * width = omega arith in ap (λ k. n % 2 ^ k) turned
 
 -- the i-th of the children's types
 pub child_is : (ns : List Node) (children : List ℕ) (i : ℕ) → i < length children → get_or (all_at ns children) i nothing ≡ placed_at ns (get_or children i 0)

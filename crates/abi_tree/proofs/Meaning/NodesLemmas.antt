@@ -1,7 +1,7 @@
 -- What nodes mean as more are added.
 use Rattle.std.proofs.lemmas.Bool.{ltb-true}
-use Rattle.std.specs.Prelude.{nat_lt}
-use Rattle.std.proofs.Common.{subst, ◌≡◌, ℕ, zero, suc, ◌+◌, ◌<◌, List, [], ◌∷◌, ◌++◌, length, map, get_or, arith, refl, sym, ap, ◌∙◌, length-append}
+use Rattle.std.specs.Prelude.{Bool, nat_lt}
+use Rattle.std.proofs.Common.{subst, ◌≡◌, ℕ, zero, suc, ◌+◌, ◌<◌, List, [], ◌∷◌, ◌++◌, length, map, get_or, arith, refl, sym, ap, ap₂, ◌∙◌, length-append}
 use Rattle.std.specs.Prelude.{true, ◌&&◌}
 use Rattle.std.specs.Cmp.Derive.{both_true}
 use Rattle.std.proofs.lemmas.List.{get_or_append_left, get_or_push}
@@ -98,19 +98,34 @@ are_nodes-push first (m ∷ ns) n i e is h =
     let both = and_parts (is_node first m.shape) (are_nodes (first + 1) ns) h in
     both_true both.0 (are_nodes-push (first + 1) ns n i (omega arith) is both.1)
 
-keep_laws-push : (done : List Placed) (ns : List Node) (n : Node) → keeps_laws (meanings done ns) n.layout n.shape ≡ true → keep_laws done ns ≡ true → keep_laws done (ns ++ n ∷ []) ≡ true
-keep_laws-push done [] n keeps h = both_true keeps refl
-keep_laws-push done (m ∷ ns) n keeps h =
-    let more = done ++ meaning done m.layout m.shape ∷ [] in
-    let both = and_parts (keeps_laws done m.layout m.shape) (keep_laws more ns) h in
-    both_true both.0 (keep_laws-push more ns n keeps both.1)
+-- a test of each node, given what those before it mean
+module _ (test : List Placed → Layout → Shape → Bool) (tests : List Placed → List Node → Bool)
+    (first_tested : (done : List Placed) (m : Node) (ns : List Node) → tests done (m ∷ ns) ≡ (test done m.layout m.shape && tests (done ++ meaning done m.layout m.shape ∷ []) ns)) where
+  tests-push : ((all : List Placed) → tests all [] ≡ true) → (done : List Placed) (ns : List Node) (n : Node) → test (meanings done ns) n.layout n.shape ≡ true → tests done ns ≡ true
+      → tests done (ns ++ n ∷ []) ≡ true
+  tests-push none done [] n passes h = first_tested done n [] ∙ both_true passes (none (done ++ meaning done n.layout n.shape ∷ []))
+  tests-push none done (m ∷ ns) n passes h =
+      let more = done ++ meaning done m.layout m.shape ∷ [] in
+      let both = and_parts (test done m.layout m.shape) (tests more ns) (sym (first_tested done m ns) ∙ h) in
+      first_tested done m (ns ++ n ∷ []) ∙ both_true both.0 (tests-push none more ns n passes both.1)
 
-have_widths-push : (done : List Placed) (ns : List Node) (n : Node) → has_width (meanings done ns) n.layout n.shape ≡ true → have_widths done ns ≡ true → have_widths done (ns ++ n ∷ []) ≡ true
-have_widths-push done [] n has h = both_true has refl
-have_widths-push done (m ∷ ns) n has h =
-    let more = done ++ meaning done m.layout m.shape ∷ [] in
-    let both = and_parts (has_width done m.layout m.shape) (have_widths more ns) h in
-    both_true both.0 (have_widths-push more ns n has both.1)
+  -- what it says of a node doesn't change with what lies behind
+  module _ (same : (xs ys : List Placed) (n : ℕ) → ((i : ℕ) → i < n → placed_in xs i ≡ placed_in ys i) → (layout : Layout) (shape : Shape) → is_node n shape ≡ true →
+      test xs layout shape ≡ test ys layout shape) where
+    test-in : (done : List Placed) (ns : List Node) (i j : ℕ) (d : Node) → j ≡ length done + i → i < length ns → is_node j (get_or ns i d).shape ≡ true → tests done ns ≡ true →
+        test (meanings done ns) (get_or ns i d).layout (get_or ns i d).shape ≡ true
+    test-in done [] i j d e lt is h = absurd (omega arith)
+    test-in done (m ∷ ns) zero j d e lt is h =
+        let x = meaning done m.layout m.shape in
+        let more = done ++ x ∷ [] in
+        let long = length-append done (x ∷ []) in
+        let kept : (k : ℕ) → k < j → placed_in (meanings more ns) k ≡ placed_in done k = λ k less.
+        meanings-first more ns k (omega arith) ∙ get_or_append_left done (x ∷ []) nothing k (omega arith) in
+        same (meanings more ns) done j kept m.layout m.shape is ∙ (and_parts (test done m.layout m.shape) (tests more ns) (sym (first_tested done m ns) ∙ h)).0
+    test-in done (m ∷ ns) (suc i) j d e lt is h =
+        let x = meaning done m.layout m.shape in
+        let more = done ++ x ∷ [] in
+        test-in more ns i j d (omega (arith, length-append done (x ∷ []))) (omega arith) is (and_parts (test done m.layout m.shape) (tests more ns) (sym (first_tested done m ns) ∙ h)).1
 
 -- a node that is pushed is put
 pub IsPut-push : (ns : List Node) (n : Node) (i : ℕ) → is_node i n.shape ≡ true → keeps_laws (types_in ns) n.layout n.shape ≡ true → has_width (types_in ns) n.layout n.shape ≡ true → i ≡ length ns →
@@ -119,8 +134,8 @@ IsPut-push ns n i is keeps has e = record {
   kept = Keeps-push ns n;
   well = λ h. record {
     earlier = are_nodes-push 0 ns n i (omega arith) is h.earlier;
-    laws = keep_laws-push [] ns n keeps h.laws;
-    widths = have_widths-push [] ns n has h.widths;
+    laws = tests-push keeps_laws keep_laws (λ done m ns. refl) (λ all. refl) [] ns n keeps h.laws;
+    widths = tests-push has_width have_widths (λ done m ns. refl) (λ all. refl) [] ns n has h.widths;
   };
   last = omega (arith, length-append ns (n ∷ []));
   meant = placed_at-push ns n i e;
@@ -138,14 +153,18 @@ is_node-at first (m ∷ ns) (suc i) j d e lt h =
 pub children_before : (ns : List Node) (i : ℕ) (d : Node) → i < length ns → are_nodes 0 ns ≡ true → is_node i (get_or ns i d).shape ≡ true
 children_before ns i d lt h = is_node-at 0 ns i i d (omega arith) lt h
 
-children-same : (xs ys : List Placed) (n : ℕ) → ((i : ℕ) → i < n → placed_in xs i ≡ placed_in ys i) → (cs : List ℕ) → list_all (λ child. nat_lt child n) cs ≡ true →
-    map (placed_in xs) cs ≡ map (placed_in ys) cs
-children-same xs ys n same [] below = refl
-children-same xs ys n same (c ∷ cs) below =
+-- so that a test of each holds, after all
+pub each_tested : (test : List Placed → Layout → Shape → Bool) (tests : List Placed → List Node → Bool)
+    → ((done : List Placed) (m : Node) (ns : List Node) → tests done (m ∷ ns) ≡ (test done m.layout m.shape && tests (done ++ meaning done m.layout m.shape ∷ []) ns))
+    → ((xs ys : List Placed) (n : ℕ) → ((i : ℕ) → i < n → placed_in xs i ≡ placed_in ys i) → (layout : Layout) (shape : Shape) → is_node n shape ≡ true → test xs layout shape ≡ test ys layout shape)
+    → (ns : List Node) → are_nodes 0 ns ≡ true → tests [] ns ≡ true → (i : ℕ) (d : Node) → i < length ns → test (types_in ns) (get_or ns i d).layout (get_or ns i d).shape ≡ true
+each_tested test tests first_tested same ns well h i d lt = test-in test tests first_tested same [] ns i i d (omega arith) lt (children_before ns i d lt well) h
+
+pub map-below : {X : Type 0} (f g : ℕ → X) (n : ℕ) → ((i : ℕ) → i < n → f i ≡ g i) → (cs : List ℕ) → list_all (λ child. nat_lt child n) cs ≡ true → map f cs ≡ map g cs
+map-below f g n same [] below = refl
+map-below f g n same (c ∷ cs) below =
     let both = and_parts (nat_lt c n) (list_all (λ child. nat_lt child n) cs) below in
-    let here : placed_in xs c ≡ placed_in ys c = same c (ltb-true c n both.0) in
-    let rest : map (placed_in xs) cs ≡ map (placed_in ys) cs = children-same xs ys n same cs both.1 in
-    cc
+    ap₂ (λ x xs. x ∷ xs) (same c (ltb-true c n both.0)) (map-below f g n same cs both.1)
 
 tagged_variants-same : (xs ys : List Placed) (n : ℕ) → ((i : ℕ) → i < n → placed_in xs i ≡ placed_in ys i) → (vs : List (ℕ × ℕ)) → list_all (λ v. nat_lt v.1 n) vs ≡ true → tagged_variants_in xs vs ≡ tagged_variants_in ys vs
 tagged_variants-same xs ys n same [] below = refl
@@ -166,7 +185,7 @@ states-same xs ys n same layout prefix tag all is =
     let beside = and_parts (nat_lt tag n) (list_all (λ v. nat_lt v.1 n) all) both.1 in
     let offset : ℕ = state_tag_offset layout (length prefix) in
     let first : List Placed → Placed → TaggedVariants → Placed = λ ps t tagged_variants. states layout (parts_at (listed_offsets layout.fields) ps) offset t tagged_variants in
-    ap (λ ps. first ps (placed_in xs tag) (tagged_variants_in xs all)) (children-same xs ys n same prefix both.0)
+    ap (λ ps. first ps (placed_in xs tag) (tagged_variants_in xs all)) (map-below (placed_in xs) (placed_in ys) n same prefix both.0)
     ∙ ap (λ t. first (map (placed_in ys) prefix) t (tagged_variants_in xs all)) (same tag (ltb-true tag n beside.0))
     ∙ ap (first (map (placed_in ys) prefix) (placed_in ys tag)) (tagged_variants-same xs ys n same all beside.1)
 
@@ -175,15 +194,15 @@ meaning-same : (xs ys : List Placed) (n : ℕ) → ((i : ℕ) → i < n → plac
     meaning xs layout shape ≡ meaning ys layout shape
 meaning-same xs ys n same layout (Scalar s) is = refl
 meaning-same xs ys n same layout (Pair first second) is =
-    ap (λ ps. pair layout (parts_at (listed_offsets layout.fields) ps)) (children-same xs ys n same (first ∷ second ∷ []) (pair_before n first second is))
+    ap (λ ps. pair layout (parts_at (listed_offsets layout.fields) ps)) (map-below (placed_in xs) (placed_in ys) n same (first ∷ second ∷ []) (pair_before n first second is))
 meaning-same xs ys n same layout (Never mark) is = refl
 meaning-same xs ys n same layout (Elements count element) is = ap (elements layout count) (same element (ltb-true element n is))
 meaning-same xs ys n same layout (Fields mark children) is =
-    ap (λ ps. fields layout mark (parts_at (listed_offsets layout.fields) ps)) (children-same xs ys n same children.items is)
-meaning-same xs ys n same layout (Union mark children) is = ap (λ ps. union layout mark (parts_at_0 ps)) (children-same xs ys n same children.items is)
+    ap (λ ps. fields layout mark (parts_at (listed_offsets layout.fields) ps)) (map-below (placed_in xs) (placed_in ys) n same children.items is)
+meaning-same xs ys n same layout (Union mark children) is = ap (λ ps. union layout mark (parts_at_0 ps)) (map-below (placed_in xs) (placed_in ys) n same children.items is)
 meaning-same xs ys n same layout (Vector lanes) is = ap (vector layout) (same lanes (ltb-true lanes n is))
 meaning-same xs ys n same layout (Single mark children) is =
-    ap (λ ps. single layout mark (variant_left layout.variants) (parts_at (listed_offsets layout.fields) ps)) (children-same xs ys n same children.items is)
+    ap (λ ps. single layout mark (variant_left layout.variants) (parts_at (listed_offsets layout.fields) ps)) (map-below (placed_in xs) (placed_in ys) n same children.items is)
 meaning-same xs ys n same layout (Tagged mark tag variants) is =
     let both = and_parts (nat_lt tag n) (list_all (λ v. nat_lt v.1 n) variants.items) is in
     ap (λ p. tagged layout mark (tag_offset layout) p (encoding_of layout.variants) (tagged_variants_in xs variants.items)) (same tag (ltb-true tag n both.0))

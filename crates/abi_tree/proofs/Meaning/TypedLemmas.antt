@@ -1,5 +1,5 @@
 -- What nodes are, as handles see them: each by what its fields and its variants are, and each keeps the laws.
-use Rattle.std.proofs.Common.{Bool, ◌≡◌, ℕ, zero, suc, ◌+◌, ◌*◌, ◌<◌, ◌≤◌, ◌∙◌, true, false, List, [], ◌∷◌, ◌++◌, ap, arith, get_or, length, length-append, map, refl, replicate, subst, sym}
+use Rattle.std.proofs.Common.{Bool, ◌≡◌, ℕ, zero, suc, ◌+◌, ◌*◌, ◌<◌, ◌≤◌, ◌∙◌, true, false, List, [], ◌∷◌, ◌++◌, ap, arith, get_or, length, length-append, refl, replicate, subst, sym}
 use Rattle.std.specs.Prelude.{◌&&◌, ◌==◌, None, nat_le, nat_lt}
 use Rattle.std.specs.Cmp.Derive.{both_true}
 use Rattle.std.specs.List.{list_all}
@@ -20,13 +20,13 @@ use Rattle.abi_tree.specs.declared.node.Shape.{Shape}
 use Rattle.abi_tree.specs.declared.node.Shape.TheVariants.{Scalar, Pair, Never, Elements, Fields, Union, Vector, Single, Tagged, States}
 use Rattle.abi_tree.specs.declared.node.Node.{Node}
 use Rattle.abi_tree.specs.Mark.{marks_by}
-use Rattle.abi_tree.specs.Placed.{Placed, layout_of, size_of, nothing}
+use Rattle.abi_tree.specs.Placed.{Placed, layout_of, size_of}
 use Rattle.abi_scalar.specs.Layout.{Layout}
-use Rattle.abi_tree.specs.Nodes.{meaning, meanings, placed_at, placed_in, types_in}
+use Rattle.abi_tree.specs.Nodes.{placed_at, placed_in, types_in}
 use Rattle.abi_tree.specs.Well.{are_nodes, is_node}
 use Rattle.abi_tree.specs.Typed.{all_typed, field_by, field_nodes, marks_in, typed_node, type_by, type_in, typed_at, variant_nodes}
 use Rattle.abi_tree.specs.Laws.{end_inside, has_elements, has_fields, has_list, has_variants, have_lists, have_places, keep_laws, keeps_laws, sizes_at}
-use Rattle.abi_tree.proofs.Meaning.NodesLemmas.{children_before, layout_of-placed_at, pair_before}
+use Rattle.abi_tree.proofs.Meaning.NodesLemmas.{children_before, each_tested, layout_of-placed_at, map-below, pair_before}
 
 all_typed-first : (done : List Typed) (ns : List Node) (i : ℕ) → i < length done → type_in (all_typed done ns) i ≡ type_in done i
 all_typed-first done [] i lt = refl
@@ -55,20 +55,11 @@ layout-placed ns i lt =
     let d : Node = record { layout = no_layout; shape = Never mark_is.Plain } in
     layout-typed_at ns i d lt ∙ sym (layout_of-placed_at ns i d lt)
 
-types-same : (xs ys : List Typed) (n : ℕ) → ((i : ℕ) → i < n → type_in xs i ≡ type_in ys i) → (cs : List ℕ) → list_all (λ child. nat_lt child n) cs ≡ true →
-    map (type_in xs) cs ≡ map (type_in ys) cs
-types-same xs ys n same [] below = refl
-types-same xs ys n same (c ∷ cs) below =
-    let both = and_parts (nat_lt c n) (list_all (λ child. nat_lt child n) cs) below in
-    let here : type_in xs c ≡ type_in ys c = same c (ltb-true c n both.0) in
-    let rest : map (type_in xs) cs ≡ map (type_in ys) cs = types-same xs ys n same cs both.1 in
-    cc
-
 types_by-same : (xs ys : List Typed) (n : ℕ) → ((i : ℕ) → i < n → type_in xs i ≡ type_in ys i) → (cs : List ℕ) → list_all (λ child. nat_lt child n) cs ≡ true →
     type_by xs cs ≡ type_by ys cs
 types_by-same xs ys n same cs below =
     let by : List Typed → ℕ → Typed = λ ts i. get_or ts i no_type in
-    ap by (types-same xs ys n same cs below)
+    ap by (map-below (type_in xs) (type_in ys) n same cs below)
 
 -- the nodes of a node's fields come before it
 pub fields_below : (n : ℕ) (shape : Shape) → is_node n shape ≡ true → list_all (λ child. nat_lt child n) (field_nodes shape) ≡ true
@@ -143,12 +134,6 @@ pub typed_at-node : (ns : List Node) → are_nodes 0 ns ≡ true → (i : ℕ) (
 typed_at-node ns well i n lt at =
     type-tag_layout [] ns i i n (omega arith) lt (children_before ns i n lt well) ∙ ap (typed_node (all_typed [] ns)) (sym at)
 
-meanings-kept : (done : List Placed) (ns : List Node) (i : ℕ) → i < length done → placed_in done i ≡ placed_in (meanings done ns) i
-meanings-kept done [] i lt = refl
-meanings-kept done (m ∷ ns) i lt =
-    let x = meaning done m.layout m.shape in
-    sym (get_or_append_left done (x ∷ []) nothing i lt) ∙ meanings-kept (done ++ x ∷ []) ns i (omega (arith, length-append done (x ∷ [])))
-
 sizes-same : (xs ys : List Placed) (n : ℕ) → ((i : ℕ) → i < n → placed_in xs i ≡ placed_in ys i) → (cs : List ℕ) → list_all (λ child. nat_lt child n) cs ≡ true →
     sizes_at xs cs ≡ sizes_at ys cs
 sizes-same xs ys n same [] below = refl
@@ -198,25 +183,10 @@ laws-same xs ys n same layout shape is =
     ap (λ b. b && has_variants xs layout shape) (has_fields-same xs ys n same layout shape is)
     ∙ ap (λ b. has_fields ys layout shape && b) (has_variants-same xs ys n same layout shape is)
 
-laws-in : (done : List Placed) (ns : List Node) (i j : ℕ) (d : Node) → j ≡ length done + i → i < length ns → is_node j (get_or ns i d).shape ≡ true → keep_laws done ns ≡ true →
-    keeps_laws (meanings done ns) (get_or ns i d).layout (get_or ns i d).shape ≡ true
-laws-in done [] i j d e lt is laws = absurd (omega arith)
-laws-in done (m ∷ ns) zero j d e lt is laws =
-    let x = meaning done m.layout m.shape in
-    let more = done ++ x ∷ [] in
-    let long = length-append done (x ∷ []) in
-    let same : (k : ℕ) → k < j → placed_in (meanings more ns) k ≡ placed_in done k = λ k less.
-    sym (sym (get_or_append_left done (x ∷ []) nothing k (omega arith)) ∙ meanings-kept more ns k (omega arith)) in
-    laws-same (meanings more ns) done j same m.layout m.shape is ∙ (and_parts (keeps_laws done m.layout m.shape) (keep_laws more ns) laws).0
-laws-in done (m ∷ ns) (suc i) j d e lt is laws =
-    let x = meaning done m.layout m.shape in
-    let more = done ++ x ∷ [] in
-    laws-in more ns i j d (omega (arith, length-append done (x ∷ []))) (omega arith) is (and_parts (keeps_laws done m.layout m.shape) (keep_laws more ns) laws).1
-
 -- each node keeps the laws, after all
 pub laws_at : (ns : List Node) → are_nodes 0 ns ≡ true → keep_laws [] ns ≡ true → (i : ℕ) (d : Node) → i < length ns →
     keeps_laws (types_in ns) (get_or ns i d).layout (get_or ns i d).shape ≡ true
-laws_at ns well laws i d lt = laws-in [] ns i i d (omega arith) lt (children_before ns i d lt well) laws
+laws_at = each_tested keeps_laws keep_laws (λ done m ns. refl) laws-same
 
 -- the node at an index is below n, where all are
 pub place_below : (n : ℕ) (cs : List ℕ) → list_all (λ child. nat_lt child n) cs ≡ true → (k : ℕ) → k < length cs → get_or cs k 0 < n

@@ -1,10 +1,9 @@
 -- Each node has narrow numbers.
-use Rattle.std.proofs.Common.{◌≡◌, ℕ, zero, suc, ◌+◌, ◌<◌, ◌≤◌, ◌∙◌, true, List, [], ◌∷◌, ◌++◌, ap, arith, get_or, length, length-append, refl, subst, sym}
+use Rattle.std.proofs.Common.{◌≡◌, ℕ, ◌<◌, ◌≤◌, true, List, [], ap, get_or, length, refl, subst, sym}
 use Rattle.std.specs.Prelude.{◌&&◌, ⊤, Vec, nat_le, nat_lt}
 use Rattle.std.specs.List.{list_all}
 use Rattle.std.specs.declared.alloc.Global.{Global}
 use Rattle.std.proofs.lemmas.Bool.{and_parts, leb-true, ltb-true}
-use Rattle.std.proofs.lemmas.List.{get_or_append_left}
 use Rattle.abi_scalar.specs.declared.scalar.Scalar.{Scalar}
 use Rattle.abi_scalar.specs.declared.scalar.Scalar.TheVariants.{Initialized, Union}
 use Rattle.abi_scalar.specs.Range.{AreWithin, numbers_of}
@@ -12,12 +11,12 @@ use Rattle.abi_tree.specs.declared.mark.Mark.{Mark}
 use Rattle.abi_tree.specs.declared.node.Shape.{Shape}
 use Rattle.abi_tree.specs.declared.node.Shape.TheVariants.{Scalar as OneScalar, Tagged, States}
 use Rattle.abi_tree.specs.declared.node.Node.{Node}
-use Rattle.abi_tree.specs.Placed.{Placed, nothing, size_of}
+use Rattle.abi_tree.specs.Placed.{Placed, size_of}
 use Rattle.abi_scalar.specs.Layout.{Layout}
-use Rattle.abi_tree.specs.Nodes.{meaning, meanings, placed_at, placed_in, types_in}
+use Rattle.abi_tree.specs.Nodes.{placed_at, placed_in, types_in}
 use Rattle.abi_tree.specs.Well.{are_nodes, is_node}
 use Rattle.abi_tree.specs.Widths.{has_width, have_widths, is_narrow}
-use Rattle.abi_tree.proofs.Meaning.NodesLemmas.{children_before, meanings-first}
+use Rattle.abi_tree.proofs.Meaning.NodesLemmas.{each_tested}
 
 width-same : (xs ys : List Placed) (n : ℕ) → ((i : ℕ) → i < n → placed_in xs i ≡ placed_in ys i) → (layout : Layout) (shape : Shape) → is_node n shape ≡ true →
     has_width xs layout shape ≡ has_width ys layout shape
@@ -30,25 +29,10 @@ width-same xs ys n same layout (States prefix tag all) is =
     ap (λ p. nat_le (size_of p) 16) (same tag (ltb-true tag n beside.0))
 width-same xs ys n same layout shape is = refl
 
-widths-in : (done : List Placed) (ns : List Node) (i j : ℕ) (d : Node) → j ≡ length done + i → i < length ns → is_node j (get_or ns i d).shape ≡ true → have_widths done ns ≡ true →
-    has_width (meanings done ns) (get_or ns i d).layout (get_or ns i d).shape ≡ true
-widths-in done [] i j d e lt is widths = absurd (omega arith)
-widths-in done (m ∷ ns) zero j d e lt is widths =
-    let x = meaning done m.layout m.shape in
-    let more = done ++ x ∷ [] in
-    let long = length-append done (x ∷ []) in
-    let same : (k : ℕ) → k < j → placed_in (meanings more ns) k ≡ placed_in done k = λ k less.
-    meanings-first more ns k (omega arith) ∙ get_or_append_left done (x ∷ []) nothing k (omega arith) in
-    width-same (meanings more ns) done j same m.layout m.shape is ∙ (and_parts (has_width done m.layout m.shape) (have_widths more ns) widths).0
-widths-in done (m ∷ ns) (suc i) j d e lt is widths =
-    let x = meaning done m.layout m.shape in
-    let more = done ++ x ∷ [] in
-    widths-in more ns i j d (omega (arith, length-append done (x ∷ []))) (omega arith) is (and_parts (has_width done m.layout m.shape) (have_widths more ns) widths).1
-
 -- each node has its width, after all
 pub width_at : (ns : List Node) → are_nodes 0 ns ≡ true → have_widths [] ns ≡ true → (i : ℕ) (d : Node) → i < length ns →
     has_width (types_in ns) (get_or ns i d).layout (get_or ns i d).shape ≡ true
-width_at ns well widths i d lt = widths-in [] ns i i d (omega arith) lt (children_before ns i d lt well) widths
+width_at = each_tested has_width have_widths (λ done m ns. refl) width-same
 
 -- ---- what reads values rests on
 

@@ -30,13 +30,9 @@ use Rattle.abi_tree.specs.Needed.{AreMade, AreNeeded, IsKept, IsMade, IsMadeOf, 
 use Rattle.abi_tree.proofs.Meaning.NodesLemmas.{layout_of-meaning, layout_of-placed_at, placed_at-node}
 use Rattle.abi_tree.proofs.Places.RoomLemmas.{room_at, within_room}
 use Rattle.abi_tree.proofs.Places.DataPlacesLemmas.{runs_inside}
-use Rattle.abi_tree.proofs.Places.NeededLemmas.{All-left, All-right, among_all, among_own, named_first, variants_listed}
+use Rattle.abi_tree.proofs.Places.NeededLemmas.{All-left, All-right, among_all, among_own, named_first, or_assoc, variants_listed}
 
 -- ---- sets put in one after another
-
-or_assoc : (a b c : Bool) → ((a || b) || c) ≡ (a || (b || c))
-or_assoc true b c = refl
-or_assoc false b c = refl
 
 parts_cover-push : (os : List ℕ) (ss : List (List (ℕ × ℕ))) (o : ℕ) (s : List (ℕ × ℕ)) (k : ℕ) → length os ≡ length ss →
     parts_cover (os ++ o ∷ []) (ss ++ s ∷ []) k ≡ (parts_cover os ss k || moved_to o (is_in_ranges s) k)

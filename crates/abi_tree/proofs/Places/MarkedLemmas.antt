@@ -21,10 +21,7 @@ use Rattle.abi_tree.specs.Runs.{is_padding_of}
 use Rattle.abi_tree.specs.Well.{all_at}
 use Rattle.abi_tree.specs.Needed.{AreNeeded}
 use Rattle.abi_tree.proofs.Places.DataPlacesLemmas.{fields_node, scalar_node}
-
-or_assoc : (a b c : Bool) → ((a || b) || c) ≡ (a || (b || c))
-or_assoc true b c = refl
-or_assoc false b c = refl
+use Rattle.abi_tree.proofs.Places.NeededLemmas.{or_assoc}
 
 -- ---- a run
 

@@ -31,7 +31,7 @@ use Rattle.abi_tree.proofs.Places.DataPlacesLemmas.{all_before, variants_before,
 
 -- ---- places that are marked
 
-or_assoc : (a b c : Bool) → ((a || b) || c) ≡ (a || (b || c))
+pub or_assoc : (a b c : Bool) → ((a || b) || c) ≡ (a || (b || c))
 or_assoc true b c = refl
 or_assoc false b c = refl
 

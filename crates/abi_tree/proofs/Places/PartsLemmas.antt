@@ -15,7 +15,7 @@ use Rattle.abi_tree.specs.declared.mark.Mark.{Mark}
 use Rattle.abi_tree.specs.declared.node.Node.{Node}
 use Rattle.abi_tree.specs.declared.node.NodeRef.{NodeRef}
 use Rattle.abi_tree.specs.declared.node.Shape.{Shape}
-use Rattle.abi_tree.specs.declared.node.Shape.TheVariants.{Scalar, Pair, Never, Elements, Fields, Union, Vector, Single, Tagged, States}
+use Rattle.abi_tree.specs.declared.node.Shape.TheVariants.{Scalar, Pair, Fields, Union, Single, Tagged, States}
 use Rattle.abi_tree.specs.declared.parts.PartBytes.{PartBytes}
 use Rattle.abi_tree.specs.declared.parts.PartName.{PartName}
 use Rattle.abi_tree.specs.Needed.{ArePartsMade, HaveSets, IsKept, IsMade, IsMadeOf, IsPartMade, is_among, named_by, numbered_nodes}
@@ -238,33 +238,18 @@ module _ (ns : List Node) (kept : List (Option NodeRef)) (done : List (List (ℕ
       each_numbered vs h = all_kept kept vs h
 
       kept_each : (s : Shape) → shape ≡ s → All (λ v. IsKept kept v.1) (numbered_nodes s)
-      kept_each (Scalar s) e = All-nil (λ v. IsKept kept v.1)
-      kept_each (Pair first second) e = All-nil (λ v. IsKept kept v.1)
-      kept_each (Never mark) e = All-nil (λ v. IsKept kept v.1)
-      kept_each (Elements count element) e = All-nil (λ v. IsKept kept v.1)
-      kept_each (Fields mark children) e = All-nil (λ v. IsKept kept v.1)
-      kept_each (Union mark children) e = All-nil (λ v. IsKept kept v.1)
-      kept_each (Vector lanes) e = All-nil (λ v. IsKept kept v.1)
-      kept_each (Single mark children) e = All-nil (λ v. IsKept kept v.1)
       kept_each (Tagged mark tag variants) e =
           each_numbered variants.items (λ j among. have.needed.named i n here some j (subst (λ m. is_among (named_by layout m) j ≡ true) (sym e) (among_tagged tag variants.items j among)))
       kept_each (States prefix tag all) e =
           each_numbered all.items (λ j among. have.needed.named i n here some j (subst (λ m. is_among (named_by layout m) j ≡ true) (sym e) (among_states layout prefix.items tag all.items j among)))
+      kept_each _ e = All-nil (λ v. IsKept kept v.1)
 
   pub variants_meant : variant_parts (placed_at ns i) ≡ parts_of_tagged_variants 0 (tagged_variants_in types (numbered_nodes shape))
   variants_meant = ap variant_parts (is_meant shape refl) ∙ by shape
     where
       by : (s : Shape) → variant_parts (meaning types layout s) ≡ parts_of_tagged_variants 0 (tagged_variants_in types (numbered_nodes s))
       by (Scalar s) = refl
-      by (Pair first second) = refl
-      by (Never mark) = refl
-      by (Elements count element) = refl
-      by (Fields mark children) = refl
-      by (Union mark children) = refl
-      by (Vector lanes) = refl
-      by (Single mark children) = refl
-      by (Tagged mark tag variants) = refl
-      by (States prefix tag all) = refl
+      by _ = refl
 
   -- a variant's node
   pub fields_own : (mark : Mark) (children : Vec ℕ Global) → shape ≡ Fields mark children → parts_at (listed_offsets layout.fields) (map (placed_in types) children.items) ≡ own_fields (placed_at ns i)

@@ -1,5 +1,5 @@
 -- What variants leave unused, made from the sets of their nodes.
-use Rattle.std.proofs.Common.{◌≡◌, ℕ, zero, suc, ◌+◌, ◌-◌, ◌<◌, ◌≤◌, ⊎_elim, List, [], ◌∷◌, ◌++◌, Bool, true, false, None, Option, Some, length, map, get_or, length-append, arith, refl, sym, ap, ◌∙◌, subst, All}
+use Rattle.std.proofs.Common.{◌≡◌, ℕ, zero, suc, ◌+◌, ◌-◌, ◌<◌, ⊎_elim, List, [], ◌∷◌, ◌++◌, Bool, true, false, None, Option, Some, length, map, get_or, length-append, arith, refl, sym, ap, ◌∙◌, subst, All}
 use Rattle.std.specs.Prelude.{◌&&◌, ◌||◌, not, nat_le, Vec}
 use Rattle.std.specs.declared.alloc.Global.{Global}
 use Rattle.std.proofs.lemmas.Bool.{cases_lt}
@@ -23,9 +23,9 @@ use Rattle.abi_tree.specs.declared.node.Shape.TheVariants.{Scalar, Pair, Never, 
 use Rattle.abi_tree.specs.declared.node.Node.{Node}
 use Rattle.abi_tree.specs.declared.node.NodeRef.{NodeRef}
 use Rattle.abi_tree.specs.Laws.{has_fields, has_list, has_variants, keep_laws}
-use Rattle.abi_tree.specs.Needed.{HaveSets, IsMade, IsMadeOf, LeaveOut, is_among, numbered_nodes, named_by, parts_cover, placed_nodes, sets_at}
+use Rattle.abi_tree.specs.Needed.{HaveSets, IsMade, IsMadeOf, LeaveOut, numbered_nodes, named_by, parts_cover, placed_nodes, sets_at}
 use Rattle.abi_tree.specs.Nodes.{tagged_variants_in, lent_node, meaning, own_fields, parts_at, placed_at, placed_in, state_tag_offset, tag_offset, types_in}
-use Rattle.abi_tree.specs.Placed.{TaggedVariants, Placed, layout_of, parts_of_tagged_variant, size_of}
+use Rattle.abi_tree.specs.Placed.{Placed, layout_of, parts_of_tagged_variant, size_of}
 use Rattle.abi_tree.specs.Places.{is_data_place, is_place_of_tagged_variant, is_place_of_part}
 use Rattle.abi_tree.specs.Room.{has_room}
 use Rattle.abi_tree.specs.Runs.{is_place_of_each, is_place_of_variant}
@@ -36,7 +36,7 @@ use Rattle.std.proofs.lemmas.Bool.{and_parts}
 use Rattle.abi_tree.proofs.Meaning.NodesLemmas.{layout_of-meaning, placed_at-node}
 use Rattle.abi_tree.proofs.Meaning.TypedLemmas.{variant_count-nodes}
 use Rattle.abi_tree.proofs.Places.MadeLemmas.{beside_tagged, each_list, listed_own, listed_same, nothing_made, states_parts}
-use Rattle.abi_tree.proofs.Places.NeededLemmas.{among_all, laws_here, named_first, variants_listed}
+use Rattle.abi_tree.proofs.Places.NeededLemmas.{among_all, laws_here, named_first, or_assoc, variants_listed}
 use Rattle.abi_tree.proofs.Places.RoomLemmas.{within_room}
 use Rattle.abi_tree.proofs.Deciding.ChosenLemmas.{kept_below}
 
@@ -108,20 +108,13 @@ module _ (types : List Placed) (n : Node) (done : List (List (ℕ × ℕ))) (mad
       (set.0.0, λ k. set.1 k ∙ fields k)
 
   own_as : (shape : Shape) → n.shape ≡ shape → All Own (numbered_nodes shape)
-  own_as (Scalar s) e = All-nil Own
-  own_as (Pair first second) e = All-nil Own
-  own_as (Never mark) e = All-nil Own
-  own_as (Elements count element) e = All-nil Own
-  own_as (Fields mark children) e = All-nil Own
-  own_as (Union mark children) e = All-nil Own
-  own_as (Vector lanes) e = All-nil Own
-  own_as (Single mark children) e = All-nil Own
   own_as (Tagged mark tag variants) e =
       let beside = beside_tagged types n done made some mark tag variants e in
       own_each variants.items (All-tail (Made types done) tag (map (λ v. v.1) variants.items) beside.2) beside.3
   own_as (States prefix tag all) e =
       let beside = (states_parts types n done made some prefix tag all e).1 in
       own_each all.items (All-tail (Made types done) tag (map (λ v. v.1) all.items) beside.2) beside.3
+  own_as _ e = All-nil Own
 
   pub own_sets : All Own (numbered_nodes n.shape)
   own_sets = own_as n.shape refl
@@ -131,16 +124,9 @@ module _ (types : List Placed) (n : Node) (done : List (List (ℕ × ℕ))) (mad
 
 -- the nodes are as many with their numbers as without
 pub numbered_many : (shape : Shape) → length (numbered_nodes shape) ≡ length (variant_nodes shape)
-numbered_many (Scalar s) = refl
-numbered_many (Pair first second) = refl
-numbered_many (Never mark) = refl
-numbered_many (Elements count element) = refl
-numbered_many (Fields mark children) = refl
-numbered_many (Union mark children) = refl
-numbered_many (Vector lanes) = refl
-numbered_many (Single mark children) = refl
 numbered_many (Tagged mark tag variants) = sym (length-map variants.items (λ v. v.1))
 numbered_many (States prefix tag all) = sym (length-map all.items (λ v. v.1))
+numbered_many _ = refl
 
 -- ---- what one leaves
 
@@ -157,10 +143,6 @@ left_of_both true true c = refl
 left_of_both true false c = refl
 left_of_both false b c = refl
 
-or_assoc : (a b c : Bool) → ((a || b) || c) ≡ (a || (b || c))
-or_assoc true b c = refl
-or_assoc false b c = refl
-
 tagged_variant_own : (types : List Placed) (vs : List (ℕ × ℕ)) (v : ℕ) (d : ℕ × ℕ) → v < length vs → parts_of_tagged_variant (tagged_variants_in types vs) v ≡ own_fields (placed_in types (get_or vs v d).1)
 tagged_variant_own types [] v d lt = absurd (omega arith)
 tagged_variant_own types (w ∷ vs) zero d lt = refl
@@ -169,14 +151,6 @@ tagged_variant_own types (w ∷ vs) (suc v) d lt = tagged_variant_own types vs v
 -- a variant has the places that each has, and its own
 own_or_common : (types : List Placed) (layout : Layout) (shape : Shape) (v k : ℕ) → v < length (numbered_nodes shape) →
     (is_place_of_each (meaning types layout shape) k || is_place_of_part (own_fields (placed_in types (get_or (numbered_nodes shape) v (0, 0)).1)) k) ≡ is_place_of_variant (meaning types layout shape) v k
-own_or_common types layout (Scalar s) v k lt = absurd (omega arith)
-own_or_common types layout (Pair first second) v k lt = absurd (omega arith)
-own_or_common types layout (Never mark) v k lt = absurd (omega arith)
-own_or_common types layout (Elements count element) v k lt = absurd (omega arith)
-own_or_common types layout (Fields mark children) v k lt = absurd (omega arith)
-own_or_common types layout (Union mark children) v k lt = absurd (omega arith)
-own_or_common types layout (Vector lanes) v k lt = absurd (omega arith)
-own_or_common types layout (Single mark children) v k lt = absurd (omega arith)
 own_or_common types layout (Tagged mark tag variants) v k lt =
     ap (λ p. is_place_of_each (meaning types layout (Tagged mark tag variants)) k || is_place_of_part p k) (sym (tagged_variant_own types variants.items v (0, 0) lt))
 own_or_common types layout (States prefix tag all) v k lt =
@@ -185,6 +159,7 @@ own_or_common types layout (States prefix tag all) v k lt =
     let of_tag = nat_le offset k && is_data_place (placed_in types tag) (k - offset) in
     or_assoc front of_tag (is_place_of_part (own_fields (placed_in types (get_or all.items v (0, 0)).1)) k)
     ∙ ap (λ p. front || (of_tag || is_place_of_part p k)) (sym (tagged_variant_own types all.items v (0, 0) lt))
+own_or_common types layout _ v k lt = absurd (omega arith)
 
 -- of the places of some variant it leaves what neither each has nor it has of its own
 pub left_of : (types : List Placed) (n : Node) (done : List (List (ℕ × ℕ))) (made : IsMadeOf types n done) → 0 < n.layout.size → (any bytes : List (ℕ × ℕ)) (sets : List (List (ℕ × ℕ))) (count : ℕ) →

@@ -9,7 +9,8 @@ use Rattle.abi_tree.specs.Nodes.{tagged_variants_in}
 use Rattle.abi_tree.specs.Bytes.{bytes_at}
 use Rattle.abi_tree.specs.Covering.{is_byte_at}
 use Rattle.abi_tree.specs.Writing.{IsPutOver}
-use Rattle.abi_tree.proofs.Found.NamedLemmas.{cut_width, from_direct}
+use Rattle.abi_tree.proofs.Bytes.NumberLemmas.{cut_width}
+use Rattle.abi_tree.proofs.Found.NamedLemmas.{from_direct}
 use Rattle.abi_tree.proofs.Bytes.PutOverLemmas.{put_like, put_part}
 
 -- directly, the tag's number is the variant's own, cut to the tag's width

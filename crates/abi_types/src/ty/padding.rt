@@ -78,12 +78,7 @@ fn unused_runs<W: Walk>(alloc: Global, this: W, variant: VariantIdx) -> Result<R
         is_in_ranges set k ≡ is_unused (W.typed_of this) variant k) }
 {
     match &this.layout().variants {
-        Variants::Multiple {
-            tag: _,
-            tag_encoding: _,
-            tag_field: _,
-            variants: _,
-        } => {
+        Variants::Multiple { .. } => {
             let any = data(alloc, this)?;
             let beside = beside_shared(alloc, this, &any)?;
             unused_of(alloc, this, variant, &beside)
@@ -125,12 +120,7 @@ fn each_unused<W: Walk>(
     ensures { IfOk result (λ sets. AreUnused (W.typed_of this) sets) }
 {
     match &this.layout().variants {
-        Variants::Multiple {
-            tag: _,
-            tag_encoding: _,
-            tag_field: _,
-            variants,
-        } => {
+        Variants::Multiple { variants, .. } => {
             let any = data(alloc, this)?;
             unused_of_each(alloc, this, variants.len(), &any)
         }

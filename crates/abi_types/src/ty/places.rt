@@ -158,12 +158,7 @@ fn put_variants<W: Walk>(
         is_place (variant_in (W.typed_of this) v))))) }
 {
     match &this.layout().variants {
-        Variants::Multiple {
-            tag: _,
-            tag_encoding: _,
-            tag_field: _,
-            variants,
-        } => {
+        Variants::Multiple { variants, .. } => {
             for v in 0..variants.len() {
                 put_places(alloc, this.variant(VariantIdx::from_usize(v)), offset, all)?;
             }

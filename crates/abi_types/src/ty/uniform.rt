@@ -80,12 +80,7 @@ fn run_all<W: Walk>(this: W) -> Result<(HomogeneousAggregate, u64), Heterogeneou
     match &this.layout().variants {
         Variants::Empty => Err(Heterogeneous),
         Variants::Single { index: _ } => Ok((shared, shared_end)),
-        Variants::Multiple {
-            tag: _,
-            tag_encoding: _,
-            tag_field: _,
-            variants,
-        } => {
+        Variants::Multiple { variants, .. } => {
             let mut found = shared;
             let mut end = shared_end;
             for v in 0..variants.len() {

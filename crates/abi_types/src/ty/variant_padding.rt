@@ -14,12 +14,7 @@ fn walk_variant_padding<W: Walk>(this: W) -> bool
     ensures { result ≡ has_variant_dependent_padding (W.typed_of this) }
 {
     match &this.layout().variants {
-        Variants::Multiple {
-            tag: _,
-            tag_encoding: _,
-            tag_field: _,
-            variants: _,
-        } => return true,
+        Variants::Multiple { .. } => return true,
         Variants::Empty => return false,
         Variants::Single { index: _ } => {}
     }

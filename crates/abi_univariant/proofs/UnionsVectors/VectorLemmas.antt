@@ -5,13 +5,13 @@ use Rattle.std.specs.Int.{◌∣◌, next_multiple_of}
 use Rattle.std.proofs.lemmas.Bool.{cases_lt}
 use Rattle.std.proofs.lemmas.Nat.{pow_below}
 use Rattle.std.proofs.lemmas.Bool.Decides.{nat_tests}
-use Rattle.std.proofs.lemmas.List.Elements.{All-cons, All-head, All-nil, All-tail}
+use Rattle.std.proofs.lemmas.List.Elements.{All-head, All-tail}
 use Rattle.std.proofs.Math.Nat.{le_of_dvd, mul-le-mul_left}
 use Rattle.abi_base.specs.declared.data_layout.TargetDataLayout.{TargetDataLayout}
 use Rattle.abi_base.specs.declared.integer.Integer.{Integer}
-use Rattle.abi_base.specs.declared.integer.Integer.TheVariants.{I8, I16, I32, I64, I128}
+use Rattle.abi_base.specs.declared.integer.Integer.TheVariants.{I8}
 use Rattle.abi_base.specs.declared.float.Float.{Float}
-use Rattle.abi_base.specs.declared.float.Float.TheVariants.{F16, F16B, F32, F64, F128, PpcF128}
+use Rattle.abi_base.specs.declared.float.Float.TheVariants.{F16}
 use Rattle.abi_base.specs.declared.primitive.Primitive.{Primitive}
 use Rattle.abi_base.specs.declared.primitive.Primitive.TheVariants.{Int, Float as OneFloat, Pointer}
 use Rattle.abi_base.specs.declared.scalable.NumScalableVectors.{NumScalableVectors}
@@ -20,8 +20,9 @@ use Rattle.abi_base.specs.DataLayout.{IsLawfulDataLayout, listed_align, scalar_a
 use Rattle.abi_base.specs.Integer.{integer_size}
 use Rattle.abi_base.specs.Float.{float_size}
 use Rattle.abi_base.specs.Primitive.{IsLawfulPrimitive, primitive_size}
+use Rattle.abi_base.proofs.Laws.{all_back, all_front}
 use Rattle.abi_scalar.specs.declared.backend_repr.BackendRepr.{BackendRepr}
-use Rattle.abi_scalar.specs.declared.backend_repr.BackendRepr.TheVariants.{Scalar as OneScalar, ScalarPair, SimdScalableVector, SimdVector, Memory}
+use Rattle.abi_scalar.specs.declared.backend_repr.BackendRepr.TheVariants.{Scalar as OneScalar, SimdScalableVector, SimdVector, Memory}
 use Rattle.abi_scalar.specs.declared.niche.Niche.{Niche}
 use Rattle.abi_scalar.specs.declared.scalar.Scalar.{Scalar}
 use Rattle.abi_scalar.specs.declared.layout_data.LayoutData.{LayoutData}
@@ -42,14 +43,6 @@ exponent_small i top h =
 
 -- the alignment of a vector's size
 
-all_first : {A : Type 0} (P : A → Type 0) (xs ys : List A) → All P (xs ++ ys) → All P xs
-all_first P [] ys all = All-nil P
-all_first P (x ∷ xs) ys all = All-cons P x xs (All-head P x (xs ++ ys) all) (all_first P xs ys (All-tail P x (xs ++ ys) all))
-
-all_last : {A : Type 0} (P : A → Type 0) (xs ys : List A) → All P (xs ++ ys) → All P ys
-all_last P [] ys all = all
-all_last P (x ∷ xs) ys all = all_last P xs ys (All-tail P x (xs ++ ys) all)
-
 listed_small_at : (found : Bool) (align most : ℕ) (rest : Option ℕ) (a : ℕ) → align ≤ most → (rest ≡ Some a → a ≤ most) → (if found then Some align else rest) ≡ Some a → a ≤ most
 listed_small_at true align most rest a here later e = let same : align ≡ a = cc in omega arith
 listed_small_at false align most rest a here later e = later e
@@ -68,8 +61,8 @@ vector_small_at listed (Some a) size r small each at none e = let same : r ≡ a
 pub vector_small : (dl : TargetDataLayout) (size r : ℕ) → IsLawfulDataLayout dl → size ≤ 2 ^ 29 → ((a : ℕ) → listed_align dl.vector_align size ≡ Some a → r ≡ a)
     → (listed_align dl.vector_align size ≡ None → IsLeastPower size r) → r ≤ 29
 vector_small dl size r lawful small at none =
-    let all : All (λ a. a ≤ 29) (map (λ e. e.1) dl.vector_align) = all_last (λ a. a ≤ 29) (scalar_alignments_of dl) (map (λ e. e.1) dl.vector_align)
-    (all_first (λ a. a ≤ 29) (scalar_alignments_of dl ++ map (λ e. e.1) dl.vector_align) (map (λ e. e.1.pointer_align) dl.address_space_info) lawful.limit) in
+    let all : All (λ a. a ≤ 29) (map (λ e. e.1) dl.vector_align) = all_back (λ a. a ≤ 29) (scalar_alignments_of dl) (map (λ e. e.1) dl.vector_align)
+    (all_front (λ a. a ≤ 29) (scalar_alignments_of dl ++ map (λ e. e.1) dl.vector_align) (map (λ e. e.1.pointer_align) dl.address_space_info) lawful.limit) in
     vector_small_at (listed_align dl.vector_align size) (listed_align dl.vector_align size) size r small (λ a e. listed_small dl.vector_align size a all e) at none refl
 
 -- a power of two that divides a size that is neither 0 nor above 2 ^ 29
@@ -82,18 +75,11 @@ factor_small size r some most d =
 
 integer_bytes : (i : Integer) → (1 ≤ integer_size i) × (integer_size i ≤ 16)
 integer_bytes I8 = (omega arith, omega arith)
-integer_bytes I16 = (omega arith, omega arith)
-integer_bytes I32 = (omega arith, omega arith)
-integer_bytes I64 = (omega arith, omega arith)
-integer_bytes I128 = (omega arith, omega arith)
+integer_bytes _ = (omega arith, omega arith)
 
 float_bytes : (f : Float) → (1 ≤ float_size f) × (float_size f ≤ 16)
 float_bytes F16 = (omega arith, omega arith)
-float_bytes F16B = (omega arith, omega arith)
-float_bytes F32 = (omega arith, omega arith)
-float_bytes F64 = (omega arith, omega arith)
-float_bytes F128 = (omega arith, omega arith)
-float_bytes PpcF128 = (omega arith, omega arith)
+float_bytes _ = (omega arith, omega arith)
 
 primitive_bytes : (dl : TargetDataLayout) (value : Primitive) → IsLawfulPrimitive dl value → (1 ≤ primitive_size dl value) × (primitive_size dl value ≤ 16)
 primitive_bytes dl (Int integer signed) h = integer_bytes integer
@@ -128,10 +114,7 @@ lanes_viewed : {F V H : Type 0} (h : H) (element : LayoutData F V) (bound count 
     → after (element_scalar h view) (λ scalar. lanes_if (nat_lt (element.size * count) bound) (record { scalar = scalar; count = count; size = element.size * count })) ≡ Ok lanes
     → AreLanes element count lanes
 lanes_viewed {H = H} h element bound count lanes (OneScalar scalar) view some most e = lanes_sized H element count scalar lanes (nat_lt (element.size * count) bound) view some most e
-lanes_viewed h element bound count lanes (ScalarPair a b o) view some most e = absurd (cc)
-lanes_viewed h element bound count lanes (SimdScalableVector f n w) view some most e = absurd (cc)
-lanes_viewed h element bound count lanes (SimdVector f n) view some most e = absurd (cc)
-lanes_viewed h element bound count lanes (Memory sized) view some most e = absurd (cc)
+lanes_viewed h element bound count lanes _ view some most e = absurd (cc)
 
 lanes_counted : {F V H : Type 0} (h : H) (element : LayoutData F V) (bound count : ℕ) (lanes : Lanes) (many none : Bool) → nat_lt 32768 count ≡ many → (count == 0) ≡ none
     → after (count_if {H = H} many none count)
@@ -164,6 +147,17 @@ lanes_bounded dl element count lanes lawful are =
     let all : element.size * lanes.count ≤ element.size * 32768 = mul-le-mul_left element.size are.most in
     let size : lanes.size ≡ element.size * lanes.count = are.size in
     record { some = omega arith; most = omega arith; above = omega arith }
+
+pub lanes_found : {F V H : Type 0} (layout_of : H → LayoutData F V) (dl : TargetDataLayout) (h : H) (count : ℕ) (lanes : Lanes) → IsLawfulLayout dl (layout_of h)
+    → Ok lanes ≡ lanes_answer layout_of (size_bound dl) h count → AreBounded (layout_of h).size lanes.size
+lanes_found layout_of dl h count lanes lawful e = lanes_bounded dl (layout_of h) count lanes lawful (lanes_are layout_of (size_bound dl) h count lanes e)
+
+-- and as many as scalable vectors may be
+pub vectors_most : {F V H : Type 0} (layout_of : H → LayoutData F V) (dl : TargetDataLayout) (h : H) (count : ℕ) (lanes : Lanes) (n : ℕ) → n ≤ 255 → IsLawfulLayout dl (layout_of h)
+    → Ok lanes ≡ lanes_answer layout_of (size_bound dl) h count → lanes.size * n ≤ 2 ^ 19 * 255
+vectors_most layout_of dl h count lanes n few lawful e =
+    let all : lanes.size * n ≤ lanes.size * 255 = mul-le-mul_left lanes.size few in
+    omega (arith, (lanes_found layout_of dl h count lanes lawful e).most)
 
 -- lawful vectors
 

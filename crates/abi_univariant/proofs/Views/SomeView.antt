@@ -70,10 +70,7 @@ integers = I8 ∷ I16 ∷ I32 ∷ I64 ∷ I128 ∷ []
 
 integer_back : (a : Integer) → get_or integers (integer_number a) I8 ≡ a
 integer_back I8 = refl
-integer_back I16 = refl
-integer_back I32 = refl
-integer_back I64 = refl
-integer_back I128 = refl
+integer_back _ = refl
 
 abbrev float_number : FloatFormat → ℕ
 float_number F16 = 0
@@ -88,11 +85,7 @@ floats = F16 ∷ F16B ∷ F32 ∷ F64 ∷ F128 ∷ PpcF128 ∷ []
 
 float_back : (a : FloatFormat) → get_or floats (float_number a) F16 ≡ a
 float_back F16 = refl
-float_back F16B = refl
-float_back F32 = refl
-float_back F64 = refl
-float_back F128 = refl
-float_back PpcF128 = refl
+float_back _ = refl
 
 same_integer : (a b : Integer) → IsTold (a ≡ b)
 same_integer = by_number integer_number (λ n. get_or integers n I8) integer_back

@@ -6,7 +6,7 @@ use Rattle.abi_base.specs.DataLayout.{IsLawfulDataLayout}
 use Rattle.abi_scalar.specs.declared.repr.ReprOptions.{ReprOptions}
 use Rattle.abi_univariant.specs.Placement.{own_align}
 use Rattle.abi_tree.specs.Placed.{Placed, parts_in}
-use Rattle.abi_tree.specs.Tree.{Tree, Trees, scalar, pair, never, unit, array, vector, struct, union, enum, coroutine}
+use Rattle.abi_tree.specs.Tree.{Tree, Trees, struct, union}
 use Rattle.rustc_abi.specs.Everywhere.{OfEach, Within}
 use Rattle.rustc_abi.specs.Laying.{IsLaying}
 use Rattle.guarantees.specs.Reference.Words.{align_in_bytes, extent_of, most_aligned}
@@ -45,14 +45,7 @@ module _ (dl : TargetDataLayout) where
   only_raised law (union repr all) p h inside = λ n raised before there.
       raised_by repr all n p before raised (over_union dl repr all p (union_laid dl law repr all p h.1)) inside
       (over_union dl (unaligned repr) all before (union_laid dl law (unaligned repr) all before there))
-  only_raised law (scalar s) p h inside = tt
-  only_raised law unit p h inside = tt
-  only_raised law (pair a b) p h inside = tt
-  only_raised law never p h inside = tt
-  only_raised law (array count element) p h inside = tt
-  only_raised law (vector lanes packed element) p h inside = tt
-  only_raised law (enum repr all) p h inside = tt
-  only_raised law (coroutine prefix locals states conflicts) p h inside = tt
+  only_raised law _ p h inside = tt
 
   -- ---- `packed`
 
@@ -89,11 +82,4 @@ module _ (dl : TargetDataLayout) where
   only_wide law byte (union repr all) p h inside = λ n packed before there le.
       wide_by law byte repr all n p before packed (over_union dl repr all p (union_laid dl law repr all p h.1)) inside
       (over_union dl (unpacked repr) all before (union_laid dl law (unpacked repr) all before there)) le
-  only_wide law byte (scalar s) p h inside = tt
-  only_wide law byte unit p h inside = tt
-  only_wide law byte (pair a b) p h inside = tt
-  only_wide law byte never p h inside = tt
-  only_wide law byte (array count element) p h inside = tt
-  only_wide law byte (vector lanes packed element) p h inside = tt
-  only_wide law byte (enum repr all) p h inside = tt
-  only_wide law byte (coroutine prefix locals states conflicts) p h inside = tt
+  only_wide law byte _ p h inside = tt

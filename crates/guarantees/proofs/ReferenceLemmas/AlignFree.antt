@@ -8,7 +8,7 @@ use Rattle.std.proofs.lemmas.List.Elements.{All-cons, All-contains, All-filter, 
 use Rattle.std.proofs.lemmas.Nat.{pow_pos}
 use Rattle.abi_base.specs.declared.data_layout.TargetDataLayout.{TargetDataLayout}
 use Rattle.abi_base.specs.declared.integer.Integer.{Integer}
-use Rattle.abi_base.specs.declared.integer.Integer.TheVariants.{I8, I16, I32, I64, I128}
+use Rattle.abi_base.specs.declared.integer.Integer.TheVariants.{I8}
 use Rattle.abi_base.specs.declared.integer.IntegerType.{IntegerType}
 use Rattle.abi_base.specs.declared.integer.IntegerType.TheVariants.{Pointer}
 use Rattle.abi_base.specs.declared.niche_optimizations.NicheOptimizations.TheVariants.{Enabled}
@@ -50,7 +50,7 @@ use Rattle.abi_tree.specs.Mark.{mark_of}
 use Rattle.abi_tree.specs.Nodes.{parts_at}
 use Rattle.abi_tree.specs.Placed.{Placed, layout_of}
 use Rattle.abi_scalar.specs.Layout.{Layout}
-use Rattle.abi_tree.specs.Tree.{Tree, Trees, Variants, no_variants, more_variants, scalar, pair, never, unit, array, vector, struct, union, enum, coroutine}
+use Rattle.abi_tree.specs.Tree.{Tree, Trees, Variants, no_variants, more_variants, enum}
 use Rattle.rustc_abi.specs.Enums.{IsEnumed, IsTagIntegerAnswer as IsAsking, discriminants_of, holds_both, is_negative, layouts_of, least_integer, least_tag, numbered_from}
 use Rattle.rustc_abi.specs.Everywhere.{ByThemselves, OfAbsent, OfEach, OfVariant, Within}
 use Rattle.rustc_abi.specs.Laying.{AreLaying, IsLaying, VariantsLaying, enum_fault, placed_enum, placed_variants}
@@ -198,10 +198,7 @@ no_name (Some type) e = absurd (cc)
 
 byte_by : (dl : TargetDataLayout) → IsLawfulDataLayout dl → (i : Integer) → integer_size i ≤ 1 → integer_align dl i ≡ 0
 byte_by dl law I8 le = byte_align dl law
-byte_by dl law I16 le = absurd (omega arith)
-byte_by dl law I32 le = absurd (omega arith)
-byte_by dl law I64 le = absurd (omega arith)
-byte_by dl law I128 le = absurd (omega arith)
+byte_by dl law _ le = absurd (omega arith)
 
 natural_is : (m n : ℕ) → pos m ≡ pos n → m ≡ n
 natural_is m n e = cc
@@ -365,8 +362,7 @@ module _ (dl : TargetDataLayout) where
 pub whole_align : (dl : TargetDataLayout) (repr : ReprOptions) (numbers : List ℕ) (variants : List (List Placed)) (layout : Layout) (vs : LayoutVariants ℕ ℕ)
     → align_in_bytes (placed_variants dl repr numbers variants layout vs) ≡ 2 ^ layout.align.abi
 whole_align dl repr numbers variants layout Empty = refl
-whole_align dl repr numbers variants layout (Single i) = refl
-whole_align dl repr numbers variants layout (Multiple tag encoding field layouts) = refl
+whole_align dl repr numbers variants layout _ = refl
 
 lone_join : (a n m : ℕ) → 0 < a → max (max a n) m ≡ max (max a n) (max (max a 1) m)
 lone_join a n m some =
@@ -481,12 +477,4 @@ module _ (dl : TargetDataLayout) where
       let some : 0 < align_in_bytes outer.0 = pow_pos (layout_of outer.0).align.abi in
       let one : max (align_in_bytes outer.0) 1 ≡ align_in_bytes outer.0 = omega arith in
       is ∙ sym (outer.2 ∙ ap₂ (λ a b. max a b) (pow_max dl.aggregate_align n) one)
-  only_raised_enum law (scalar s) p h inside = tt
-  only_raised_enum law unit p h inside = tt
-  only_raised_enum law (pair a b) p h inside = tt
-  only_raised_enum law never p h inside = tt
-  only_raised_enum law (array count element) p h inside = tt
-  only_raised_enum law (vector lanes packed element) p h inside = tt
-  only_raised_enum law (struct repr always_sized order all) p h inside = tt
-  only_raised_enum law (union repr all) p h inside = tt
-  only_raised_enum law (coroutine prefix locals states conflicts) p h inside = tt
+  only_raised_enum law _ p h inside = tt

@@ -5,7 +5,7 @@ use Rattle.abi_base.specs.declared.data_layout.TargetDataLayout.{TargetDataLayou
 use Rattle.abi_base.specs.DataLayout.{size_bound}
 use Rattle.abi_scalar.specs.declared.error.LayoutCalculatorError.TheVariants as calculator
 use Rattle.abi_univariant.specs.Array.{elements_layout}
-use Rattle.abi_tree.specs.Tree.{Tree, scalar, pair, never, unit, array, vector, struct, union, enum, coroutine}
+use Rattle.abi_tree.specs.Tree.{Tree, array}
 use Rattle.abi_tree.specs.Placed.{Placed, elements, layout_of, size_of}
 use Rattle.abi_scalar.specs.Layout.{Layout}
 use Rattle.rustc_abi.specs.Error.{named}
@@ -39,12 +39,4 @@ laid_array dl (array count element) p (inr (q, there, e)) =
     subst (IsArray (array count element))
     (elements_there (nat_lt (size_of q * count) (size_bound dl)) count (elements_layout 0 true count (layout_of q)) q p e)
     (elements_documented count element q)
-laid_array dl (scalar s) p h = tt
-laid_array dl (pair a b) p h = tt
-laid_array dl never p h = tt
-laid_array dl unit p h = tt
-laid_array dl (vector lanes packed element) p h = tt
-laid_array dl (struct repr always_sized order all) p h = tt
-laid_array dl (union repr all) p h = tt
-laid_array dl (enum repr all) p h = tt
-laid_array dl (coroutine prefix locals states conflicts) p h = tt
+laid_array dl _ p h = tt

@@ -15,7 +15,7 @@ use Rattle.abi_scalar.specs.declared.scalar.Scalar.{Scalar}
 use Rattle.abi_scalar.specs.Pair.{pair_align, pair_size, second_offset}
 use Rattle.abi_scalar.specs.Scalar.{primitive_of, scalar_size}
 use Rattle.abi_tree.specs.Placed.{Placed, size_of}
-use Rattle.abi_tree.specs.Tree.{Tree, scalar, pair, never, unit, array, vector, struct, union, enum, coroutine}
+use Rattle.abi_tree.specs.Tree.{Tree, scalar, pair}
 use Rattle.rustc_abi.specs.declared.error.LayError.{LayError}
 use Rattle.rustc_abi.specs.declared.error.LayError.TheVariants.{SizeOverflow}
 use Rattle.rustc_abi.specs.ScalarFault.{scalar_fault}
@@ -44,15 +44,7 @@ module _ (dl : TargetDataLayout) where
   pub laid_signless : (t : Tree) (p : Placed) → IsLaying dl t (Ok p) → IsSignless HasLayout t p
   laid_signless (scalar s) p h = λ i signed is t other q like there.
       scalar_extent s p h ∙ ap (primitive_extent dl) is ∙ sym (scalar_extent t q there ∙ ap (primitive_extent dl) like)
-  laid_signless unit p h = tt
-  laid_signless (pair a b) p h = tt
-  laid_signless never p h = tt
-  laid_signless (array count element) p h = tt
-  laid_signless (vector lanes packed element) p h = tt
-  laid_signless (struct repr always_sized order all) p h = tt
-  laid_signless (union repr all) p h = tt
-  laid_signless (enum repr all) p h = tt
-  laid_signless (coroutine prefix locals states conflicts) p h = tt
+  laid_signless _ p h = tt
 
   -- ---- thin pointers
 
@@ -64,15 +56,7 @@ module _ (dl : TargetDataLayout) where
       index_size dl.default_address_space_pointer_spec.pointer_offset law.index in
       let same : dl.default_address_space_pointer_spec.pointer_offset ≡ dl.default_address_space_pointer_spec.pointer_size = wide in
       omega arith
-  laid_addresses law wide unit p h = tt
-  laid_addresses law wide (pair a b) p h = tt
-  laid_addresses law wide never p h = tt
-  laid_addresses law wide (array count element) p h = tt
-  laid_addresses law wide (vector lanes packed element) p h = tt
-  laid_addresses law wide (struct repr always_sized order all) p h = tt
-  laid_addresses law wide (union repr all) p h = tt
-  laid_addresses law wide (enum repr all) p h = tt
-  laid_addresses law wide (coroutine prefix locals states conflicts) p h = tt
+  laid_addresses law wide _ p h = tt
 
   known_by : (b : Bool) → b ≡ true → (spec other : Option PointerSpec) → (if b then spec else other) ≡ spec
   known_by true e spec other = refl
@@ -88,15 +72,7 @@ module _ (dl : TargetDataLayout) where
       ∙ ap (λ (x : PointerSpec). let e : Extent = record { size = x.pointer_size; align = 2 ^ x.pointer_align } in e) same
       ∙ ap₂ (λ (n a : ℕ). let e : Extent = record { size = n; align = 2 ^ a } in e) size (sym wide.1)
       ∙ sym (scalar_extent t q there ∙ ap (primitive_extent dl) like)
-  laid_thin law wide unit p h = tt
-  laid_thin law wide (pair a b) p h = tt
-  laid_thin law wide never p h = tt
-  laid_thin law wide (array count element) p h = tt
-  laid_thin law wide (vector lanes packed element) p h = tt
-  laid_thin law wide (struct repr always_sized order all) p h = tt
-  laid_thin law wide (union repr all) p h = tt
-  laid_thin law wide (enum repr all) p h = tt
-  laid_thin law wide (coroutine prefix locals states conflicts) p h = tt
+  laid_thin law wide _ p h = tt
 
   -- ---- wide ones
 
@@ -119,12 +95,4 @@ module _ (dl : TargetDataLayout) where
       let own_size : size_of thin ≡ scalar_size dl a = ap (λ (e : Extent). e.size) one in
       let own_align : align_in_bytes thin ≡ 2 ^ primitive_align dl (primitive_of a) = ap (λ (e : Extent). e.align) one in
       (omega (arith, first, end, size, own_size), omega (arith, high, align, own_align))
-  laid_wide (scalar s) p h = tt
-  laid_wide unit p h = tt
-  laid_wide never p h = tt
-  laid_wide (array count element) p h = tt
-  laid_wide (vector lanes packed element) p h = tt
-  laid_wide (struct repr always_sized order all) p h = tt
-  laid_wide (union repr all) p h = tt
-  laid_wide (enum repr all) p h = tt
-  laid_wide (coroutine prefix locals states conflicts) p h = tt
+  laid_wide _ p h = tt

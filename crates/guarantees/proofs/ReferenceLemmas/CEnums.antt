@@ -22,9 +22,9 @@ use Rattle.abi_calc.specs.Enums.EnumStrategy.{is_free}
 use Rattle.abi_calc.specs.Enums.Tagged.{layout_with_view, lists_align, lists_size}
 use Rattle.abi_tree.specs.Mark.{mark_of}
 use Rattle.abi_tree.specs.declared.mark.Mark.{Mark}
-use Rattle.abi_tree.specs.Placed.{Placed, layout_of, scalar as one_number, pair as two, never as nowhere, elements, vector as lanes_of, fields, union as together, single, tagged, states}
+use Rattle.abi_tree.specs.Placed.{Placed, layout_of, tagged}
 use Rattle.abi_scalar.specs.Layout.{Layout}
-use Rattle.abi_tree.specs.Tree.{Tree, Variants, scalar, pair, never, unit, array, vector, struct, union, enum, coroutine}
+use Rattle.abi_tree.specs.Tree.{Tree, Variants, enum}
 use Rattle.rustc_abi.specs.Enums.{tagged_variants_at, discriminants_of, layouts_of}
 use Rattle.rustc_abi.specs.Laying.{IsLaying, VariantsLaying, enum_fault, placed_enum}
 use Rattle.guarantees.proofs.ReferenceLemmas.Answers.{numbers_for}
@@ -263,15 +263,7 @@ c_is_asked repr c = ap not (true_or (is_c repr) (is_some repr.int) c)
 
 not_plain : (dl : TargetDataLayout) (repr : ReprOptions) (all : Variants) → (IsPlainC repr → ⊥) → (p : Placed) → IsCEnum dl (enum repr all) p
 not_plain dl repr all isnt (tagged layout mark offset tag encoding tagged_variants) = λ plain. absurd (isnt plain)
-not_plain dl repr all isnt (one_number layout s) = λ plain. absurd (isnt plain)
-not_plain dl repr all isnt (two layout parts) = λ plain. absurd (isnt plain)
-not_plain dl repr all isnt (nowhere layout mark) = λ plain. absurd (isnt plain)
-not_plain dl repr all isnt (elements layout count element) = λ plain. absurd (isnt plain)
-not_plain dl repr all isnt (lanes_of layout lanes) = λ plain. absurd (isnt plain)
-not_plain dl repr all isnt (fields layout mark parts) = λ plain. absurd (isnt plain)
-not_plain dl repr all isnt (together layout mark parts) = λ plain. absurd (isnt plain)
-not_plain dl repr all isnt (single layout mark index parts) = λ plain. absurd (isnt plain)
-not_plain dl repr all isnt (states layout prefix offset tag tagged_variants) = λ plain. absurd (isnt plain)
+not_plain dl repr all isnt _ = λ plain. absurd (isnt plain)
 
 module _ (dl : TargetDataLayout) (law : IsLawfulDataLayout dl) (byte : dl.aggregate_align ≡ 0) (repr : ReprOptions) (all : Variants) where
   abbrev numbers : List ℕ
@@ -331,12 +323,4 @@ module _ (dl : TargetDataLayout) (law : IsLawfulDataLayout dl) (byte : dl.aggreg
 pub laid_c_enum : (dl : TargetDataLayout) → dl.aggregate_align ≡ 0 → IsLawfulDataLayout dl → (t : Tree) (p : Placed) → IsLaying dl t (Ok p)
     → IsCEnum dl t p
 laid_c_enum dl byte law (enum repr all) p h = enum_in_c dl law byte repr all p h
-laid_c_enum dl byte law (struct repr always_sized order all) p h = tt
-laid_c_enum dl byte law (union repr all) p h = tt
-laid_c_enum dl byte law (array count element) p h = tt
-laid_c_enum dl byte law (scalar s) p h = tt
-laid_c_enum dl byte law (pair a b) p h = tt
-laid_c_enum dl byte law never p h = tt
-laid_c_enum dl byte law unit p h = tt
-laid_c_enum dl byte law (vector lanes packed element) p h = tt
-laid_c_enum dl byte law (coroutine prefix locals each conflicts) p h = tt
+laid_c_enum dl byte law _ p h = tt

@@ -16,7 +16,7 @@ use Rattle.abi_univariant.specs.Placement.{cut, end_from, fields_repr, offsets_f
 use Rattle.abi_tree.specs.Nodes.{parts_at}
 use Rattle.abi_tree.specs.Placed.{Placed, layout_of}
 use Rattle.abi_scalar.specs.Layout.{Layout}
-use Rattle.abi_tree.specs.Tree.{Tree, Trees, scalar, pair, never, unit, array, vector, struct, union, enum, coroutine}
+use Rattle.abi_tree.specs.Tree.{Tree, Trees, struct}
 use Rattle.rustc_abi.specs.declared.error.LayError.{LayError}
 use Rattle.rustc_abi.specs.Error.{Follows}
 use Rattle.rustc_abi.specs.Laying.{AreLaying, IsLaying, IsLaidList, fields_fault, kind_of, placed_fields}
@@ -144,28 +144,10 @@ pub laid_c_struct : (dl : TargetDataLayout) → dl.aggregate_align ≡ 0 → (t 
 laid_c_struct dl byte (struct repr always_sized None all) p h =
     struct_has dl repr always_sized all (IsCStruct (struct repr always_sized None all))
     (λ ps layout are listed. c_listed dl repr always_sized all ps layout byte are listed) p h
-laid_c_struct dl byte (struct repr always_sized (Some order) all) p h = tt
-laid_c_struct dl byte (array count element) p h = tt
-laid_c_struct dl byte (scalar s) p h = tt
-laid_c_struct dl byte (pair a b) p h = tt
-laid_c_struct dl byte never p h = tt
-laid_c_struct dl byte unit p h = tt
-laid_c_struct dl byte (vector lanes packed element) p h = tt
-laid_c_struct dl byte (union repr all) p h = tt
-laid_c_struct dl byte (enum repr all) p h = tt
-laid_c_struct dl byte (coroutine prefix locals states conflicts) p h = tt
+laid_c_struct dl byte _ p h = tt
 
 pub laid_packed_c : (dl : TargetDataLayout) → IsLawfulDataLayout dl → (t : Tree) (p : Placed) → IsLaying dl t (Ok p) → IsPackedC t p
 laid_packed_c dl law (struct repr always_sized None all) p h =
     struct_has dl repr always_sized all (IsPackedC (struct repr always_sized None all))
     (λ ps layout are listed. packed_listed dl repr always_sized all ps layout law are listed) p h
-laid_packed_c dl law (struct repr always_sized (Some order) all) p h = tt
-laid_packed_c dl law (array count element) p h = tt
-laid_packed_c dl law (scalar s) p h = tt
-laid_packed_c dl law (pair a b) p h = tt
-laid_packed_c dl law never p h = tt
-laid_packed_c dl law unit p h = tt
-laid_packed_c dl law (vector lanes packed element) p h = tt
-laid_packed_c dl law (union repr all) p h = tt
-laid_packed_c dl law (enum repr all) p h = tt
-laid_packed_c dl law (coroutine prefix locals states conflicts) p h = tt
+laid_packed_c dl law _ p h = tt

@@ -1,14 +1,14 @@
 -- The tag of each `repr(C)` enum that was laid out is C's integer, where none is named.
 use Rattle.std.proofs.Common.{◌≡◌, ℕ, ◌+◌, ◌-◌, ◌*◌, ◌%◌, ◌^◌, ◌<◌, ◌≤◌, Bool, true, false, List, [], ◌∷◌, Option, None, Some, map, cond, get_or, refl, sym, ap, ap₂, ◌∙◌, subst, arith, inl, inr, Ok}
-use Rattle.std.specs.Prelude.{◌&&◌, ◌||◌, ◌⊎◌, ⊤, All, IsSome, filter, min, not, nat_le, nat_lt, option_map, unwrap_or, ℤ, pos, negsuc, ◌≤ℤ◌, ◌-ℤ◌, if◌then◌else◌}
+use Rattle.std.specs.Prelude.{◌&&◌, ◌||◌, ⊤, All, IsSome, filter, min, not, nat_le, nat_lt, option_map, unwrap_or, ℤ, pos, negsuc, ◌≤ℤ◌, if◌then◌else◌}
 use Rattle.std.specs.List.{list_all}
-use Rattle.std.proofs.lemmas.Bool.{and_from, and_parts, le-leb, le-ltb, leb-true, lt-ltb, ltb-true, or_cases}
+use Rattle.std.proofs.lemmas.Bool.{and_from, and_parts, le-leb, leb-true, lt-ltb, ltb-true}
 use Rattle.std.proofs.lemmas.Int.{ints}
 use Rattle.std.proofs.lemmas.List.Elements.{All-cons, All-contains, All-head, All-map, All-nil, All-tail, All-weaker}
 use Rattle.std.proofs.lemmas.Nat.{pow_pos}
 use Rattle.abi_base.specs.declared.data_layout.TargetDataLayout.{TargetDataLayout}
 use Rattle.abi_base.specs.declared.integer.Integer.{Integer}
-use Rattle.abi_base.specs.declared.integer.Integer.TheVariants.{I8, I16, I32, I64, I128}
+use Rattle.abi_base.specs.declared.integer.Integer.TheVariants.{I8, I128}
 use Rattle.abi_base.specs.declared.integer.IntegerType.{IntegerType}
 use Rattle.abi_base.specs.declared.integer.IntegerType.TheVariants.{Pointer}
 use Rattle.abi_base.specs.DataLayout.{IsLawfulDataLayout, IsPointerWidth, index_integer}
@@ -19,73 +19,20 @@ use Rattle.abi_scalar.specs.declared.repr.ReprOptions.{ReprOptions}
 use Rattle.abi_scalar.specs.Repr.{discr_type_of, is_c}
 use Rattle.abi_calc.specs.Enums.EnumStrategy.{has_no_value, variant_at}
 use Rattle.abi_calc.specs.Enums.Discriminants.{IsAskedWith, IsGreatestOf, IsLeastOf, counts, meant_by}
-use Rattle.abi_tree.specs.Placed.{Placed, scalar as one_number, pair as two, never as nowhere, elements, vector as lanes_of, fields, union as together, single, tagged, states}
+use Rattle.abi_tree.specs.Placed.{Placed, tagged}
 use Rattle.abi_scalar.specs.Layout.{Layout}
-use Rattle.abi_tree.specs.Tree.{Tree, Variants, no_variants, more_variants, scalar, pair, never, unit, array, vector, struct, union, enum, coroutine}
-use Rattle.rustc_abi.specs.declared.error.LayError.{LayError}
-use Rattle.rustc_abi.specs.declared.error.LayError.TheVariants.{BadAlign, BadIndex, DiscriminantTooWide, DuplicateDiscriminant}
+use Rattle.abi_tree.specs.Tree.{Tree, Variants, no_variants, more_variants, enum}
 use Rattle.rustc_abi.specs.Enums.{counted, discriminants_of, has_equal, holds_both, is_discriminant, is_negative, layouts_of, least_integer, least_tag, numbered_from, tag_integer}
 use Rattle.rustc_abi.specs.Laying.{IsLaying, VariantsLaying, enum_fault, has_bad_align, has_bad_index, placed_enum}
 use Rattle.guarantees.specs.Reference.CStruct.{IsPlainC}
 use Rattle.guarantees.specs.Reference.FieldEnums.{IsCTag}
 use Rattle.guarantees.specs.Reference.Tags.{HasEnumsOfIndex, HoldsEach, IsCEnumInteger, IsOf, IsTagInteger, discriminants}
-use Rattle.guarantees.proofs.Integers.{first_integer}
+use Rattle.guarantees.proofs.Enumed.{fitting}
+use Rattle.guarantees.proofs.Integers.{IsSignedIn, first_integer, half_below, meaning, meant_high, meant_low, signed_by, whole_below}
 use Rattle.guarantees.proofs.ReferenceLemmas.Beside.{index_size}
 use Rattle.guarantees.proofs.ReferenceLemmas.CEnums.{c_is_asked}
 use Rattle.guarantees.proofs.ReferenceLemmas.EnumLists.{IsTaggedBehind, of_tagged}
 use Rattle.guarantees.proofs.ReferenceLemmas.PrimitiveEnums.{named_tag}
-
--- ---- what a number of 128 bits stands for
-
--- a number of the signed integer, in two's complement of 128 bits
-abbrev IsSignedIn : Integer → ℕ → Type 0
-IsSignedIn i n = (n < 2 ^ 128) × ((n < 2 ^ (integer_size i * 8 - 1)) ⊎ (2 ^ 128 - 2 ^ (integer_size i * 8 - 1) ≤ n))
-
-abbrev meaning : Integer → ℕ → ℤ
-meaning i n = signed_value (integer_size i * 8) (n % 2 ^ (integer_size i * 8))
-
-low_kept : (i : Integer) (n : ℕ) → n < 2 ^ (integer_size i * 8 - 1) → n % 2 ^ (integer_size i * 8) ≡ n
-low_kept I8 n low = omega arith
-low_kept I16 n low = omega arith
-low_kept I32 n low = omega arith
-low_kept I64 n low = omega arith
-low_kept I128 n low = omega arith
-
-high_moved : (i : Integer) (n : ℕ) → n < 2 ^ 128 → 2 ^ 128 - 2 ^ (integer_size i * 8 - 1) ≤ n → n % 2 ^ (integer_size i * 8) + 2 ^ 128 ≡ n + 2 ^ (integer_size i * 8)
-high_moved I8 n short high = omega arith
-high_moved I16 n short high = omega arith
-high_moved I32 n short high = omega arith
-high_moved I64 n short high = omega arith
-high_moved I128 n short high = omega arith
-
-half_below : (i : Integer) → 2 ^ (integer_size i * 8 - 1) + 2 ^ (integer_size i * 8 - 1) ≡ 2 ^ (integer_size i * 8)
-half_below I8 = refl
-half_below I16 = refl
-half_below I32 = refl
-half_below I64 = refl
-half_below I128 = refl
-
-whole_below : (i : Integer) → 2 ^ (integer_size i * 8) ≤ 2 ^ 128
-whole_below I8 = omega arith
-whole_below I16 = omega arith
-whole_below I32 = omega arith
-whole_below I64 = omega arith
-whole_below I128 = omega arith
-
-meant_low : (i : Integer) (n : ℕ) → n < 2 ^ (integer_size i * 8 - 1) → meaning i n ≡ pos n
-meant_low i n low =
-    let kept : n % 2 ^ (integer_size i * 8) ≡ n = low_kept i n low in
-    rw kept (ap (λ b. cond b (pos n) (pos n -ℤ pos (2 ^ (integer_size i * 8)))) (lt-ltb n (2 ^ (integer_size i * 8 - 1)) low))
-
-negative : (cut whole n : ℕ) → cut + 2 ^ 128 ≡ n + whole → n < 2 ^ 128 → pos cut -ℤ pos whole ≡ negsuc (2 ^ 128 - 1 - n)
-negative cut whole n moved short = omega (arith, ints)
-
-meant_high : (i : Integer) (n : ℕ) → n < 2 ^ 128 → 2 ^ 128 - 2 ^ (integer_size i * 8 - 1) ≤ n → meaning i n ≡ negsuc (2 ^ 128 - 1 - n)
-meant_high i n short high =
-    let moved = high_moved i n short high in
-    let cut : ℕ = n % 2 ^ (integer_size i * 8) in
-    ap (λ b. cond b (pos cut) (pos cut -ℤ pos (2 ^ (integer_size i * 8)))) (le-ltb cut (2 ^ (integer_size i * 8 - 1)) (omega (arith, moved, half_below i, whole_below i, high)))
-    ∙ negative cut (2 ^ (integer_size i * 8)) n (omega (arith, moved)) short
 
 -- ---- numbers between the ends
 
@@ -111,17 +58,11 @@ own_within t n (short, inr high) = subst (IsWithin t) (sym (meant_high t n short
 
 half_small : (i : Integer) → 2 ^ (integer_size i * 8 - 1) ≤ 2 ^ 127
 half_small I8 = omega arith
-half_small I16 = omega arith
-half_small I32 = omega arith
-half_small I64 = omega arith
-half_small I128 = omega arith
+half_small _ = omega arith
 
 half_narrow : (i : Integer) → integer_size i ≤ 8 → 2 ^ (integer_size i * 8 - 1) ≤ 2 ^ 63
-half_narrow I8 le = omega arith
-half_narrow I16 le = omega arith
-half_narrow I32 le = omega arith
-half_narrow I64 le = omega arith
 half_narrow I128 le = absurd (omega arith)
+half_narrow _ le = omega arith
 
 -- another integer that has the number has what it stands for
 other_within : (t j : Integer) (n : ℕ) → integer_size t ≤ 8 → IsSignedIn t n → IsOf true (integer_size j * 8) n → IsWithin j (meaning t n)
@@ -247,18 +188,6 @@ is_of dl type n =
     if is_signed_type type then nat_lt n half || (nat_le (2 ^ 128 - half) n && nat_lt n (2 ^ 128))
     else nat_lt n (2 ^ (integer_size (integer_of_type dl type) * 8))
 
-signed_by : (i : Integer) (n : ℕ)
-    → (nat_lt n (2 ^ (integer_size i * 8 - 1)) || (nat_le (2 ^ 128 - 2 ^ (integer_size i * 8 - 1)) n && nat_lt n (2 ^ 128))) ≡ true → IsSignedIn i n
-signed_by i n is =
-    let half : ℕ = 2 ^ (integer_size i * 8 - 1) in
-    elim (or_cases (nat_lt n half) (nat_le (2 ^ 128 - half) n && nat_lt n (2 ^ 128)) is) [
-      | inl h ↦
-          let small : n < half = ltb-true n half h in (omega (arith, small, half_below i, whole_below i), inl small)
-      | inr h ↦
-          let both = and_parts (nat_le (2 ^ 128 - half) n) (nat_lt n (2 ^ 128)) h in
-          (ltb-true n (2 ^ 128) both.1, inr (leb-true (2 ^ 128 - half) n both.0))
-    ]
-
 module _ (dl : TargetDataLayout) (law : IsLawfulDataLayout dl) (repr : ReprOptions) (isize : discr_type_of repr ≡ Pointer true) where
   abbrev index_type : Integer
   index_type = index_integer dl.default_address_space_pointer_spec.pointer_offset
@@ -313,14 +242,6 @@ module _ (dl : TargetDataLayout) (law : IsLawfulDataLayout dl) (repr : ReprOptio
 
 -- ---- the tag
 
-fitting : (index align equal fits : Bool) → ◌≡◌ {A = Option LayError} (if index then Some BadIndex else (if align then Some BadAlign
-    else (if equal then Some DuplicateDiscriminant else (if not fits then Some DiscriminantTooWide else None)))) None → fits ≡ true
-fitting true align equal fits e = absurd (cc)
-fitting false true equal fits e = absurd (cc)
-fitting false false true fits e = absurd (cc)
-fitting false false false true e = refl
-fitting false false false false e = absurd (cc)
-
 pub same_numbers : (all : Variants) → discriminants_of all ≡ discriminants all
 same_numbers no_variants = refl
 same_numbers (more_variants d ts others) = ap (λ (ns : List ℕ). d ∷ ns) (same_numbers others)
@@ -333,15 +254,7 @@ unnamed dl repr least greatest none =
 
 not_plain : (dl : TargetDataLayout) (repr : ReprOptions) (all : Variants) → (IsPlainC repr → ⊥) → (p : Placed) → IsCTag dl (enum repr all) p
 not_plain dl repr all isnt (tagged layout mark offset tag encoding tagged_variants) = λ plain. absurd (isnt plain)
-not_plain dl repr all isnt (one_number layout s) = tt
-not_plain dl repr all isnt (two layout parts) = tt
-not_plain dl repr all isnt (nowhere layout mark) = tt
-not_plain dl repr all isnt (elements layout count element) = tt
-not_plain dl repr all isnt (lanes_of layout lanes) = tt
-not_plain dl repr all isnt (fields layout mark parts) = tt
-not_plain dl repr all isnt (together layout mark parts) = tt
-not_plain dl repr all isnt (single layout mark index parts) = tt
-not_plain dl repr all isnt (states layout prefix offset tag tagged_variants) = tt
+not_plain dl repr all isnt _ = tt
 
 module _ (dl : TargetDataLayout) (law : IsLawfulDataLayout dl) (enough : HasEnumsOfIndex dl) (repr : ReprOptions) (all : Variants) where
   abbrev numbers : List ℕ
@@ -378,12 +291,4 @@ module _ (dl : TargetDataLayout) (law : IsLawfulDataLayout dl) (enough : HasEnum
 
 pub laid_c_tag : (dl : TargetDataLayout) → HasEnumsOfIndex dl → IsLawfulDataLayout dl → (t : Tree) (p : Placed) → IsLaying dl t (Ok p) → IsCTag dl t p
 laid_c_tag dl enough law (enum repr all) p h = enum_tag dl law enough repr all p h
-laid_c_tag dl enough law (struct repr always_sized order all) p h = tt
-laid_c_tag dl enough law (union repr all) p h = tt
-laid_c_tag dl enough law (array count element) p h = tt
-laid_c_tag dl enough law (scalar s) p h = tt
-laid_c_tag dl enough law (pair a b) p h = tt
-laid_c_tag dl enough law never p h = tt
-laid_c_tag dl enough law unit p h = tt
-laid_c_tag dl enough law (vector lanes packed element) p h = tt
-laid_c_tag dl enough law (coroutine prefix locals each conflicts) p h = tt
+laid_c_tag dl enough law _ p h = tt

@@ -11,7 +11,7 @@ use Rattle.abi_base.specs.declared.data_layout.TargetDataLayout.{TargetDataLayou
 use Rattle.abi_base.specs.declared.struct_kind.StructKind.TheVariants.{AlwaysSized}
 use Rattle.abi_base.specs.DataLayout.{default_data_layout}
 use Rattle.abi_base.specs.declared.integer.Integer.{Integer}
-use Rattle.abi_base.specs.declared.integer.Integer.TheVariants.{I8, I16, I32, I64, I128}
+use Rattle.abi_base.specs.declared.integer.Integer.TheVariants.{I8, I16, I32, I64}
 use Rattle.abi_base.specs.declared.primitive.Primitive.TheVariants.{Int, Pointer}
 use Rattle.abi_base.specs.Integer.{integer_align, integer_size}
 use Rattle.abi_scalar.specs.declared.repr.ReprOptions.{ReprOptions}
@@ -184,10 +184,7 @@ fieldless (tagged_variant number layout mark (part offset placed parts) tagged_v
 
 four_at_most : (i : Integer) → 2 ^ integer_align aligned_aggregates i ≤ 4
 four_at_most I8 = lit≤ tt
-four_at_most I16 = lit≤ tt
-four_at_most I32 = lit≤ tt
-four_at_most I64 = lit≤ tt
-four_at_most I128 = lit≤ tt
+four_at_most _ = lit≤ tt
 
 pub c_enum_departs : (p : Placed) → IsLaying aligned_aggregates (enum c lone) (Ok p) → IsCEnum aligned_aggregates (enum c lone) p → ⊥
 c_enum_departs p h = lone_has aligned_aggregates (λ q. IsCEnum aligned_aggregates (enum c lone) q → ⊥)
@@ -372,10 +369,8 @@ two_orders order permuted = by order (length_permutation (0 ∷ 1 ∷ []) order 
     of_two x y (inr a) e = inr (ap₂ (λ (m n : ℕ). m ∷ n ∷ []) a (omega arith))
 
     by : (order : List ℕ) → length order ≡ 2 → All (λ i. (i ≡ 0) ⊎ (i ≡ 1)) order → sum_by (λ i. i) order ≡ 1 → (order ≡ 0 ∷ 1 ∷ []) ⊎ (order ≡ 1 ∷ 0 ∷ [])
-    by [] long all e = absurd (omega arith)
-    by (x ∷ []) long all e = absurd (omega arith)
-    by (x ∷ y ∷ z ∷ more) long all e = absurd (omega arith)
     by (x ∷ y ∷ []) long all e = of_two x y (All-head (λ i. (i ≡ 0) ⊎ (i ≡ 1)) x (y ∷ []) all) e
+    by _ long all e = absurd (omega arith)
 
 abbrev asked : List Part
 asked = parts_asked default_data_layout (layout_of word ∷ layout_of shorts ∷ [])

@@ -9,7 +9,7 @@ use Rattle.abi_tree.specs.declared.laid.Laid.{Laid}
 use Rattle.abi_tree.specs.Laid.{placed_of}
 use Rattle.abi_tree.specs.Nodes.{parts_at, parts_at_0}
 use Rattle.abi_tree.specs.Placed.{Placed, Parts, TaggedVariants, nothing_tagged, tagged_variant, element_of, first_part, layout_of, more_parts, parts_in, scalar as one_number, pair as two, never as nowhere, elements, vector as lanes_of, fields, union as together, single, tagged, states as in_states}
-use Rattle.abi_tree.specs.Tree.{Tree, Trees, no_trees, more_trees, Variants, no_variants, more_variants, scalar, pair, never, unit, array, vector, struct, union, enum, coroutine}
+use Rattle.abi_tree.specs.Tree.{Tree, Trees, no_trees, more_trees, Variants, no_variants, more_variants, array, vector, struct, union, enum, coroutine}
 use Rattle.rustc_abi.specs.declared.error.LayError.{LayError}
 use Rattle.rustc_abi.specs.Everywhere.{ByThemselves, Everywhere, OfAbsent, OfTaggedVariants, OfEach, OfVariant, Within}
 use Rattle.rustc_abi.specs.Laying.{AreLaying, IsLaying}
@@ -21,10 +21,6 @@ use Rattle.rustc_abi.specs.Orders.{LiesAsAsked}
 module _ (dl : TargetDataLayout) (P Q : Tree → Placed → Type 0) (each : (t : Tree) (p : Placed) → P t p → Within dl P t p → Q t p) where
   mutual
     within : (t : Tree) (p : Placed) → Within dl P t p → Within dl Q t p
-    within (scalar s) p h = tt
-    within (pair a b) p h = tt
-    within never p h = tt
-    within unit p h = tt
     within (array count element) p h = (each element (element_of p) h.0 h.1, within element (element_of p) h.1)
     within (vector lanes packed element) p h =
         (each element (element_of (element_of p)) h.0 h.1, within element (element_of (element_of p)) h.1)
@@ -51,6 +47,7 @@ module _ (dl : TargetDataLayout) (P Q : Tree → Placed → Type 0) (each : (t :
     within (coroutine prefix locals all conflicts) (lanes_of layout lanes) h = absurd h
     within (coroutine prefix locals all conflicts) (fields layout mark parts) h = absurd h
     within (coroutine prefix locals all conflicts) (together layout mark parts) h = absurd h
+    within _ p h = tt
 
     of_each : (ts : Trees) (parts : Parts) → OfEach dl P ts parts → OfEach dl Q ts parts
     of_each no_trees parts h = tt
@@ -122,10 +119,6 @@ module _ (dl : TargetDataLayout) (P Q : Tree → Placed → Type 0) (one : (t : 
 
   mutual
     both_within : (t : Tree) (p : Placed) → Within dl P t p → Within dl Q t p → Within dl Both t p
-    both_within (scalar s) p h k = tt
-    both_within (pair a b) p h k = tt
-    both_within never p h k = tt
-    both_within unit p h k = tt
     both_within (array count element) p h k = ((h.0, k.0), both_within element (element_of p) h.1 k.1)
     both_within (vector lanes packed element) p h k = ((h.0, k.0), both_within element (element_of (element_of p)) h.1 k.1)
     both_within (struct repr always_sized order all) p h k = both_of_each all (parts_in p) h k
@@ -152,6 +145,7 @@ module _ (dl : TargetDataLayout) (P Q : Tree → Placed → Type 0) (one : (t : 
     both_within (coroutine prefix locals all conflicts) (lanes_of layout lanes) h k = absurd h
     both_within (coroutine prefix locals all conflicts) (fields layout mark parts) h k = absurd h
     both_within (coroutine prefix locals all conflicts) (together layout mark parts) h k = absurd h
+    both_within _ p h k = tt
 
     both_of_each : (ts : Trees) (parts : Parts) → OfEach dl P ts parts → OfEach dl Q ts parts → OfEach dl Both ts parts
     both_of_each no_trees parts h k = tt

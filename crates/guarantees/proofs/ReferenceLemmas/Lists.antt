@@ -1,5 +1,5 @@
 -- Lists of fields in source order, as the C algorithm has them.
-use Rattle.std.proofs.Common.{◌≡◌, ℕ, ◌+◌, ◌-◌, ◌%◌, ◌^◌, ◌<◌, ◌≤◌, Bool, true, false, List, [], ◌∷◌, Option, None, Some, length, map, get_or, refl, sym, ap, ap₂, ◌∙◌, subst, arith, inl, inr, ⊎_elim, Ok}
+use Rattle.std.proofs.Common.{◌≡◌, ℕ, ◌+◌, ◌-◌, ◌%◌, ◌^◌, ◌<◌, ◌≤◌, Bool, true, false, List, [], ◌∷◌, Option, None, Some, length, map, get_or, refl, sym, ap, ap₂, ◌∙◌, subst, arith, inl, inr, ◌⊎◌, ⊎_elim, Ok}
 use Rattle.std.specs.Prelude.{◌==◌, ◌||◌, MatchBool, MatchOption, max, min, fold, not, is_some, slice_index, nat_lt, if◌then◌else◌}
 use Rattle.std.specs.Int.{next_multiple_of}
 use Rattle.std.specs.Int.RustNames.{bit_and}
@@ -48,21 +48,19 @@ round_by n m positive false is =
 pub rounded : (n align : ℕ) → rounded_up n (2 ^ align) ≡ next_multiple_of n (2 ^ align)
 rounded n align = round_by n (2 ^ align) (pow_pos align) (nat_lt 0 (n % 2 ^ align)) refl
 
+-- powers lie as their exponents
+powers : (a b : ℕ) → ((a < b) × (2 ^ a ≤ 2 ^ b)) ⊎ ((b ≤ a) × (2 ^ b ≤ 2 ^ a))
+powers a b = ⊎_elim (λ (lt : a < b). inl (lt, pow_mono {i = a} {j = b} (omega arith))) (λ (le : b ≤ a). inr (le, pow_mono {i = b} {j = a} le)) (cases_lt a b)
+
 pub pow_max : (a b : ℕ) → 2 ^ max a b ≡ max (2 ^ a) (2 ^ b)
 pow_max a b = ⊎_elim
-    (λ (lt : a < b). let up : 2 ^ a ≤ 2 ^ b = pow_mono {i = a} {j = b} (omega arith) in
-    ap (λ k. 2 ^ k) (omega arith) ∙ (let is : 2 ^ b ≡ max (2 ^ a) (2 ^ b) = omega arith in is))
-    (λ (le : b ≤ a). let up : 2 ^ b ≤ 2 ^ a = pow_mono {i = b} {j = a} le in
-    ap (λ k. 2 ^ k) (omega arith) ∙ (let is : 2 ^ a ≡ max (2 ^ a) (2 ^ b) = omega arith in is))
-    (cases_lt a b)
+    (λ h. ap (λ k. 2 ^ k) (omega (arith, h.0)) ∙ (let is : 2 ^ b ≡ max (2 ^ a) (2 ^ b) = omega (arith, h.1) in is))
+    (λ h. ap (λ k. 2 ^ k) (omega (arith, h.0)) ∙ (let is : 2 ^ a ≡ max (2 ^ a) (2 ^ b) = omega (arith, h.1) in is)) (powers a b)
 
 pub pow_min : (a b : ℕ) → 2 ^ min a b ≡ min (2 ^ b) (2 ^ a)
 pow_min a b = ⊎_elim
-    (λ (lt : a < b). let up : 2 ^ a ≤ 2 ^ b = pow_mono {i = a} {j = b} (omega arith) in
-    ap (λ k. 2 ^ k) (omega arith) ∙ (let is : 2 ^ a ≡ min (2 ^ b) (2 ^ a) = omega arith in is))
-    (λ (le : b ≤ a). let up : 2 ^ b ≤ 2 ^ a = pow_mono {i = b} {j = a} le in
-    ap (λ k. 2 ^ k) (omega arith) ∙ (let is : 2 ^ b ≡ min (2 ^ b) (2 ^ a) = omega arith in is))
-    (cases_lt a b)
+    (λ h. ap (λ k. 2 ^ k) (omega (arith, h.0)) ∙ (let is : 2 ^ a ≡ min (2 ^ b) (2 ^ a) = omega (arith, h.1) in is))
+    (λ h. ap (λ k. 2 ^ k) (omega (arith, h.0)) ∙ (let is : 2 ^ b ≡ min (2 ^ b) (2 ^ a) = omega (arith, h.1) in is)) (powers a b)
 
 -- ---- `repr(C)` fixes the order
 

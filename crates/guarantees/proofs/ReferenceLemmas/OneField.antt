@@ -54,6 +54,14 @@ no_room from (x ∷ row) none h = by (is_bulky x) refl (λ rest. no_room (x.0 + 
         let rest : count_by is_bulky row ≡ 0 = omega (arith, counted x row) in
         later rest ∙ next
 
+-- one that doesn't count at 0 leaves the next there, and the one that counts to the others
+passed : (x : ℕ × Part) (row : List (ℕ × Part)) → is_bulky x ≡ false → count_by is_bulky (x ∷ row) ≡ 1 → InARow None 0 (x ∷ row) → (x.0 + x.1.size ≡ 0) × (count_by is_bulky row ≡ 1)
+passed x row is one h =
+    let none : cond {A = ℕ} (is_bulky x) 1 0 ≡ 0 = ap (λ (b : Bool). cond {A = ℕ} b 1 0) is in
+    let own = no_bytes x is in
+    let at : x.0 ≡ 0 = h.0 ∙ round_multiple 0 x.1.align (dvd-zero (2 ^ x.1.align)) in
+    (omega (arith, at, own.0), omega (arith, counted x row))
+
 -- where one counts, all end where that does, which begins at 0
 pub one_room : (size : ℕ) (row : List (ℕ × Part)) → All (λ x. is_bulky x ≡ true → x.1.size ≡ size) row → count_by is_bulky row ≡ 1
     → InARow None 0 row → row_end 0 row ≡ size
@@ -71,13 +79,9 @@ one_room size (x ∷ row) each one h = by (is_bulky x) refl (λ all rest here. o
         let next : x.0 + x.1.size ≡ size = omega (arith, at, own) in
         no_room (x.0 + x.1.size) row rest h.1 ∙ next
     by false is later =
-        let none : cond {A = ℕ} (is_bulky x) 1 0 ≡ 0 = ap (λ (b : Bool). cond {A = ℕ} b 1 0) is in
-        let own = no_bytes x is in
-        let at : x.0 ≡ 0 = h.0 ∙ round_multiple 0 x.1.align (dvd-zero (2 ^ x.1.align)) in
-        let next : x.0 + x.1.size ≡ 0 = omega (arith, at, own.0) in
-        let rest : count_by is_bulky row ≡ 1 = omega (arith, counted x row) in
-        ap (λ n. row_end n row) next
-        ∙ later (All-tail (λ x. is_bulky x ≡ true → x.1.size ≡ size) x row each) rest (subst (λ n. InARow None n row) next h.1)
+        let past = passed x row is one h in
+        ap (λ n. row_end n row) past.0
+        ∙ later (All-tail (λ x. is_bulky x ≡ true → x.1.size ≡ size) x row each) past.1 (subst (λ n. InARow None n row) past.0 h.1)
 
 -- ---- where the one that counts lies
 
@@ -107,13 +111,9 @@ at_first (x ∷ row) one h = by (is_bulky x) refl (λ rest here. at_first row re
         let rest : count_by is_bulky row ≡ 0 = omega (arith, counted x row) in
         All-cons IsFirst x row (λ own. at) (none_counts row rest)
     by false is later =
-        let none : cond {A = ℕ} (is_bulky x) 1 0 ≡ 0 = ap (λ (b : Bool). cond {A = ℕ} b 1 0) is in
-        let own = no_bytes x is in
-        let at : x.0 ≡ 0 = h.0 ∙ round_multiple 0 x.1.align (dvd-zero (2 ^ x.1.align)) in
-        let next : x.0 + x.1.size ≡ 0 = omega (arith, at, own.0) in
-        let rest : count_by is_bulky row ≡ 1 = omega (arith, counted x row) in
+        let past = passed x row is one h in
         All-cons IsFirst x row (λ counts. absurd (let no : false ≡ true = sym is ∙ counts in cc))
-        (later rest (subst (λ n. InARow None n row) next h.1))
+        (later past.1 (subst (λ n. InARow None n row) past.0 h.1))
 
 -- exponents of equal alignments
 pub same_exponent : (a b : ℕ) → 2 ^ a ≡ 2 ^ b → a ≡ b

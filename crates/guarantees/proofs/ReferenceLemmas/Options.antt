@@ -8,7 +8,7 @@ use Rattle.abi_scalar.specs.declared.variants.Variants.TheVariants.{Empty, Multi
 use Rattle.abi_scalar.specs.Lawful.{IsLawfulLayout}
 use Rattle.abi_tree.specs.Placed.{Placed, layout_of, size_of}
 use Rattle.abi_scalar.specs.Layout.{Layout}
-use Rattle.abi_tree.specs.Tree.{Tree, no_trees, more_trees, Variants, no_variants, more_variants, scalar, pair, never, unit, array, vector, struct, union, enum, coroutine}
+use Rattle.abi_tree.specs.Tree.{Tree, no_trees, more_trees, Variants, no_variants, more_variants, enum}
 use Rattle.rustc_abi.specs.Enums.{IsEnumed}
 use Rattle.rustc_abi.specs.Everywhere.{Within}
 use Rattle.rustc_abi.specs.Laying.{IsLaying, VariantsLaying, enum_fault, placed_enum, placed_variants}
@@ -148,15 +148,7 @@ module _ (dl : TargetDataLayout) (byte : dl.aggregate_align ≡ 0) where
 
     pub known_option : (t : Tree) (p : Placed) → IsLaying dl t (Ok p) → Within dl (IsInner dl) t p → OfOption dl (λ t p. IsLaying dl t (Ok p)) Promise t p
     known_option (enum repr all) p h within = λ plain t none some is inner laid at. of_option repr all p h within plain t none some is inner laid at
-    known_option (scalar s) p h within = tt
-    known_option (pair a b) p h within = tt
-    known_option never p h within = tt
-    known_option unit p h within = tt
-    known_option (array count element) p h within = tt
-    known_option (vector lanes packed element) p h within = tt
-    known_option (struct repr always_sized order all) p h within = tt
-    known_option (union repr all) p h within = tt
-    known_option (coroutine prefix locals states conflicts) p h within = tt
+    known_option _ p h within = tt
 
 -- ---- the three of them
 

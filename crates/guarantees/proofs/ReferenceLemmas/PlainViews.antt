@@ -75,9 +75,7 @@ module _ (dl : TargetDataLayout) where
   plain_with : (offset : ℕ) (tag : Scalar) (view : BackendRepr) (size : ℕ) → IsPlain (view_with offset tag view) size
   plain_with offset tag (OneScalar s) size = tt
   plain_with offset tag (ScalarPair a b b_offset) size = plain_either (offset == 0) (ScalarPair tag _ b_offset) (ScalarPair _ tag b_offset) size tt tt
-  plain_with offset tag (SimdVector element count) size = refl
-  plain_with offset tag (SimdScalableVector element count vectors) size = refl
-  plain_with offset tag (Memory sized) size = refl
+  plain_with offset tag _ size = refl
 
   -- ---- enums
 

@@ -18,7 +18,7 @@ use Rattle.abi_tree.specs.Mark.{mark_of}
 use Rattle.abi_tree.specs.Nodes.{parts_at}
 use Rattle.abi_tree.specs.Placed.{Placed, Parts, no_parts, part, fields, layout_of}
 use Rattle.abi_scalar.specs.Layout.{Layout}
-use Rattle.abi_tree.specs.Tree.{Tree, Trees, scalar, pair, never, unit, array, vector, struct, union, enum, coroutine}
+use Rattle.abi_tree.specs.Tree.{Tree, Trees, struct}
 use Rattle.rustc_abi.specs.Laying.{IsLaying, kind_of, with_randomize_flag}
 use Rattle.rustc_abi.specs.Least.{fields_of}
 use Rattle.rustc_abi.specs.Lists.{offsets_of, types_of}
@@ -146,15 +146,7 @@ module _ (dl : TargetDataLayout) where
         fields_apart dl repr.pack parts s.layout.size s.layout.align.abi
             (struct_row dl repr always_sized order all s.layout (mark_of false repr) parts own),
       )) asked
-  known_apart (scalar s) p h asked = tt
-  known_apart (pair a b) p h asked = tt
-  known_apart never p h asked = tt
-  known_apart unit p h asked = tt
-  known_apart (array count element) p h asked = tt
-  known_apart (vector lanes packed element) p h asked = tt
-  known_apart (union repr all) p h asked = tt
-  known_apart (enum repr all) p h asked = tt
-  known_apart (coroutine prefix locals each conflicts) p h asked = tt
+  known_apart _ p h asked = tt
 
   pub known_packed : (t : Tree) (p : Placed) → IsLaying dl t (Ok p) → LiesAsAsked dl t p → IsPacked t p
   known_packed (struct repr always_sized order all) p h asked =
@@ -163,12 +155,4 @@ module _ (dl : TargetDataLayout) where
       (λ own n packed. let parts : Parts = parts_at (listed_offsets s.layout.fields) s.fields in
       packed_in dl repr.pack n parts s.layout.size s.layout.align.abi packed
       (struct_row dl repr always_sized order all s.layout (mark_of false repr) parts own)) asked
-  known_packed (scalar s) p h asked = tt
-  known_packed (pair a b) p h asked = tt
-  known_packed never p h asked = tt
-  known_packed unit p h asked = tt
-  known_packed (array count element) p h asked = tt
-  known_packed (vector lanes packed element) p h asked = tt
-  known_packed (union repr all) p h asked = tt
-  known_packed (enum repr all) p h asked = tt
-  known_packed (coroutine prefix locals each conflicts) p h asked = tt
+  known_packed _ p h asked = tt

@@ -28,12 +28,10 @@ use Rattle.guarantees.proofs.ReferenceLemmas.ZeroOut.{some_bytes}
 
 -- what is no unsized and no scalable view is kept
 kept_is : (view : BackendRepr) (size : ℕ) → IsPlain view size → kept_view false view ≡ view
-kept_is (OneScalar s) size h = refl
-kept_is (ScalarPair a b offset) size h = refl
-kept_is (SimdVector element count) size h = refl
 kept_is (SimdScalableVector element count vectors) size h = absurd h
 kept_is (Memory true) size h = refl
 kept_is (Memory false) size h = absurd (cc)
+kept_is _ size h = refl
 
 module _ (dl : TargetDataLayout) where
   -- lawful, and plainly seen
@@ -57,12 +55,9 @@ module _ (dl : TargetDataLayout) where
 
   -- a part counts for the view where it has bytes
   bulk_by : (view : BackendRepr) (size : ℕ) → (size == 0) ≡ false → not (is_empty_view view size) ≡ true
-  bulk_by (OneScalar s) size e = refl
-  bulk_by (ScalarPair a b offset) size e = refl
-  bulk_by (SimdVector element count) size e = refl
-  bulk_by (SimdScalableVector element count vectors) size e = refl
   bulk_by (Memory true) size e = ap not e
   bulk_by (Memory false) size e = refl
+  bulk_by _ size e = refl
 
   bulk : (p : Placed) → 0 < size_of p → is_seen_bulky (part_of dl (layout_of p)) ≡ true
   bulk p some = bulk_by (layout_of p).backend_repr (size_of p) (ne_eqb (size_of p) 0 (λ e. absurd (omega (arith, e, some))))

@@ -29,7 +29,7 @@ use Rattle.abi_univariant.specs.Union.{raised_to, union_layout}
 use Rattle.abi_tree.specs.declared.mark.Mark.TheVariants.{Unit}
 use Rattle.abi_tree.specs.Placed.{Placed, layout_of, size_of, fields as placed_fields_of, no_parts}
 use Rattle.abi_scalar.specs.Layout.{Layout}
-use Rattle.abi_tree.specs.Tree.{Tree, Trees, scalar, pair, never, unit, array, vector, struct, union, enum, coroutine}
+use Rattle.abi_tree.specs.Tree.{Tree, Trees, scalar, unit, union}
 use Rattle.rustc_abi.specs.declared.error.LayError.{LayError}
 use Rattle.rustc_abi.specs.Error.{Follows}
 use Rattle.rustc_abi.specs.declared.error.LayError.TheVariants.{BadRange, UnknownSpace}
@@ -53,15 +53,7 @@ pub laid_unit : (dl : TargetDataLayout) → IsLawfulDataLayout dl → (t : Tree)
 laid_unit dl law unit p h =
     let is : p ≡ placed_fields_of (unit_layout 0 dl true) Unit no_parts = inj-Ok _ _ h in
     subst (λ q. (size_of q ≡ 0) × (align_in_bytes q ≡ 1)) (sym is) (refl, one_byte dl.i8_align (law.integers I8))
-laid_unit dl law (scalar s) p h = tt
-laid_unit dl law (pair a b) p h = tt
-laid_unit dl law never p h = tt
-laid_unit dl law (array count element) p h = tt
-laid_unit dl law (vector lanes packed element) p h = tt
-laid_unit dl law (struct repr always_sized order all) p h = tt
-laid_unit dl law (union repr all) p h = tt
-laid_unit dl law (enum repr all) p h = tt
-laid_unit dl law (coroutine prefix locals states conflicts) p h = tt
+laid_unit dl law _ p h = tt
 
 -- ---- scalars
 
@@ -82,31 +74,16 @@ table dl (Pointer space) = tt
 pub laid_scalar : (dl : TargetDataLayout) → (t : Tree) (p : Placed) → IsLaying dl t (Ok p) → IsSizedByTable t p
 laid_scalar dl (scalar s) p h =
     subst (λ q. HasTableSize (primitive_of s) (size_of q)) (sym (faultless (one_scalar dl s) p (scalar_fault dl s) h)) (table dl (primitive_of s))
-laid_scalar dl unit p h = tt
-laid_scalar dl (pair a b) p h = tt
-laid_scalar dl never p h = tt
-laid_scalar dl (array count element) p h = tt
-laid_scalar dl (vector lanes packed element) p h = tt
-laid_scalar dl (struct repr always_sized order all) p h = tt
-laid_scalar dl (union repr all) p h = tt
-laid_scalar dl (enum repr all) p h = tt
-laid_scalar dl (coroutine prefix locals states conflicts) p h = tt
+laid_scalar dl _ p h = tt
 
 -- a scalar is no less large than it is aligned
 some_integer : (i : Integer) → 0 < integer_size i
 some_integer I8 = lit< tt
-some_integer I16 = lit< tt
-some_integer I32 = lit< tt
-some_integer I64 = lit< tt
-some_integer I128 = lit< tt
+some_integer _ = lit< tt
 
 some_float : (f : Float) → 0 < float_size f
 some_float F16 = lit< tt
-some_float F16B = lit< tt
-some_float F32 = lit< tt
-some_float F64 = lit< tt
-some_float F128 = lit< tt
-some_float PpcF128 = lit< tt
+some_float _ = lit< tt
 
 pointer_fits : (spec : Option PointerSpec) (other : PointerSpec) → is_lawful_spec spec ≡ true
     → 2 ^ (unwrap_or spec other).pointer_align ≤ (unwrap_or spec other).pointer_size
@@ -132,15 +109,7 @@ pub laid_by_size : (dl : TargetDataLayout) → IsLawfulDataLayout dl → (t : Tr
 laid_by_size dl law (scalar s) p h =
     subst (λ q. align_in_bytes q ≤ size_of q) (sym (faultless (one_scalar dl s) p (scalar_fault dl s) h))
     (no_less_large dl law (primitive_of s) (lawful_by dl s p (is_lawful_primitive dl (primitive_of s)) (has_range_within dl s) h))
-laid_by_size dl law unit p h = tt
-laid_by_size dl law (pair a b) p h = tt
-laid_by_size dl law never p h = tt
-laid_by_size dl law (array count element) p h = tt
-laid_by_size dl law (vector lanes packed element) p h = tt
-laid_by_size dl law (struct repr always_sized order all) p h = tt
-laid_by_size dl law (union repr all) p h = tt
-laid_by_size dl law (enum repr all) p h = tt
-laid_by_size dl law (coroutine prefix locals states conflicts) p h = tt
+laid_by_size dl law _ p h = tt
 
 -- ---- unions
 
@@ -200,12 +169,4 @@ pub laid_c_union : (dl : TargetDataLayout) → dl.aggregate_align ≡ 0 → (t :
 laid_c_union dl byte (union repr all) p (inl h) = absurd (no_error p h.0 h.2)
 laid_c_union dl byte (union repr all) p (inr h) =
     answered dl repr p h.0 (IsCUnion (union repr all)) (λ layout united. c_united dl repr all h.0 layout byte h.1 united) (fields_fault repr h.0) h.2
-laid_c_union dl byte (struct repr always_sized order all) p h = tt
-laid_c_union dl byte (array count element) p h = tt
-laid_c_union dl byte (scalar s) p h = tt
-laid_c_union dl byte (pair a b) p h = tt
-laid_c_union dl byte never p h = tt
-laid_c_union dl byte unit p h = tt
-laid_c_union dl byte (vector lanes packed element) p h = tt
-laid_c_union dl byte (enum repr all) p h = tt
-laid_c_union dl byte (coroutine prefix locals states conflicts) p h = tt
+laid_c_union dl byte _ p h = tt

@@ -37,7 +37,7 @@ use Rattle.abi_tree.specs.Mark.{mark_of}
 use Rattle.abi_tree.specs.Nodes.{parts_at}
 use Rattle.abi_tree.specs.Placed.{Placed, Parts, no_parts, part, layout_of, niche_of, parts_in, size_of, never as nowhere}
 use Rattle.abi_scalar.specs.Layout.{Layout}
-use Rattle.abi_tree.specs.Tree.{Tree, Trees, no_trees, more_trees, Variants, no_variants, more_variants, scalar, pair, never, unit, array, vector, struct, union, enum, coroutine}
+use Rattle.abi_tree.specs.Tree.{Tree, Trees, no_trees, more_trees, Variants, no_variants, more_variants, struct, enum, coroutine}
 use Rattle.rustc_abi.specs.Enums.{IsEnumed, IsTagIntegerAnswer as IsAsking, discriminants_of, layouts_of, numbered_from}
 use Rattle.rustc_abi.specs.Everywhere.{OfEach, Within}
 use Rattle.rustc_abi.specs.Laying.{AreLaying, IsLaying, VariantsLaying, enum_fault, placed_enum, placed_fields, placed_variants, with_randomize_flag}
@@ -490,14 +490,7 @@ module _ (dl : TargetDataLayout) where
       (λ own inner. struct_as_large byte repr always_sized order all p s own inner) asked inside in
       subst (λ q. LiesAsAsked dl t q → Within dl (λ t p. IsLawfulLayout dl (layout_of p)) t q → (IsPlainTransparent repr → IsAsLargeAs (others (parts_in q)) q) → IsTransparent t q) ss.is
       (λ own inner has. λ plain. (has plain, struct_niche repr always_sized order all p ss inner plain.2, λ c v. struct_seen_as repr always_sized order all p ss own inner plain.2 c v (has plain))) asked inside large
-  known_transparent byte law (scalar s) p h asked inside = tt
-  known_transparent byte law (pair a b) p h asked inside = tt
-  known_transparent byte law never p h asked inside = tt
-  known_transparent byte law unit p h asked inside = tt
-  known_transparent byte law (array count element) p h asked inside = tt
-  known_transparent byte law (vector lanes packed element) p h asked inside = tt
-  known_transparent byte law (union repr all) p h asked inside = tt
-  known_transparent byte law (enum repr no_variants) p h asked inside = tt
   known_transparent byte law (enum repr (more_variants d ts no_variants)) p h asked inside = lone_transparent byte law repr d ts p h asked inside
   known_transparent byte law (enum repr (more_variants d ts (more_variants e us rest))) p h asked inside = tt
   known_transparent byte law (coroutine prefix locals each conflicts) p h asked inside = tt
+  known_transparent byte law _ p h asked inside = tt

@@ -47,9 +47,9 @@ use Rattle.abi_scalar.specs.Reserve.{reserved}
 use Rattle.abi_tree.specs.declared.mark.Mark.{Mark}
 use Rattle.abi_tree.specs.Mark.{mark_of}
 use Rattle.abi_tree.specs.Nodes.{parts_at}
-use Rattle.abi_tree.specs.Placed.{Placed, Parts, no_parts, part, TaggedVariants, nothing_tagged, tagged_variant, layout_of, size_of, scalar as one_number, pair as two, never as nowhere, elements, vector as lanes_of, fields, union as together, single, tagged, states as in_states}
+use Rattle.abi_tree.specs.Placed.{Placed, Parts, no_parts, part, TaggedVariants, nothing_tagged, tagged_variant, layout_of, size_of, fields, single, tagged, states as in_states}
 use Rattle.abi_scalar.specs.Layout.{Layout}
-use Rattle.abi_tree.specs.Tree.{Tree, Variants, scalar, pair, never, unit, array, vector, struct, union, enum, coroutine}
+use Rattle.abi_tree.specs.Tree.{Tree, Variants, struct, union, enum}
 use Rattle.rustc_abi.specs.Enums.{IsEnumed, IsTagIntegerAnswer as IsAsking, tagged_variants_at, discriminants_of, layouts_of, numbered_from}
 use Rattle.rustc_abi.specs.Laying.{IsLaying, enum_fault, one_scalar, placed_enum, placed_together, placed_variants}
 use Rattle.rustc_abi.specs.Orders.{LiesAsAsked}
@@ -398,15 +398,9 @@ module _ (dl : TargetDataLayout) where
 enum_aligned : (dl : TargetDataLayout) (repr : ReprOptions) (all : Variants) (p : Placed) → LiesAsAsked dl (enum repr all) p → AreAlignedBeside dl p → IsAligned (enum repr all) p
 enum_aligned dl repr all (single layout mark index parts) h beside = λ loose.
     aligned_by dl repr AlwaysSized 0 parts h.0 layout.size layout.align.abi loose refl h.1
-enum_aligned dl repr all (one_number layout s) h beside = tt
-enum_aligned dl repr all (two layout parts) h beside = tt
-enum_aligned dl repr all (nowhere layout mark) h beside = tt
-enum_aligned dl repr all (elements layout count element) h beside = tt
-enum_aligned dl repr all (lanes_of layout lanes) h beside = tt
-enum_aligned dl repr all (together layout mark parts) h beside = tt
-enum_aligned dl repr all (fields layout mark parts) h beside = tt
 enum_aligned dl repr all (tagged layout mark offset tag encoding tagged_variants) h beside = λ loose. beside
 enum_aligned dl repr all (in_states layout prefix offset tag tagged_variants) h beside = tt
+enum_aligned dl repr all _ h beside = tt
 
 pub known_aligned : (dl : TargetDataLayout) → IsLawfulDataLayout dl → (t : Tree) (p : Placed) → IsLaying dl t (Ok p) → LiesAsAsked dl t p → HasLeastLists dl t p → IsAligned t p
 known_aligned dl law (struct repr always_sized order all) p h asked lists =
@@ -422,10 +416,4 @@ known_aligned dl law (union repr all) p h asked lists =
     ap (λ pack. most_aligned (extents_for pack u.fields)) loose in
     together_aligned (align_in_bytes (placed_together repr u.fields u.layout)) u.fields (omega (arith, high, own)))
 known_aligned dl law (enum repr all) p h asked lists = enum_aligned dl repr all p asked (enum_beside dl repr all p h lists)
-known_aligned dl law (scalar s) p h asked lists = tt
-known_aligned dl law (pair a b) p h asked lists = tt
-known_aligned dl law never p h asked lists = tt
-known_aligned dl law unit p h asked lists = tt
-known_aligned dl law (array count element) p h asked lists = tt
-known_aligned dl law (vector lanes packed element) p h asked lists = tt
-known_aligned dl law (coroutine prefix locals each conflicts) p h asked lists = tt
+known_aligned dl law _ p h asked lists = tt

@@ -16,7 +16,7 @@ use Rattle.abi_scalar.specs.declared.error.LayoutCalculatorError.TheVariants.{Ov
 use Rattle.abi_scalar.specs.declared.repr.ReprOptions.{ReprOptions}
 use Rattle.abi_scalar.specs.declared.scalar.Scalar.{Scalar}
 use Rattle.abi_scalar.specs.declared.variants.Variants.{Variants as LayoutVariants}
-use Rattle.abi_scalar.specs.declared.variants.Variants.TheVariants.{Empty, Multiple, Single}
+use Rattle.abi_scalar.specs.declared.variants.Variants.TheVariants.{Empty}
 use Rattle.abi_scalar.specs.Repr.{is_abi_fixed}
 use Rattle.abi_scalar.specs.LaneCount.{lane_count, max_lanes}
 use Rattle.abi_scalar.specs.Shape.{listed_offsets}
@@ -90,10 +90,7 @@ positive_product m n p q = mul-pos p q
 
 one_scalar_view : (h : Layout) (view : BackendRepr) (s : Scalar) → element_scalar h view ≡ Ok s → view ≡ OneScalar s
 one_scalar_view h (OneScalar t) s e = let same : t ≡ s = cc in ap OneScalar same
-one_scalar_view h (ScalarPair a b offset) s e = absurd (cc)
-one_scalar_view h (SimdVector element count) s e = absurd (cc)
-one_scalar_view h (SimdScalableVector element count vectors) s e = absurd (cc)
-one_scalar_view h (Memory sized) s e = absurd (cc)
+one_scalar_view h _ s e = absurd (cc)
 
 -- ---- the view of a list of sized fields
 
@@ -105,12 +102,10 @@ IsPlain (SimdScalableVector element count vectors) size = ⊥
 IsPlain (Memory sized) size = sized ≡ true
 
 pub plain_sized : (view : BackendRepr) (size : ℕ) → IsPlain view size → is_unsized view ≡ false
-plain_sized (OneScalar s) size h = refl
-plain_sized (ScalarPair a b offset) size h = refl
-plain_sized (SimdVector element count) size h = refl
 plain_sized (SimdScalableVector element count vectors) size h = absurd h
 plain_sized (Memory true) size h = refl
 plain_sized (Memory false) size h = absurd (cc)
+plain_sized _ size h = refl
 
 pub plain_either : (b : Bool) (v w : BackendRepr) (size : ℕ) → IsPlain v size → IsPlain w size → IsPlain (if b then v else w) size
 plain_either true v w size h k = h
@@ -163,8 +158,7 @@ IsSeenSized p = is_unsized (layout_of p).backend_repr ≡ false
 pub layout_there : (dl : TargetDataLayout) (repr : ReprOptions) (numbers : List ℕ) (variants : List (List Placed)) (layout : Layout) (vs : LayoutVariants ℕ ℕ)
     → layout_of (placed_variants dl repr numbers variants layout vs) ≡ layout
 layout_there dl repr numbers variants layout Empty = refl
-layout_there dl repr numbers variants layout (Single i) = refl
-layout_there dl repr numbers variants layout (Multiple tag encoding field layouts) = refl
+layout_there dl repr numbers variants layout _ = refl
 
 module _ (dl : TargetDataLayout) where
   pub all_sized : (ps : List Placed) → All IsSeenSized ps → any_unsized (asked_of dl (map layout_of ps)) ≡ false
@@ -272,10 +266,7 @@ module _ (dl : TargetDataLayout) where
 
   union_sized : (view : BackendRepr) → is_unsized (union_view view) ≡ false
   union_sized (OneScalar s) = refl
-  union_sized (ScalarPair a b offset) = refl
-  union_sized (SimdVector element count) = refl
-  union_sized (SimdScalableVector element count vectors) = refl
-  union_sized (Memory sized) = refl
+  union_sized _ = refl
 
   kept_common : (repr : ReprOptions) (layouts : List Layout) (view : BackendRepr) → KeepsView dl repr layouts view → is_unsized view ≡ false
   kept_common repr layouts view h =
@@ -303,9 +294,7 @@ module _ (dl : TargetDataLayout) where
   with_sized : (offset : ℕ) (tag : Scalar) (view : BackendRepr) → is_unsized (view_with offset tag view) ≡ false
   with_sized offset tag (OneScalar s) = refl
   with_sized offset tag (ScalarPair a b b_offset) = sized_either (offset == 0) _ _ refl refl
-  with_sized offset tag (SimdVector element count) = refl
-  with_sized offset tag (SimdScalableVector element count vectors) = refl
-  with_sized offset tag (Memory sized) = refl
+  with_sized offset tag _ = refl
 
   niche_sized : (repr : ReprOptions) (variants : List (List Placed)) (found : Option Layout) (n : Layout) → found ≡ Some n
       → IsNicheAnswer AreListLayouts layout_of (λ i. i) (λ i. i) dl repr variants found → is_unsized n.backend_repr ≡ false

@@ -7,9 +7,9 @@ use Rattle.std.proofs.lemmas.Bool.{cases_lt, le-leb}
 use Rattle.std.proofs.lemmas.Nat.{pow_pos}
 use Rattle.abi_base.specs.declared.data_layout.TargetDataLayout.{TargetDataLayout}
 use Rattle.abi_base.specs.declared.float.Float.{Float}
-use Rattle.abi_base.specs.declared.float.Float.TheVariants.{F16, F16B, F32, F64, F128, PpcF128}
+use Rattle.abi_base.specs.declared.float.Float.TheVariants.{F16}
 use Rattle.abi_base.specs.declared.integer.Integer.{Integer}
-use Rattle.abi_base.specs.declared.integer.Integer.TheVariants.{I8, I16, I32, I64, I128}
+use Rattle.abi_base.specs.declared.integer.Integer.TheVariants.{I8}
 use Rattle.abi_base.specs.declared.primitive.Primitive.{Primitive}
 use Rattle.abi_base.specs.declared.primitive.Primitive.TheVariants.{Int, Float as OneFloat, Pointer}
 use Rattle.abi_base.specs.Float.{float_size}
@@ -29,7 +29,7 @@ use Rattle.abi_tree.specs.Bytes.{number_of}
 use Rattle.abi_tree.specs.Holding.{Holds}
 use Rattle.abi_tree.specs.Placed.{Placed, layout_of, size_of}
 use Rattle.abi_scalar.specs.Layout.{Layout}
-use Rattle.abi_tree.specs.Tree.{Tree, scalar, pair, never, unit, array, vector, struct, union, enum, coroutine}
+use Rattle.abi_tree.specs.Tree.{Tree, scalar, pair}
 use Rattle.abi_tree.specs.Value.{Value, number}
 use Rattle.rustc_abi.specs.Laying.{IsLaying, one_scalar}
 use Rattle.rustc_abi.specs.ScalarFault.{scalar_fault}
@@ -150,18 +150,11 @@ second_handed dl width a b m n value r q false = refl
 
 some_float : (f : Float) → 1 ≤ float_size f
 some_float F16 = lit≤ tt
-some_float F16B = lit≤ tt
-some_float F32 = lit≤ tt
-some_float F64 = lit≤ tt
-some_float F128 = lit≤ tt
-some_float PpcF128 = lit≤ tt
+some_float _ = lit≤ tt
 
 pub some_integer : (i : Integer) → 1 ≤ integer_size i
 some_integer I8 = lit≤ tt
-some_integer I16 = lit≤ tt
-some_integer I32 = lit≤ tt
-some_integer I64 = lit≤ tt
-some_integer I128 = lit≤ tt
+some_integer _ = lit≤ tt
 
 pub some_bytes : (dl : TargetDataLayout) (value : Primitive) → IsLawfulPrimitive dl value → 1 ≤ primitive_size dl value
 some_bytes dl (Int i signed) law = some_integer i
@@ -259,12 +252,4 @@ module _ (dl : TargetDataLayout) where
       let own : LeavesOutZero (scalar_size dl s) s = subst (λ p. LeavesOutZero (size_of p) s) is h in
       let lawful : IsLawfulLayout dl (layout_of (one_scalar dl s)) = subst (λ p. IsLawfulLayout dl (layout_of p)) is law in
       (s, subst (IsOneNumber dl s) (sym is) (one_by_itself s lawful own), h)
-  never_zero (pair a b) placed laid law h = h
-  never_zero never placed laid law h = h
-  never_zero unit placed laid law h = h
-  never_zero (array count element) placed laid law h = h
-  never_zero (vector lanes packed element) placed laid law h = h
-  never_zero (struct repr always_sized order all) placed laid law h = h
-  never_zero (union repr all) placed laid law h = h
-  never_zero (enum repr all) placed laid law h = h
-  never_zero (coroutine prefix locals states conflicts) placed laid law h = h
+  never_zero _ placed laid law h = h

@@ -30,6 +30,10 @@ pub(crate) struct Rules<'a> {
     pub is_trusted: bool,
     /// Whether a module may stand around the one that is read: around the root of a crate none does.
     pub has_outer: bool,
+    /// Whether `cfg_if` may be something else in the source than the macro of the crate `cfg-if`.
+    pub has_own_cfg_if: bool,
+    /// Whether the macros of a module may stand in those around it, by `macro_use`.
+    pub has_macro_use: bool,
 }
 
 /// What attributes say.

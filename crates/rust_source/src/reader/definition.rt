@@ -203,7 +203,12 @@ fn read_const_typed(
     let ty = read_type(names, cursor, most_nested())?;
     let value = read_value(names, cursor, b';')?;
     expect(cursor, b';', SourceFaultKind::ExpectedSemicolon)?;
-    Ok(Const { ty, value, owner })
+    Ok(Const {
+        ty,
+        value,
+        owner,
+        is_function: false,
+    })
 }
 
 /// A constant, behind its `const`; `owner` is the type whose own it is.

@@ -6,9 +6,10 @@ ghost use Rattle.rust_source.specs.Operators.{operands_of};
 ghost use Rattle.rust_source.specs.Cursor.{next_kind, token_text};
 ghost use Rattle.rust_source.specs.Literals.{char_code, number_written};
 ghost use Rattle.rust_source.specs.Reading.{Reads, read_as};
-ghost use Rattle.rust_source.specs.Simple.{byte_read, char_read, is_literal, literal_read, literal_of, most_nested, number_read, sign_of, signed_literal, signs};
+ghost use Rattle.rust_source.specs.Simple.{byte_read, char_read, is_literal, literal_read, literal_of, most_nested, number_read, sign_of, signed_literal, signs, text_read};
 ghost use Rattle.rust_source.specs.Syntax.{cast, choice, expr_of, method, method_path, no_arguments, path_as_read, segment, segment_of, type_of};
 ghost use Rattle.rust_source.specs.Terms.{bracketed, cast_from, choice_behind, choice_read, choice_with, else_read, expr_read, expr_with, called, is_method_next, method_read, methods_from, readers, is_always_reported, operand, primary, value, expressions_in, whole};
+ghost use Rattle.rust_source.specs.Texts.{text_length};
 ghost use Rattle.rust_source.specs.Tokens.{Yields};
 
 use crate::fault::{SourceFault, SourceFaultKind};
@@ -23,6 +24,7 @@ use crate::reader::literals::{Number, char_code, number_of};
 use crate::reader::naming::take_name;
 use crate::reader::operators::{Waiting, join_all, next_operator, put_operator, with_signs};
 use crate::reader::paths::read_path;
+use crate::reader::texts::text_length;
 use crate::reader::types::read_type;
 use crate::syntax::{Expr, IntegerKind, Path, Segment, Type, Unary, Unevaluated};
 use crate::tokens::bytes_after;
@@ -566,6 +568,17 @@ fn byte_literal(cursor: &Cursor<'_>, token: Token) -> Result<Expr, SourceFault>
     }
 }
 
+/// The string that the next token is. C's isn't read.
+fn text_literal(cursor: &Cursor<'_>, token: Token) -> Expr
+    ensures { expr_of result ≡ text_read cursor.now (text_length (token_text cursor.now token)) }
+{
+    let at = place(cursor);
+    match text_length(text_of(cursor, token).as_bytes()) {
+        Some(bytes) => Expr::Text(bytes, at),
+        None => Expr::Unevaluated(Unevaluated::Expression, at),
+    }
+}
+
 /// The literal that the next token is.
 fn literal_of(cursor: &Cursor<'_>, token: Token) -> Result<Expr, SourceFault>
     ensures { read_as expr_of result ≡ literal_of cursor.now token token.kind }
@@ -574,6 +587,7 @@ fn literal_of(cursor: &Cursor<'_>, token: Token) -> Result<Expr, SourceFault>
         TokenKind::Number => number_literal(cursor, token),
         TokenKind::Char => char_literal(cursor, token),
         TokenKind::Byte => byte_literal(cursor, token),
+        TokenKind::Text => Ok(text_literal(cursor, token)),
         TokenKind::Keyword(word) => Ok(Expr::Bool(word == Keyword::True, place(cursor))),
         _ => Ok(Expr::Unevaluated(Unevaluated::Expression, place(cursor))),
     }

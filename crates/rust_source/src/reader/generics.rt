@@ -144,7 +144,7 @@ pub(crate) fn pass_attributes(cursor: &mut Cursor<'_>)
 }
 
 /// Puts a parameter behind the others.
-fn push_parameter(all: &mut Vec<Parameter>, one: Parameter) -> Result<(), SourceFault>
+pub(crate) fn push_parameter(all: &mut Vec<Parameter>, one: Parameter) -> Result<(), SourceFault>
     ensures ok { IfOk result
         (λ _. map parameter_of all.new.items ≡ map parameter_of all.old.items ++ parameter_of one ∷ []) }
     ensures err { IfErr result (λ fault. fault.kind ≡ SourceFaultKind.OutOfMemory) }

@@ -5,7 +5,7 @@ ghost use Rattle.rust_source.specs.Cursor.{inside, next_kind};
 ghost use Rattle.rust_source.specs.Growth.{KeepsItems};
 ghost use Rattle.rust_source.specs.Having.{item_of_module, with_item};
 ghost use Rattle.rust_source.specs.Items.{item_of, items_as_read};
-ghost use Rattle.rust_source.specs.Modules.{all_read, is_item_word, is_macro, is_passed_over, item_read, items_within, may_have_repr, module_by, module_read, module_within, next_read, one_read, other_read, over_passed, passes_kind, path_passed, renames_crate, repr_judged, root_read, standing_read, use_read};
+ghost use Rattle.rust_source.specs.Modules.{all_read, call_read, items_of_call, is_item_word, is_macro, is_passed_over, item_read, items_within, may_have_repr, module_by, module_read, module_within, next_read, one_read, other_read, over_passed, passes_kind, path_passed, renames_crate, repr_judged, root_read, standing_read, use_read};
 ghost use Rattle.rust_source.specs.Names.{texts};
 ghost use Rattle.rust_source.specs.Reading.{Reads};
 ghost use Rattle.rust_source.specs.Simple.{most_nested};
@@ -16,6 +16,7 @@ use crate::item::{Item, Items, Module};
 use crate::names::Names;
 use crate::place::{Place, Symbol};
 use crate::reader::attributes::{Attributes, Rules, read_attributes};
+use crate::reader::cfg_if::chosen_items;
 use crate::reader::constants::{is_wanting, read_own_constants};
 use crate::reader::cursor::{
     Cursor, expect, fault, is_done, is_named_next, is_next, is_word, next_kind, nth, pass,
@@ -35,6 +36,7 @@ use crate::reader::traits::read_trait;
 use crate::reader::unread::{one_item, pass_unread, put_unread};
 use crate::reader::uses::{UseContext, UsePlace, read_tree};
 use crate::reader::visibility::{Standing, read_visibility, rules_in};
+use crate::reader::wrappers::{MacroPlace, read_macro, wrapped_items};
 use crate::tokens::as_place;
 use crate::tokens::keyword::Keyword;
 use crate::tokens::token::{Bracket, TokenKind};
@@ -241,6 +243,11 @@ fn read_other(
     read_own_constants(rules, names, items, standing.module, cursor)?;
     read_function(names, items, standing, &context.said, cursor)?;
     read_trait(names, items, standing, cursor)?;
+    let place = MacroPlace {
+        module: standing.module,
+        is_rewritten: context.said.unknown.is_some(),
+    };
+    read_macro(rules, names, items, place, cursor)?;
     pass_over(names, items, cursor)
 }
 
@@ -360,6 +367,58 @@ fn read_module(
     read_named_module(rules, names, items, &named, cursor)
 }
 
+/// The items that stand in place of the call that is next. None where they aren't known, or no call is next.
+#[tactic(auto, unfolding(crate::specs::Modules::items_of_call))]
+fn items_of_call<'a>(
+    rules: &Rules<'_>,
+    names: &mut Names,
+    items: &mut Items,
+    module: u32,
+    cursor: &Cursor<'a>,
+) -> Result<Option<Cursor<'a>>, SourceFault>
+    ensures kept { KeepsItems items.old items.new }
+    ensures read { Reads (λ found. found) (items_of_call rules.now «module» cursor.now (texts names.old, items_as_read items.old))
+        (texts names.new, items_as_read items.new) result }
+{
+    if let Some(wrapped) = wrapped_items(rules, names, items, module, cursor) {
+        return Ok(Some(wrapped));
+    }
+    chosen_items(rules, names, items, module, cursor)
+}
+
+/// Reads the items that stand in place of the call that is next, or an item where they aren't known.
+#[cycle(modules)]
+#[tactic(auto, unfolding(crate::specs::Modules::call_read))]
+fn read_call(
+    rules: &Rules<'_>,
+    names: &mut Names,
+    items: &mut Items,
+    context: &ItemContext,
+    cursor: &mut Cursor<'_>,
+) -> Result<(), SourceFault>
+    ensures kept { KeepsItems items.old items.new }
+    ensures read { Reads (λ _. cursor.new)
+        (call_read rules.now (module_within rules.now context.now.depth_left) context.now.standing
+        context.now.said cursor.old (texts names.old, items_as_read items.old))
+        (texts names.new, items_as_read items.new) result }
+{
+    if context.said.unknown.is_some() {
+        return read_item(rules, names, items, context, cursor);
+    }
+    let module = OpenModule {
+        number: context.standing.module,
+        depth_left: context.depth_left,
+    };
+    match items_of_call(rules, names, items, module.number, cursor)? {
+        Some(mut inside) => {
+            read_module_items(rules, names, items, module, &mut inside)?;
+            pass_item(cursor);
+            Ok(())
+        }
+        None => read_item(rules, names, items, context, cursor),
+    }
+}
+
 /// Reads what stands behind attributes and a `pub`.
 #[cycle(modules)]
 fn read_in_context(
@@ -379,7 +438,7 @@ fn read_in_context(
     if is_word(cursor, Keyword::Mod) {
         read_module(rules, names, items, context, cursor)
     } else {
-        read_item(rules, names, items, context, cursor)
+        read_call(rules, names, items, context, cursor)
     }
 }
 

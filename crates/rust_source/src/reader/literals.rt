@@ -59,7 +59,7 @@ pub(crate) enum Number {
 }
 
 /// The value of a digit, in bases up to sixteen. Greater than fifteen where it is none.
-fn digit_value(byte: u8) -> u8
+pub(crate) fn digit_value(byte: u8) -> u8
     ensures { result ≡ digit_value byte }
 {
     match byte {

@@ -160,7 +160,7 @@ fn read_parameter_types(
 
 /// Puts the result's type behind the others, where it is written.
 #[cycle(terms)]
-fn add_result(
+pub(crate) fn add_result(
     names: &mut Names,
     cursor: &mut Cursor<'_>,
     all: &mut Vec<Type>,

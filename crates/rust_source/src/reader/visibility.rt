@@ -47,7 +47,7 @@ fn has_name(modules: &[Module], number: u32, name: Symbol) -> bool
 
 /// The root around the module with this number.
 #[tactic(auto, unfolding(crate::specs::Visibility::root_around), using(crate::proofs::AroundTurns::root_more, crate::proofs::AroundTurns::root_done))]
-fn root_around(modules: &[Module], number: u32) -> u32
+pub(crate) fn root_around(modules: &[Module], number: u32) -> u32
     ensures { result ≡ root_around modules.now number }
 {
     let mut at = number;
@@ -63,7 +63,7 @@ fn root_around(modules: &[Module], number: u32) -> u32
 
 /// The module right in the outer one that the module with this number is or stands in.
 #[tactic(auto, unfolding(crate::specs::Visibility::child_towards), using(crate::proofs::AroundTurns::child_more, crate::proofs::AroundTurns::child_done))]
-fn child_towards(modules: &[Module], outer: u32, number: u32) -> Option<u32>
+pub(crate) fn child_towards(modules: &[Module], outer: u32, number: u32) -> Option<u32>
     ensures { result ≡ child_towards modules.now outer number }
 {
     let mut at = number;
@@ -135,6 +135,8 @@ pub(crate) fn rules_in<'a>(rules: &Rules<'a>, modules: &[Module], number: u32) -
         target: rules.target,
         is_trusted: rules.is_trusted,
         has_outer: has_outer(modules, number),
+        has_own_cfg_if: rules.has_own_cfg_if,
+        has_macro_use: rules.has_macro_use,
     }
 }
 

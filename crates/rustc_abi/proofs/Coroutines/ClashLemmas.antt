@@ -10,7 +10,7 @@ use Rattle.abi_univariant.specs.Placement.{source_order}
 use Rattle.abi_calc.specs.Coroutine.Clash.{HasLocalAt}
 use Rattle.abi_calc.specs.Coroutine.Clash as calculator
 use Rattle.abi_calc.proofs.CoroutineLemmas.Deep.{coroutine_apart}
-use Rattle.abi_tree.specs.Tree.{Tree, scalar, pair, never, unit, array, vector, struct, union, enum, coroutine, Trees}
+use Rattle.abi_tree.specs.Tree.{Tree, coroutine, Trees}
 use Rattle.abi_tree.specs.declared.mark.Mark.{Mark}
 use Rattle.abi_tree.specs.declared.mark.Mark.TheVariants.{Plain}
 use Rattle.abi_tree.specs.Placed.{Placed, layout_of, parts_of_tagged_variant}
@@ -98,30 +98,14 @@ module _ (dl : TargetDataLayout) (law : IsLawfulDataLayout dl) where
 
   -- locals that clash share no byte
   pub laid_clash : (t : Tree) (p : Placed) → IsLaying dl t (Ok p) → AreClashingLocalsApart t p
-  laid_clash (scalar s) p h = tt
-  laid_clash (pair a b) p h = tt
-  laid_clash never p h = tt
-  laid_clash unit p h = tt
-  laid_clash (array count element) p h = tt
-  laid_clash (vector lanes packed element) p h = tt
-  laid_clash (struct repr always_sized order all) p h = tt
-  laid_clash (union repr all) p h = tt
-  laid_clash (enum repr all) p h = tt
   laid_clash (coroutine prefix locals states conflicts) p (inl f) = absurd (cc f.2)
   laid_clash (coroutine prefix locals states conflicts) p (inr (pres, before, inl f)) = absurd (cc f.2)
   laid_clash (coroutine prefix locals states conflicts) p (inr (pres, before, inr (ps, there, answer))) = clash_coroutine prefix locals pres ps states conflicts before there p answer
+  laid_clash _ p h = tt
 
   -- and each lies at one offset
   pub laid_one_offset : (t : Tree) (p : Placed) → IsLaying dl t (Ok p) → HaveLocalsOneOffset t p
-  laid_one_offset (scalar s) p h = tt
-  laid_one_offset (pair a b) p h = tt
-  laid_one_offset never p h = tt
-  laid_one_offset unit p h = tt
-  laid_one_offset (array count element) p h = tt
-  laid_one_offset (vector lanes packed element) p h = tt
-  laid_one_offset (struct repr always_sized order all) p h = tt
-  laid_one_offset (union repr all) p h = tt
-  laid_one_offset (enum repr all) p h = tt
   laid_one_offset (coroutine prefix locals states conflicts) p (inl f) = absurd (cc f.2)
   laid_one_offset (coroutine prefix locals states conflicts) p (inr (pres, before, inl f)) = absurd (cc f.2)
   laid_one_offset (coroutine prefix locals states conflicts) p (inr (pres, before, inr (ps, there, answer))) = one_offset_coroutine prefix locals pres ps states conflicts before there p answer
+  laid_one_offset _ p h = tt

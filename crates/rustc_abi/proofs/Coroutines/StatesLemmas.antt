@@ -2,14 +2,14 @@
 use Rattle.std.proofs.Common.{◌≡◌, ℕ, ◌+◌, ◌-◌, ◌≤◌, ◌<◌, List, length, arith, sym, ap, ◌∙◌, subst}
 use Rattle.std.specs.Prelude.{Bool, true, ◌&&◌, ◌||◌, nat_le, nat_lt}
 use Rattle.std.specs.Cmp.Derive.{both_true}
-use Rattle.std.proofs.lemmas.Bool.{le-leb, lt-ltb, ltb-true}
+use Rattle.std.proofs.lemmas.Bool.{le-leb, lt-ltb}
 use Rattle.std.proofs.Math.Bool.{or-true}
 use Rattle.abi_base.specs.declared.data_layout.TargetDataLayout.{TargetDataLayout}
 use Rattle.abi_scalar.specs.declared.scalar.Scalar.{Scalar}
 use Rattle.abi_scalar.specs.Range.{numbers_of}
 use Rattle.abi_scalar.specs.Scalar.{scalar_size, IsNumberOf}
 use Rattle.abi_tree.specs.Tree.{Tree, coroutine, Trees}
-use Rattle.abi_tree.specs.Bytes.{AreBytes, bytes_at, number_of}
+use Rattle.abi_tree.specs.Bytes.{AreBytes}
 use Rattle.abi_tree.specs.Value.{Value, number, two, list, variant, state, bytes}
 use Rattle.abi_tree.specs.Placed.{Placed, Parts, TaggedVariants, size_of, states}
 use Rattle.abi_scalar.specs.Layout.{Layout}
@@ -19,10 +19,8 @@ use Rattle.abi_tree.specs.Values.{IsValueOf}
 use Rattle.abi_tree.specs.Holding.{Holds, HoldTaggedVariant, tag_at}
 use Rattle.abi_tree.specs.Faithful.{AgreeOn}
 use Rattle.rustc_abi.specs.Laying.{one_scalar}
-use Rattle.abi_tree.proofs.Bytes.BytesLemmas.{same_bytes}
-use Rattle.abi_tree.proofs.Bytes.HoldLemmas.{length-bytes_at, AgreeOn-bytes_at}
 use Rattle.rustc_abi.proofs.Values.PartsLemmas.{only, unique, padding}
-use Rattle.rustc_abi.proofs.Enums.TaggedLemmas.{names_one, names_number}
+use Rattle.rustc_abi.proofs.Enums.TaggedLemmas.{names_number, names_one, tag_kept}
 use Rattle.rustc_abi.proofs.Coroutines.StateTaggedVariantsLemmas.{StatesFit, InState, states_numbers, states_differ, state_only, state_unique, state_padding, in_state}
 
 module _ (dl : TargetDataLayout) (layout : Layout) (prefix_trees : Trees) (prefix : Parts) (offset : ℕ) (tag : Scalar) (locals : Trees) (all : List (List ℕ))
@@ -94,16 +92,6 @@ module _ (dl : TargetDataLayout) (layout : Layout) (prefix_trees : Trees) (prefi
       ap (λ x. is_place_of_part prefix k || (is_place_of_tag k || x)) place ∙ ap (λ x. is_place_of_part prefix k || x) (or-true (is_place_of_tag k))
       ∙ or-true (is_place_of_part prefix k)
 
-  -- bytes that agree on the data places hold the same tag
-  same_tag : (xs ys : List ℕ) → length xs ≡ length ys → offset + w ≤ length xs → AgreeOn placed xs ys → tag_at dl.endian xs offset w ≡ tag_at dl.endian ys offset w
-  same_tag xs ys same fits agree =
-      let long_xs : length (bytes_at xs offset w) ≡ w = omega (arith, length-bytes_at xs offset w, fits) in
-      let long_ys : length (bytes_at ys offset w) ≡ w = omega (arith, length-bytes_at ys offset w, fits, same) in
-      ap (number_of dl.endian)
-      (same_bytes (bytes_at xs offset w) (bytes_at ys offset w) w long_xs long_ys
-      (λ k below. AgreeOn-bytes_at (one_scalar dl tag) xs ys offset w same
-      (λ j place. agree (offset + j) (place_of_tag j (ltb-true j w place))) k (lt-ltb k w below)))
-
   -- bytes that agree on the data places hold the same values
   pub states_padding : (xs ys : List ℕ) (v : Value) → length xs ≡ size_of placed → length ys ≡ size_of placed → AgreeOn placed xs ys → Holds dl.endian placed xs v → Holds dl.endian placed ys v
   states_padding xs ys (state i ps vs) ex ey agree h =
@@ -111,7 +99,7 @@ module _ (dl : TargetDataLayout) (layout : Layout) (prefix_trees : Trees) (prefi
         ey,
         padding dl layout.size prefix_trees prefix fit.first xs ys ps same (λ k place. agree k (place_of_prefix k place)) h.1,
         omega (arith, same, h.2),
-        subst (λ k. NamesDirectly w tagged_variants k i) (same_tag xs ys same h.2 agree) h.3,
+        subst (λ k. NamesDirectly w tagged_variants k i) (tag_kept dl tag placed offset place_of_tag xs ys same h.2 agree) h.3,
         state_padding dl layout.size offset w prefix locals 0 all tagged_variants fit.each xs ys same (λ k place. agree k (place_of_tagged_variant k place)) i vs h.4,
       )
   states_padding xs ys (number n) ex ey agree h = absurd h

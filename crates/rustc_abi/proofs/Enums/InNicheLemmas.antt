@@ -16,7 +16,7 @@ use Rattle.abi_scalar.specs.Niche.{niche_size}
 use Rattle.abi_scalar.specs.Reserve.{HandsOut}
 use Rattle.abi_tree.specs.Tree.{Tree, enum, Variants, no_variants, more_variants}
 use Rattle.abi_tree.specs.Bytes.{AreBytes, bytes_at, number_of}
-use Rattle.abi_tree.specs.Value.{Value, number, two, list, variant, state, bytes, Values}
+use Rattle.abi_tree.specs.Value.{Value, variant, Values}
 use Rattle.abi_tree.specs.Mark.{mark_of}
 use Rattle.abi_tree.specs.Placed.{Placed, TaggedVariants, nothing_tagged, tagged_variant, size_of, tagged, parts_of_tagged_variant, is_flagged}
 use Rattle.abi_scalar.specs.Layout.{Layout}
@@ -197,20 +197,12 @@ module _ (dl : TargetDataLayout) (repr : ReprOptions) (layout : Layout) (n : Nic
       let fields : vs ≡ ws = tagged_variant_unique dl layout.size n.offset (niche_size dl n) untagged 0 all tagged_variants fit i b vs ws h.3 here in
       cc
   in_niche_unique few b (variant i vs) _ h g = absurd g
-  in_niche_unique few b (number m) w h g = absurd h
-  in_niche_unique few b (two m k) w h g = absurd h
-  in_niche_unique few b (list vs) w h g = absurd h
-  in_niche_unique few b (state i ps vs) w h g = absurd h
-  in_niche_unique few b (bytes content) w h g = absurd h
+  in_niche_unique few b _ w h g = absurd h
 
   -- bytes hold only values
   pub in_niche_only : (b : List ℕ) (v : Value) → AreBytes b → Holds dl.endian placed b v → IsValueOf dl tree placed v
   in_niche_only b (variant i vs) are h = tagged_variant_only dl layout.size n.offset (niche_size dl n) untagged 0 all tagged_variants fit i b vs are h.3
-  in_niche_only b (number m) are h = absurd h
-  in_niche_only b (two m k) are h = absurd h
-  in_niche_only b (list vs) are h = absurd h
-  in_niche_only b (state i ps vs) are h = absurd h
-  in_niche_only b (bytes content) are h = absurd h
+  in_niche_only b _ are h = absurd h
 
   -- a data place of the tag is one of the enum
   place_of_tag : (j : ℕ) → is_data_place tag j ≡ true → is_data_place placed (n.offset + j) ≡ true
@@ -245,11 +237,7 @@ module _ (dl : TargetDataLayout) (repr : ReprOptions) (layout : Layout) (n : Nic
         subst (λ k. NamesByNiche (size_of tag) untagged first last start k i) (same_number filled xs ys same h.1 agree) h.2,
         tagged_variant_padding dl layout.size n.offset (niche_size dl n) untagged 0 all tagged_variants fit xs ys same (λ k place. agree k (place_of_tagged_variant k place)) i vs h.3,
       )
-  in_niche_padding filled xs ys (number m) ex ey agree h = absurd h
-  in_niche_padding filled xs ys (two m k) ex ey agree h = absurd h
-  in_niche_padding filled xs ys (list vs) ex ey agree h = absurd h
-  in_niche_padding filled xs ys (state i ps vs) ex ey agree h = absurd h
-  in_niche_padding filled xs ys (bytes content) ex ey agree h = absurd h
+  in_niche_padding filled xs ys _ ex ey agree h = absurd h
 
   module _ (new : WrappingRange) (own : IsPartNiche (parts_of_tagged_variant tagged_variants untagged) n)
       (handed : HandsOut (niche_size dl n) n.valid_range new start (last - first + 1)) where
@@ -263,11 +251,7 @@ module _ (dl : TargetDataLayout) (repr : ReprOptions) (layout : Layout) (n : Nic
               let here : HoldTaggedVariant dl.endian tagged_variants untagged b vs = subst (λ j. HoldTaggedVariant dl.endian tagged_variants j b vs) a.0 h.3 in
               (handed.members k).1 (inl (tagged_variant_niche dl layout.size n.offset (niche_size dl n) untagged 0 all tagged_variants fit n untagged own b vs here))
         ]
-    in_niche_number b (number m) h = absurd h
-    in_niche_number b (two m k) h = absurd h
-    in_niche_number b (list vs) h = absurd h
-    in_niche_number b (state i ps vs) h = absurd h
-    in_niche_number b (bytes content) h = absurd h
+    in_niche_number b _ h = absurd h
 
     -- where bytes hold fields of the untagged variant, the number in the niche is one of the old range, and names no other variant
     pub names_itself : NamesItself dl.endian n.offset tag (InNiche untagged (record { start = first; last = last }) start) tagged_variants
@@ -306,8 +290,4 @@ module _ (dl : TargetDataLayout) (repr : ReprOptions) (layout : Layout) (n : Nic
     pub in_niche_exists : n.offset + niche_size dl n ≤ layout.size → AreSpanned untagged first last tagged_variants → (v : Value) → IsValueOf dl tree placed v →
         (b : List ℕ) × AreBytes b × Holds dl.endian placed b v
     in_niche_exists inside spanned (variant i vs) h = variant_exists inside spanned i vs h (i == untagged) refl
-    in_niche_exists inside spanned (number m) h = absurd h
-    in_niche_exists inside spanned (two m k) h = absurd h
-    in_niche_exists inside spanned (list vs) h = absurd h
-    in_niche_exists inside spanned (state i ps vs) h = absurd h
-    in_niche_exists inside spanned (bytes content) h = absurd h
+    in_niche_exists inside spanned _ h = absurd h

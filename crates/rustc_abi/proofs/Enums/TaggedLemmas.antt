@@ -15,7 +15,7 @@ use Rattle.abi_scalar.specs.Range.{numbers_of}
 use Rattle.abi_scalar.specs.Scalar.{scalar_size, IsNumberOf}
 use Rattle.abi_tree.specs.Tree.{Tree, enum, Trees, no_trees, more_trees, Variants, no_variants, more_variants}
 use Rattle.abi_tree.specs.Bytes.{AreBytes, bytes_at, number_of}
-use Rattle.abi_tree.specs.Value.{Value, number, two, list, variant, state, bytes, Values, no_values, more_values}
+use Rattle.abi_tree.specs.Value.{Value, variant, Values, no_values, more_values}
 use Rattle.abi_tree.specs.Mark.{mark_of}
 use Rattle.abi_tree.specs.Placed.{Placed, Parts, no_parts, part, TaggedVariants, nothing_tagged, tagged_variant, layout_of, size_of, tagged, parts_of_tagged_variant, is_flagged}
 use Rattle.abi_scalar.specs.Layout.{Layout}
@@ -188,6 +188,18 @@ tagged_variant_exists dl size offset w inside (more_variants d ts others) (tagge
 tagged_variant_exists dl size offset w inside (more_variants d ts others) (tagged_variant n layout mark parts tagged_variants) fit (suc i) vs h =
     tagged_variant_exists dl size offset w inside others tagged_variants fit.3 i vs h
 
+-- bytes that agree on the data places of a type hold the same tag, where its bytes are some of these
+pub tag_kept : (dl : TargetDataLayout) (tag : Scalar) (p : Placed) (offset : ℕ) → ((j : ℕ) → j < scalar_size dl tag → is_data_place p (offset + j) ≡ true) → (xs ys : List ℕ) →
+    length xs ≡ length ys → offset + scalar_size dl tag ≤ length xs → AgreeOn p xs ys → tag_at dl.endian xs offset (scalar_size dl tag) ≡ tag_at dl.endian ys offset (scalar_size dl tag)
+tag_kept dl tag p offset places xs ys same fits agree =
+    let w : ℕ = scalar_size dl tag in
+    let long_xs : length (bytes_at xs offset w) ≡ w = omega (arith, length-bytes_at xs offset w, fits) in
+    let long_ys : length (bytes_at ys offset w) ≡ w = omega (arith, length-bytes_at ys offset w, fits, same) in
+    ap (number_of dl.endian)
+    (same_bytes (bytes_at xs offset w) (bytes_at ys offset w) w long_xs long_ys
+    (λ k below. AgreeOn-bytes_at (one_scalar dl tag) xs ys offset w same
+    (λ j place. agree (offset + j) (places j (ltb-true j w place))) k (lt-ltb k w below)))
+
 module _ (dl : TargetDataLayout) (repr : ReprOptions) (layout : Layout) (offset : ℕ) (tag : Scalar) (all : Variants) (tagged_variants : TaggedVariants)
     (fit : TaggedVariantsFit dl layout.size offset (scalar_size dl tag) all tagged_variants) where
   abbrev tree : Tree
@@ -204,30 +216,18 @@ module _ (dl : TargetDataLayout) (repr : ReprOptions) (layout : Layout) (offset 
       let fields : vs ≡ ws = tagged_variant_unique dl layout.size offset (scalar_size dl tag) all tagged_variants fit i b vs ws h.3 here in
       cc
   tagged_unique differ b (variant i vs) _ h g = absurd g
-  tagged_unique differ b (number n) w h g = absurd h
-  tagged_unique differ b (two n m) w h g = absurd h
-  tagged_unique differ b (list vs) w h g = absurd h
-  tagged_unique differ b (state i ps vs) w h g = absurd h
-  tagged_unique differ b (bytes content) w h g = absurd h
+  tagged_unique differ b _ w h g = absurd h
 
   -- bytes hold only values
   pub tagged_only : (b : List ℕ) (v : Value) → AreBytes b → Holds dl.endian placed b v → IsValueOf dl tree placed v
   tagged_only b (variant i vs) are h = tagged_variant_only dl layout.size offset (scalar_size dl tag) all tagged_variants fit i b vs are h.3
-  tagged_only b (number n) are h = absurd h
-  tagged_only b (two n m) are h = absurd h
-  tagged_only b (list vs) are h = absurd h
-  tagged_only b (state i ps vs) are h = absurd h
-  tagged_only b (bytes content) are h = absurd h
+  tagged_only b _ are h = absurd h
 
   -- where bytes hold a value, the number at the tag's place is one of the tag's
   pub tagged_number : HaveNumbers (scalar_size dl tag) tag tagged_variants → (b : List ℕ) (v : Value) → Holds dl.endian placed b v →
       IsNumberOf (scalar_size dl tag) tag (tag_at dl.endian b offset (scalar_size dl tag))
   tagged_number numbers b (variant i vs) h = names_number (scalar_size dl tag) tag (tag_at dl.endian b offset (scalar_size dl tag)) tagged_variants numbers i h.2
-  tagged_number numbers b (number n) h = absurd h
-  tagged_number numbers b (two n m) h = absurd h
-  tagged_number numbers b (list vs) h = absurd h
-  tagged_number numbers b (state i ps vs) h = absurd h
-  tagged_number numbers b (bytes content) h = absurd h
+  tagged_number numbers b _ h = absurd h
 
   -- byte j of the tag is a data place
   place_of_tag : (j : ℕ) → j < scalar_size dl tag → is_data_place placed (offset + j) ≡ true
@@ -241,18 +241,6 @@ module _ (dl : TargetDataLayout) (repr : ReprOptions) (layout : Layout) (offset 
   place_of_tagged_variant k place =
       ap (λ x. (nat_le offset k && nat_lt (k - offset) (scalar_size dl tag)) || x) place ∙ or-true (nat_le offset k && nat_lt (k - offset) (scalar_size dl tag))
 
-  -- bytes that agree on the data places hold the same tag
-  same_tag : (xs ys : List ℕ) → length xs ≡ length ys → offset + scalar_size dl tag ≤ length xs → AgreeOn placed xs ys →
-      tag_at dl.endian xs offset (scalar_size dl tag) ≡ tag_at dl.endian ys offset (scalar_size dl tag)
-  same_tag xs ys same fits agree =
-      let w : ℕ = scalar_size dl tag in
-      let long_xs : length (bytes_at xs offset w) ≡ w = omega (arith, length-bytes_at xs offset w, fits) in
-      let long_ys : length (bytes_at ys offset w) ≡ w = omega (arith, length-bytes_at ys offset w, fits, same) in
-      ap (number_of dl.endian)
-      (same_bytes (bytes_at xs offset w) (bytes_at ys offset w) w long_xs long_ys
-      (λ k below. AgreeOn-bytes_at (one_scalar dl tag) xs ys offset w same
-      (λ j place. agree (offset + j) (place_of_tag j (ltb-true j w place))) k (lt-ltb k w below)))
-
   -- bytes that agree on the data places hold the same values
   pub tagged_padding : (xs ys : List ℕ) (v : Value) → length xs ≡ size_of placed → length ys ≡ size_of placed →
       AgreeOn placed xs ys → Holds dl.endian placed xs v → Holds dl.endian placed ys v
@@ -260,14 +248,10 @@ module _ (dl : TargetDataLayout) (repr : ReprOptions) (layout : Layout) (offset 
       let same : length xs ≡ length ys = ex ∙ sym ey in (
         ey,
         omega (arith, same, h.1),
-        subst (λ k. NamesDirectly (scalar_size dl tag) tagged_variants k i) (same_tag xs ys same h.1 agree) h.2,
+        subst (λ k. NamesDirectly (scalar_size dl tag) tagged_variants k i) (tag_kept dl tag placed offset place_of_tag xs ys same h.1 agree) h.2,
         tagged_variant_padding dl layout.size offset (scalar_size dl tag) all tagged_variants fit xs ys same (λ k place. agree k (place_of_tagged_variant k place)) i vs h.3,
       )
-  tagged_padding xs ys (number n) ex ey agree h = absurd h
-  tagged_padding xs ys (two n m) ex ey agree h = absurd h
-  tagged_padding xs ys (list vs) ex ey agree h = absurd h
-  tagged_padding xs ys (state i ps vs) ex ey agree h = absurd h
-  tagged_padding xs ys (bytes content) ex ey agree h = absurd h
+  tagged_padding xs ys _ ex ey agree h = absurd h
 
   -- every value has bytes that hold it
   pub tagged_exists : offset + scalar_size dl tag ≤ layout.size → (v : Value) → IsValueOf dl tree placed v → (b : List ℕ) × AreBytes b × Holds dl.endian placed b v
@@ -275,8 +259,4 @@ module _ (dl : TargetDataLayout) (repr : ReprOptions) (layout : Layout) (offset 
       let found = tagged_variant_exists dl layout.size offset (scalar_size dl tag) inside all tagged_variants fit i vs h in
       let fits : offset + scalar_size dl tag ≤ length found.0 = omega (arith, found.1, inside) in
       (found.0, found.2, (found.1, fits, found.3, found.4))
-  tagged_exists inside (number n) h = absurd h
-  tagged_exists inside (two n m) h = absurd h
-  tagged_exists inside (list vs) h = absurd h
-  tagged_exists inside (state i ps vs) h = absurd h
-  tagged_exists inside (bytes content) h = absurd h
+  tagged_exists inside _ h = absurd h

@@ -154,53 +154,31 @@ alone_counted dl old new i t added own =
     let whole = own_counted dl old old new i t 0 added own (omega arith) in
     (whole.0, whole.1, whole.2, own_inhabited dl old new i t added own)
 
+-- a type with others in it, which have so many nodes
+whole_counted : (dl : TargetDataLayout) (first old new : List Node) (i : ℕ) (t : Tree) (P : ℕ → Type 0) (A : Type 0) →
+    (n : ℕ) × P n × (length old ≡ length first + n) × ((are_inhabited old ≡ true) ↔ ((are_inhabited first ≡ true) × A)) → IsAdded dl old new i t → IsOwnPut old new i →
+    (n : ℕ) × ((m : ℕ) × P m × AddsOwn dl t m n) × (length new ≡ length first + n) × ((are_inhabited new ≡ true) ↔ ((are_inhabited first ≡ true) × (A × IsInhabited dl t)))
+whole_counted dl first old new i t P A parts added own =
+    let whole = own_counted dl first old new i t parts.0 added own parts.2 in
+    (whole.0, (parts.0, parts.1, whole.1), whole.2, parts_inhabited first old new parts.3 (own_inhabited dl old new i t added own))
+
 -- types with one type in them, or with several
 pub array_counted : (dl : TargetDataLayout) (first old new : List Node) (i count : ℕ) (t : Tree) → IsCounted dl first old t → IsAdded dl old new i (array count t) → IsOwnPut old new i → IsCounted dl first new (array count t)
-array_counted dl first old new i count t parts added own =
-    let whole = own_counted dl first old new i (array count t) parts.0 added own parts.2 in (
-      whole.0,
-      (parts.0, parts.1, whole.1),
-      whole.2,
-      parts_inhabited first old new parts.3 (own_inhabited dl old new i (array count t) added own),
-    )
+array_counted dl first old new i count t = whole_counted dl first old new i (array count t) (λ n. HasNodes dl t n) (EachInhabited dl t)
 
 pub vector_counted : (dl : TargetDataLayout) (first old new : List Node) (i lanes : ℕ) (packed : Bool) (t : Tree) → IsCounted dl first old t → IsAdded dl old new i (vector lanes packed t) → IsOwnPut old new i →
     IsCounted dl first new (vector lanes packed t)
-vector_counted dl first old new i lanes packed t parts added own =
-    let whole = own_counted dl first old new i (vector lanes packed t) parts.0 added own parts.2 in (
-      whole.0,
-      (parts.0, parts.1, whole.1),
-      whole.2,
-      parts_inhabited first old new parts.3 (own_inhabited dl old new i (vector lanes packed t) added own),
-    )
+vector_counted dl first old new i lanes packed t = whole_counted dl first old new i (vector lanes packed t) (λ n. HasNodes dl t n) (EachInhabited dl t)
 
 pub struct_counted : (dl : TargetDataLayout) (first old new : List Node) (i : ℕ) (repr : ReprOptions) (always_sized : Bool) (order : Option (List ℕ)) (ts : Trees) → AreCounted dl first old ts → IsAdded dl old new i (struct repr always_sized order ts) → IsOwnPut old new i →
     IsCounted dl first new (struct repr always_sized order ts)
-struct_counted dl first old new i repr always_sized order ts parts added own =
-    let whole = own_counted dl first old new i (struct repr always_sized order ts) parts.0 added own parts.2 in (
-      whole.0,
-      (parts.0, parts.1, whole.1),
-      whole.2,
-      parts_inhabited first old new parts.3 (own_inhabited dl old new i (struct repr always_sized order ts) added own),
-    )
+struct_counted dl first old new i repr always_sized order ts = whole_counted dl first old new i (struct repr always_sized order ts) (λ n. HaveNodes dl ts n) (AreInhabited dl ts)
 
 pub union_counted : (dl : TargetDataLayout) (first old new : List Node) (i : ℕ) (repr : ReprOptions) (ts : Trees) → AreCounted dl first old ts → IsAdded dl old new i (union repr ts) → IsOwnPut old new i → IsCounted dl first new (union repr ts)
-union_counted dl first old new i repr ts parts added own =
-    let whole = own_counted dl first old new i (union repr ts) parts.0 added own parts.2 in (
-      whole.0,
-      (parts.0, parts.1, whole.1),
-      whole.2,
-      parts_inhabited first old new parts.3 (own_inhabited dl old new i (union repr ts) added own),
-    )
+union_counted dl first old new i repr ts = whole_counted dl first old new i (union repr ts) (λ n. HaveNodes dl ts n) (AreInhabited dl ts)
 
 pub enum_counted : (dl : TargetDataLayout) (first old new : List Node) (i : ℕ) (repr : ReprOptions) (all : Variants) → AreVariantsCounted dl first old all → IsAdded dl old new i (enum repr all) → IsOwnPut old new i → IsCounted dl first new (enum repr all)
-enum_counted dl first old new i repr all parts added own =
-    let whole = own_counted dl first old new i (enum repr all) parts.0 added own parts.2 in (
-      whole.0,
-      (parts.0, parts.1, whole.1),
-      whole.2,
-      parts_inhabited first old new parts.3 (own_inhabited dl old new i (enum repr all) added own),
-    )
+enum_counted dl first old new i repr all = whole_counted dl first old new i (enum repr all) (λ n. VariantsHaveNodes dl all n) (VariantsInhabited dl all)
 
 coroutine_inhabited : {O M N F A B C : Type 0} → M ↔ (F × A) → O ↔ (M × B) → N ↔ (O × C) → N ↔ (F × (A × B × C))
 coroutine_inhabited prefix locals whole = (

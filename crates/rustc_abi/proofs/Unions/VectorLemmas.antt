@@ -13,7 +13,7 @@ use Rattle.abi_scalar.specs.Niche.{niche_size}
 use Rattle.abi_scalar.specs.Lawful.{IsLawfulLayout}
 use Rattle.abi_tree.specs.Tree.{Tree, array, vector}
 use Rattle.abi_tree.specs.Bytes.{AreBytes, bytes_at, number_of}
-use Rattle.abi_tree.specs.Value.{Value, number, two, list, variant, state, bytes}
+use Rattle.abi_tree.specs.Value.{Value, list}
 use Rattle.abi_tree.specs.Placed.{Placed, size_of, niche_of, elements, vector as placed_vector}
 use Rattle.abi_scalar.specs.Layout.{Layout}
 use Rattle.abi_tree.specs.Values.{IsValueOf, HasValue, VectorsHaveValues}
@@ -50,37 +50,21 @@ module _ (dl : TargetDataLayout) (t : Tree) (count : ℕ) (packed : Bool) (own :
         AreBytes-put blank found.0 0 (All-replicate (λ b. b < 256) layout.size 0 (omega arith)) found.1,
         (whole, (omega (arith, whole, inside), subst (λ b. Holds dl.endian lanes b (list vs)) (sym here) found.2)),
       )
-  vector_exists (number n) h = absurd h
-  vector_exists (two n m) h = absurd h
-  vector_exists (variant i vs) h = absurd h
-  vector_exists (state i ps vs) h = absurd h
-  vector_exists (bytes content) h = absurd h
+  vector_exists _ h = absurd h
 
   vector_only : (b : List ℕ) (v : Value) → AreBytes b → Holds dl.endian placed b v → IsValueOf dl tree placed v
   vector_only b (list vs) are h = faithful.only (bytes_at b 0 own.size) (list vs) (AreBytes-bytes_at b 0 own.size are) h.1.1
-  vector_only b (number n) are h = absurd h
-  vector_only b (two n m) are h = absurd h
-  vector_only b (variant i vs) are h = absurd h
-  vector_only b (state i ps vs) are h = absurd h
-  vector_only b (bytes content) are h = absurd h
+  vector_only b _ are h = absurd h
 
   vector_unique : (b : List ℕ) (v w : Value) → Holds dl.endian placed b v → Holds dl.endian placed b w → v ≡ w
   vector_unique b (list vs) (list ws) h k = faithful.unique (bytes_at b 0 own.size) (list vs) (list ws) h.1.1 k.1.1
   vector_unique b (list vs) _ h k = absurd k
-  vector_unique b (number n) w h k = absurd h
-  vector_unique b (two n m) w h k = absurd h
-  vector_unique b (variant i vs) w h k = absurd h
-  vector_unique b (state i ps vs) w h k = absurd h
-  vector_unique b (bytes content) w h k = absurd h
+  vector_unique b _ w h k = absurd h
 
   vector_niche : (n : Niche) → IsNicheAt 0 lanes n → (b : List ℕ) (v : Value) → Holds dl.endian placed b v →
       IsIn (niche_size dl n) n.valid_range (number_of dl.endian (bytes_at b n.offset (niche_size dl n)))
   vector_niche n has b (list vs) h = niche_in_whole dl lanes 0 n has faithful.inside faithful.niche b (list vs) h.1.1
-  vector_niche n has b (number m) h = absurd h
-  vector_niche n has b (two m k) h = absurd h
-  vector_niche n has b (variant i vs) h = absurd h
-  vector_niche n has b (state i ps vs) h = absurd h
-  vector_niche n has b (bytes content) h = absurd h
+  vector_niche n has b _ h = absurd h
 
   vector_inside : (n : Niche) → IsNicheAt 0 lanes n → n.offset + niche_size dl n ≤ size_of placed
   vector_inside n has = omega (arith, niche_in_part dl lanes 0 n has faithful.inside, inside)
@@ -93,11 +77,7 @@ module _ (dl : TargetDataLayout) (t : Tree) (count : ℕ) (packed : Bool) (own :
       let there : AgreeOn lanes (bytes_at xs 0 own.size) (bytes_at ys 0 own.size) =
       AgreeOn-bytes_at lanes xs ys 0 own.size (ex ∙ sym ey) (λ j place. let at : j ≡ 0 + j = omega arith in subst (λ i. get_or xs i 0 ≡ get_or ys i 0) at (agree j place)) in
       (ey, (omega (arith, h.1.0), faithful.padding _ _ (list vs) in_xs in_ys there h.1.1))
-  vector_padding xs ys (number n) ex ey agree h = absurd h
-  vector_padding xs ys (two n m) ex ey agree h = absurd h
-  vector_padding xs ys (variant i vs) ex ey agree h = absurd h
-  vector_padding xs ys (state i ps vs) ex ey agree h = absurd h
-  vector_padding xs ys (bytes content) ex ey agree h = absurd h
+  vector_padding xs ys _ ex ey agree h = absurd h
 
   -- a vector of an element with values has a value
   some_lanes : HasValue dl t → (v : Value) × IsValueOf dl tree placed v

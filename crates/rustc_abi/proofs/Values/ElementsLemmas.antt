@@ -14,7 +14,7 @@ use Rattle.abi_scalar.specs.Niche.{niche_size}
 use Rattle.abi_scalar.specs.Lawful.{IsLawfulLayout}
 use Rattle.abi_tree.specs.Tree.{Tree, array}
 use Rattle.abi_tree.specs.Bytes.{AreBytes, bytes_at, number_of}
-use Rattle.abi_tree.specs.Value.{Value, number, two, list, variant, state, bytes, Values, no_values, more_values, value_count, Each}
+use Rattle.abi_tree.specs.Value.{Value, list, Values, no_values, more_values, value_count, Each}
 use Rattle.abi_tree.specs.Placed.{Placed, layout_of, size_of, elements}
 use Rattle.abi_scalar.specs.Layout.{Layout}
 use Rattle.abi_tree.specs.Places.{is_data_place}
@@ -118,38 +118,22 @@ module _ (dl : TargetDataLayout) (t : Tree) (element : Placed) (faithful : IsFai
       let le : 0 + value_count vs * size_of element ≤ layout.size = omega (arith, ap (λ c. c * size_of element) h.0) in
       let found = exist dl t element faithful within 0 layout.size vs h.1 le in
       (found.0, found.2, (found.1, h.0, found.3))
-  array_exists (number n) h = absurd h
-  array_exists (two n m) h = absurd h
-  array_exists (variant i vs) h = absurd h
-  array_exists (state i ps vs) h = absurd h
-  array_exists (bytes content) h = absurd h
+  array_exists _ h = absurd h
 
   array_only : (b : List ℕ) (v : Value) → AreBytes b → Holds dl.endian placed b v → IsValueOf dl (array count t) placed v
   array_only b (list vs) are h = (h.1, only dl t element faithful within 0 b vs are h.2)
-  array_only b (number n) are h = absurd h
-  array_only b (two n m) are h = absurd h
-  array_only b (variant i vs) are h = absurd h
-  array_only b (state i ps vs) are h = absurd h
-  array_only b (bytes content) are h = absurd h
+  array_only b _ are h = absurd h
 
   array_unique : (b : List ℕ) (v w : Value) → Holds dl.endian placed b v → Holds dl.endian placed b w → v ≡ w
   array_unique b (list vs) (list ws) h k = ap list (unique dl t element faithful within 0 b vs ws (h.1 ∙ sym k.1) h.2 k.2)
   array_unique b (list vs) _ h k = absurd k
-  array_unique b (number n) w h k = absurd h
-  array_unique b (two n m) w h k = absurd h
-  array_unique b (variant i vs) w h k = absurd h
-  array_unique b (state i ps vs) w h k = absurd h
-  array_unique b (bytes content) w h k = absurd h
+  array_unique b _ w h k = absurd h
 
   array_niche : (n : Niche) → IsElementNiche count element n → (b : List ℕ) (v : Value) → Holds dl.endian placed b v →
       IsIn (niche_size dl n) n.valid_range (number_of dl.endian (bytes_at b n.offset (niche_size dl n)))
   array_niche n has b (list no_values) h = absurd (omega (arith, h.1, has.0))
   array_niche n has b (list (more_values v vs)) h = niche_in_whole dl element 0 n has.1 faithful.inside faithful.niche b v h.2.0.1
-  array_niche n has b (number m) h = absurd h
-  array_niche n has b (two m k) h = absurd h
-  array_niche n has b (variant i vs) h = absurd h
-  array_niche n has b (state i ps vs) h = absurd h
-  array_niche n has b (bytes content) h = absurd h
+  array_niche n has b _ h = absurd h
 
   array_inside : (n : Niche) → IsElementNiche count element n → n.offset + niche_size dl n ≤ size_of placed
   array_inside n has =
@@ -161,11 +145,7 @@ module _ (dl : TargetDataLayout) (t : Tree) (element : Placed) (faithful : IsFai
       AgreeOn placed xs ys → Holds dl.endian placed xs v → Holds dl.endian placed ys v
   array_padding xs ys (list vs) ex ey agree h =
       (ey, h.1, padding dl t element faithful within layout count 0 0 xs ys vs (omega arith) (omega (arith, h.1)) (ex ∙ sym ey) agree h.2)
-  array_padding xs ys (number n) ex ey agree h = absurd h
-  array_padding xs ys (two n m) ex ey agree h = absurd h
-  array_padding xs ys (variant i vs) ex ey agree h = absurd h
-  array_padding xs ys (state i ps vs) ex ey agree h = absurd h
-  array_padding xs ys (bytes content) ex ey agree h = absurd h
+  array_padding xs ys _ ex ey agree h = absurd h
 
   array_faithful : IsFaithful dl (array count t) placed
   array_faithful = record {

@@ -7,7 +7,7 @@ use Rattle.abi_scalar.specs.Simple.{never_layout, unit_layout}
 use Rattle.abi_scalar.specs.Lawful.{IsLawfulLayout}
 use Rattle.abi_tree.specs.Tree.{never, unit}
 use Rattle.abi_tree.specs.Bytes.{AreBytes}
-use Rattle.abi_tree.specs.Value.{Value, number, two, list, variant, state, bytes, no_values, more_values}
+use Rattle.abi_tree.specs.Value.{Value, list, no_values, more_values}
 use Rattle.abi_tree.specs.declared.mark.Mark.TheVariants.{Never, Unit}
 use Rattle.abi_tree.specs.Placed.{Placed, size_of, never as placed_never, fields, no_parts}
 use Rattle.abi_tree.specs.Values.{IsValueOf}
@@ -40,41 +40,24 @@ module _ (dl : TargetDataLayout) where
 
   unit_exists : (v : Value) → IsValueOf dl unit one_value v → (b : List ℕ) × AreBytes b × Holds dl.endian one_value b v
   unit_exists (list no_values) h = ([], λ k d lt. absurd (omega arith), (refl, tt))
-  unit_exists (list (more_values v vs)) h = absurd h
-  unit_exists (number n) h = absurd h
-  unit_exists (two n m) h = absurd h
-  unit_exists (variant i vs) h = absurd h
-  unit_exists (state i ps vs) h = absurd h
-  unit_exists (bytes content) h = absurd h
+  unit_exists _ h = absurd h
 
   unit_only : (b : List ℕ) (v : Value) → AreBytes b → Holds dl.endian one_value b v → IsValueOf dl unit one_value v
   unit_only b (list no_values) are h = tt
   unit_only b (list (more_values v vs)) are h = absurd h.1
-  unit_only b (number n) are h = absurd h
-  unit_only b (two n m) are h = absurd h
-  unit_only b (variant i vs) are h = absurd h
-  unit_only b (state i ps vs) are h = absurd h
-  unit_only b (bytes content) are h = absurd h
+  unit_only b _ are h = absurd h
 
   unit_unique : (b : List ℕ) (v w : Value) → Holds dl.endian one_value b v → Holds dl.endian one_value b w → v ≡ w
   unit_unique b (list no_values) (list no_values) h k = refl
   unit_unique b (list no_values) (list (more_values w ws)) h k = absurd k.1
   unit_unique b (list (more_values v vs)) w h k = absurd h.1
   unit_unique b (list no_values) _ h k = absurd k
-  unit_unique b (number n) w h k = absurd h
-  unit_unique b (two n m) w h k = absurd h
-  unit_unique b (variant i vs) w h k = absurd h
-  unit_unique b (state i ps vs) w h k = absurd h
-  unit_unique b (bytes content) w h k = absurd h
+  unit_unique b _ w h k = absurd h
 
   unit_padding : (xs ys : List ℕ) (v : Value) → length xs ≡ size_of one_value → length ys ≡ size_of one_value →
       AgreeOn one_value xs ys → Holds dl.endian one_value xs v → Holds dl.endian one_value ys v
   unit_padding xs ys (list vs) ex ey agree h = (ey, h.1)
-  unit_padding xs ys (number n) ex ey agree h = absurd h
-  unit_padding xs ys (two n m) ex ey agree h = absurd h
-  unit_padding xs ys (variant i vs) ex ey agree h = absurd h
-  unit_padding xs ys (state i ps vs) ex ey agree h = absurd h
-  unit_padding xs ys (bytes content) ex ey agree h = absurd h
+  unit_padding xs ys _ ex ey agree h = absurd h
 
   unit_faithful : IsFaithful dl unit one_value
   unit_faithful = record {

@@ -15,7 +15,7 @@ use Rattle.abi_univariant.specs.Apart.{AreApart, IsBeside}
 use Rattle.abi_univariant.specs.ListNiche as calc
 use Rattle.abi_tree.specs.Tree.{Tree, struct, Trees, no_trees, more_trees}
 use Rattle.abi_tree.specs.Bytes.{AreBytes, bytes_at, number_of}
-use Rattle.abi_tree.specs.Value.{Value, number, two, list, variant, state, bytes, Values, no_values, more_values}
+use Rattle.abi_tree.specs.Value.{Value, list, Values, no_values, more_values}
 use Rattle.abi_tree.specs.Mark.{mark_of}
 use Rattle.abi_tree.specs.Placed.{Placed, Parts, no_parts, part, layout_of, size_of, niche_of, fields}
 use Rattle.abi_scalar.specs.Layout.{Layout}
@@ -84,54 +84,30 @@ module _ (dl : TargetDataLayout) (repr : ReprOptions) (always_sized : Bool) (ord
 
   struct_exists : (v : Value) → IsValueOf dl tree placed v → (b : List ℕ) × AreBytes b × Holds dl.endian placed b v
   struct_exists (list vs) h = let found = exist dl layout.size ts parts fit vs h in (found.0, found.2, (found.1, found.3))
-  struct_exists (number n) h = absurd h
-  struct_exists (two n m) h = absurd h
-  struct_exists (variant i vs) h = absurd h
-  struct_exists (state i ps vs) h = absurd h
-  struct_exists (bytes content) h = absurd h
+  struct_exists _ h = absurd h
 
   struct_only : (b : List ℕ) (v : Value) → AreBytes b → Holds dl.endian placed b v → IsValueOf dl tree placed v
   struct_only b (list vs) are h = only dl layout.size ts parts fit b vs are h.1
-  struct_only b (number n) are h = absurd h
-  struct_only b (two n m) are h = absurd h
-  struct_only b (variant i vs) are h = absurd h
-  struct_only b (state i ps vs) are h = absurd h
-  struct_only b (bytes content) are h = absurd h
+  struct_only b _ are h = absurd h
 
   struct_unique : (b : List ℕ) (v w : Value) → Holds dl.endian placed b v → Holds dl.endian placed b w → v ≡ w
   struct_unique b (list vs) (list ws) h k = ap list (unique dl layout.size ts parts fit b vs ws h.1 k.1)
   struct_unique b (list vs) _ h k = absurd k
-  struct_unique b (number n) w h k = absurd h
-  struct_unique b (two n m) w h k = absurd h
-  struct_unique b (variant i vs) w h k = absurd h
-  struct_unique b (state i ps vs) w h k = absurd h
-  struct_unique b (bytes content) w h k = absurd h
+  struct_unique b _ w h k = absurd h
 
   struct_niche : (n : Niche) → IsPartNiche parts n → (b : List ℕ) (v : Value) → Holds dl.endian placed b v →
       IsIn (niche_size dl n) n.valid_range (number_of dl.endian (bytes_at b n.offset (niche_size dl n)))
   struct_niche n has b (list vs) h = part_niche dl layout.size ts parts fit n has b vs h.1
-  struct_niche n has b (number m) h = absurd h
-  struct_niche n has b (two m k) h = absurd h
-  struct_niche n has b (variant i vs) h = absurd h
-  struct_niche n has b (state i ps vs) h = absurd h
-  struct_niche n has b (bytes content) h = absurd h
+  struct_niche n has b _ h = absurd h
 
   struct_padding : (xs ys : List ℕ) (v : Value) → length xs ≡ size_of placed → length ys ≡ size_of placed →
       AgreeOn placed xs ys → Holds dl.endian placed xs v → Holds dl.endian placed ys v
   struct_padding xs ys (list vs) ex ey agree h = (ey, padding dl layout.size ts parts fit xs ys vs (ex ∙ sym ey) agree h.1)
-  struct_padding xs ys (number n) ex ey agree h = absurd h
-  struct_padding xs ys (two n m) ex ey agree h = absurd h
-  struct_padding xs ys (variant i vs) ex ey agree h = absurd h
-  struct_padding xs ys (state i ps vs) ex ey agree h = absurd h
-  struct_padding xs ys (bytes content) ex ey agree h = absurd h
+  struct_padding xs ys _ ex ey agree h = absurd h
 
   struct_view : (b : List ℕ) (v : Value) → Holds dl.endian placed b v → IsTrueOf dl layout.backend_repr b
   struct_view b (list vs) h = view b vs h.1
-  struct_view b (number n) h = absurd h
-  struct_view b (two n m) h = absurd h
-  struct_view b (variant i vs) h = absurd h
-  struct_view b (state i ps vs) h = absurd h
-  struct_view b (bytes content) h = absurd h
+  struct_view b _ h = absurd h
 
   struct_faithful : IsFaithful dl tree placed
   struct_faithful = record {

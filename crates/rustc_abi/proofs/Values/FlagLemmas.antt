@@ -7,7 +7,7 @@ use Rattle.abi_base.specs.declared.data_layout.TargetDataLayout.{TargetDataLayou
 use Rattle.abi_scalar.specs.declared.repr.ReprOptions.{ReprOptions}
 use Rattle.abi_univariant.specs.Apart.{AreApart}
 use Rattle.abi_tree.specs.Tree.{Tree, array, struct, Trees, no_trees, more_trees}
-use Rattle.abi_tree.specs.Value.{Value, number, two, list, variant, state, bytes, Values, no_values, more_values, value_count, Each}
+use Rattle.abi_tree.specs.Value.{Value, list, Values, no_values, more_values, value_count, Each}
 use Rattle.abi_tree.specs.Mark.{mark_of}
 use Rattle.abi_tree.specs.Placed.{Placed, layout_of, size_of, elements, fields}
 use Rattle.abi_scalar.specs.Layout.{Layout}
@@ -43,11 +43,7 @@ module _ (dl : TargetDataLayout) (t : Tree) (element : Placed) (count : ℕ) (la
     where
       none_of : (v : Value) → IsValueOf dl (array count t) (elements layout count element) v → ⊥
       none_of (list vs) k = h vs k.0 k.1
-      none_of (number n) k = k
-      none_of (two n m) k = k
-      none_of (variant i vs) k = k
-      none_of (state i ps vs) k = k
-      none_of (bytes content) k = k
+      none_of _ k = k
   of_array false h = λ c. let some = h c in (list some.0, (some.1, some.2))
 
   -- an array has no value where it has elements, and they have none
@@ -111,11 +107,7 @@ module _ (dl : TargetDataLayout) where
       where
         none_of : (v : Value) → IsValueOf dl (struct repr always_sized order ts) (fields layout (mark_of false repr) (parts_at offsets ps)) v → ⊥
         none_of (list vs) k = h vs k
-        none_of (number n) k = k
-        none_of (two n m) k = k
-        none_of (variant i vs) k = k
-        none_of (state i xs vs) k = k
-        none_of (bytes content) k = k
+        none_of _ k = k
     of_struct false h = λ c. let some = h c in (list some.0, some.1)
 
     -- a struct has no value where some field has none

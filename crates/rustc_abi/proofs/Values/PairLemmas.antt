@@ -17,7 +17,7 @@ use Rattle.abi_scalar.specs.Pair.{pair_layout, second_offset, larger_niche}
 use Rattle.abi_scalar.specs.Lawful.{IsLawfulLayout}
 use Rattle.abi_tree.specs.Tree.{Tree, scalar, pair, Trees, no_trees, more_trees}
 use Rattle.abi_tree.specs.Bytes.{AreBytes, bytes_at, number_of}
-use Rattle.abi_tree.specs.Value.{Value, number, two, list, variant, state, bytes, Values, no_values, more_values}
+use Rattle.abi_tree.specs.Value.{Value, number, two, Values, no_values, more_values}
 use Rattle.abi_tree.specs.Placed.{Placed, Parts, no_parts, part, size_of}
 use Rattle.abi_scalar.specs.Layout.{Layout}
 use Rattle.abi_tree.specs.Values.{IsValueOf}
@@ -102,19 +102,11 @@ module _ (dl : TargetDataLayout) (a b : Scalar) (ha : IsLawfulScalar dl a) (hb :
 
   pair_exists : (v : Value) → IsValueOf dl tree placed v → (x : List ℕ) × AreBytes x × Holds dl.endian placed x v
   pair_exists (two n m) h = let found = exist dl layout.size scalars parts together (numbers n m) (h.0, (h.1, tt)) in (found.0, found.2, (found.1, found.3))
-  pair_exists (number n) h = absurd h
-  pair_exists (list vs) h = absurd h
-  pair_exists (variant i vs) h = absurd h
-  pair_exists (state i ps vs) h = absurd h
-  pair_exists (bytes content) h = absurd h
+  pair_exists _ h = absurd h
 
   pair_only : (x : List ℕ) (v : Value) → AreBytes x → Holds dl.endian placed x v → IsValueOf dl tree placed v
   pair_only x (two n m) are h = let found = only dl layout.size scalars parts together x (numbers n m) are h.1 in (found.0, found.1.0)
-  pair_only x (number n) are h = absurd h
-  pair_only x (list vs) are h = absurd h
-  pair_only x (variant i vs) are h = absurd h
-  pair_only x (state i ps vs) are h = absurd h
-  pair_only x (bytes content) are h = absurd h
+  pair_only x _ are h = absurd h
 
   same_numbers : (n m k l : ℕ) → numbers n m ≡ numbers k l → two n m ≡ two k l
   same_numbers n m k l e = cc
@@ -122,11 +114,7 @@ module _ (dl : TargetDataLayout) (a b : Scalar) (ha : IsLawfulScalar dl a) (hb :
   pair_unique : (x : List ℕ) (v w : Value) → Holds dl.endian placed x v → Holds dl.endian placed x w → v ≡ w
   pair_unique x (two n m) (two k l) h g = same_numbers n m k l (unique dl layout.size scalars parts together x (numbers n m) (numbers k l) h.1 g.1)
   pair_unique x (two n m) _ h g = absurd g
-  pair_unique x (number n) w h g = absurd h
-  pair_unique x (list vs) w h g = absurd h
-  pair_unique x (variant i vs) w h g = absurd h
-  pair_unique x (state i ps vs) w h g = absurd h
-  pair_unique x (bytes content) w h g = absurd h
+  pair_unique x _ w h g = absurd h
 
   niche : IfSome layout.largest_niche (IsPartNiche parts)
   niche = larger_has dl (IsPartNiche parts) (niche_at dl 0 a) (niche_at dl offset b)
@@ -136,20 +124,12 @@ module _ (dl : TargetDataLayout) (a b : Scalar) (ha : IsLawfulScalar dl a) (hb :
   pair_niche : (n : Niche) → IsPartNiche parts n → (x : List ℕ) (v : Value) → Holds dl.endian placed x v →
       IsIn (niche_size dl n) n.valid_range (number_of dl.endian (bytes_at x n.offset (niche_size dl n)))
   pair_niche n has x (two k l) h = part_niche dl layout.size scalars parts together n has x (numbers k l) h.1
-  pair_niche n has x (number m) h = absurd h
-  pair_niche n has x (list vs) h = absurd h
-  pair_niche n has x (variant i vs) h = absurd h
-  pair_niche n has x (state i ps vs) h = absurd h
-  pair_niche n has x (bytes content) h = absurd h
+  pair_niche n has x _ h = absurd h
 
   pair_padding : (xs ys : List ℕ) (v : Value) → length xs ≡ size_of placed → length ys ≡ size_of placed →
       AgreeOn placed xs ys → Holds dl.endian placed xs v → Holds dl.endian placed ys v
   pair_padding xs ys (two n m) ex ey agree h = (ey, padding dl layout.size scalars parts together xs ys (numbers n m) (ex ∙ sym ey) agree h.1)
-  pair_padding xs ys (number n) ex ey agree h = absurd h
-  pair_padding xs ys (list vs) ex ey agree h = absurd h
-  pair_padding xs ys (variant i vs) ex ey agree h = absurd h
-  pair_padding xs ys (state i ps vs) ex ey agree h = absurd h
-  pair_padding xs ys (bytes content) ex ey agree h = absurd h
+  pair_padding xs ys _ ex ey agree h = absurd h
 
   pair_view : (x : List ℕ) (v : Value) → Holds dl.endian placed x v → IsTrueOf dl layout.backend_repr x
   pair_view x (two n m) h =
@@ -158,11 +138,7 @@ module _ (dl : TargetDataLayout) (a b : Scalar) (ha : IsLawfulScalar dl a) (hb :
         true_at dl a 0 x (held_true dl a (scalar_size dl a) (bytes_at x 0 (scalar_size dl a)) n refl first.0 first.1 first.2),
         true_at dl b offset x (held_true dl b (scalar_size dl b) (bytes_at x offset (scalar_size dl b)) m refl second.0 second.1 second.2),
       )
-  pair_view x (number m) h = absurd h
-  pair_view x (list vs) h = absurd h
-  pair_view x (variant i vs) h = absurd h
-  pair_view x (state i ps vs) h = absurd h
-  pair_view x (bytes content) h = absurd h
+  pair_view x _ h = absurd h
 
   pair_faithful : IsFaithful dl tree placed
   pair_faithful = record {

@@ -17,7 +17,7 @@ use Rattle.abi_scalar.specs.Niche.{niche_size, niche_at}
 use Rattle.abi_scalar.specs.Lawful.{IsLawfulLayout}
 use Rattle.abi_tree.specs.Tree.{Tree, scalar}
 use Rattle.abi_tree.specs.Bytes.{AreBytes, bytes_at, number_of}
-use Rattle.abi_tree.specs.Value.{Value, number, two, list, variant, state, bytes}
+use Rattle.abi_tree.specs.Value.{Value, number}
 use Rattle.abi_tree.specs.Placed.{Placed, size_of, scalar as placed_scalar}
 use Rattle.abi_scalar.specs.Layout.{Layout}
 use Rattle.abi_tree.specs.Places.{is_data_place}
@@ -71,28 +71,16 @@ module _ (dl : TargetDataLayout) (s : Scalar) (layout : Layout) (size : layout.s
         AreBytes-spelled_in dl.endian layout.size n,
         (length-spelled_in dl.endian layout.size n, sym (number_of-spelled_in dl.endian layout.size n (in_width layout.size s n here)), here),
       )
-  exists (two n m) h = absurd h
-  exists (list vs) h = absurd h
-  exists (variant i vs) h = absurd h
-  exists (state i ps vs) h = absurd h
-  exists (bytes content) h = absurd h
+  exists _ h = absurd h
 
   only : (b : List ℕ) (v : Value) → AreBytes b → Holds dl.endian placed b v → IsValueOf dl tree placed v
   only b (number n) are h = subst (λ w. IsNumberOf w s n) size h.2
-  only b (two n m) are h = h
-  only b (list vs) are h = h
-  only b (variant i vs) are h = h
-  only b (state i ps vs) are h = h
-  only b (bytes content) are h = h
+  only b _ are h = h
 
   unique : (b : List ℕ) (v w : Value) → Holds dl.endian placed b v → Holds dl.endian placed b w → v ≡ w
   unique b (number n) (number m) h k = ap number (h.1 ∙ sym k.1)
   unique b (number n) _ h k = absurd k
-  unique b (two n m) w h k = absurd h
-  unique b (list vs) w h k = absurd h
-  unique b (variant i vs) w h k = absurd h
-  unique b (state i ps vs) w h k = absurd h
-  unique b (bytes content) w h k = absurd h
+  unique b _ w h k = absurd h
 
   padding : (xs ys : List ℕ) (v : Value) → length xs ≡ size_of placed → length ys ≡ size_of placed →
       AgreeOn placed xs ys → Holds dl.endian placed xs v → Holds dl.endian placed ys v
@@ -109,11 +97,7 @@ module _ (dl : TargetDataLayout) (s : Scalar) (layout : Layout) (size : layout.s
       let here : IsNumberOf layout.size (Initialized n.value n.valid_range) m = subst (λ t. IsNumberOf layout.size t m) e.1 h.2 in
       subst (λ w. IsIn w n.valid_range (number_of dl.endian (bytes_at b n.offset (niche_size dl n)))) width
       (subst (IsIn layout.size n.valid_range) (h.1 ∙ ap (number_of dl.endian) (sym whole)) here)
-  true_niche n e b (two m k) h = absurd h
-  true_niche n e b (list vs) h = absurd h
-  true_niche n e b (variant i vs) h = absurd h
-  true_niche n e b (state i ps vs) h = absurd h
-  true_niche n e b (bytes content) h = absurd h
+  true_niche n e b _ h = absurd h
 
   inside_niche : (n : Niche) → IsWhole s n → n.offset + niche_size dl n ≤ size_of placed
   inside_niche n e =
@@ -122,11 +106,7 @@ module _ (dl : TargetDataLayout) (s : Scalar) (layout : Layout) (size : layout.s
 
   true_view : (b : List ℕ) (v : Value) → Holds dl.endian placed b v → IsTrueOf dl layout.backend_repr b
   true_view b (number m) h = subst (λ r. IsTrueOf dl r b) (sym view) (held_true dl s layout.size b m size h.0 h.1 h.2)
-  true_view b (two m k) h = absurd h
-  true_view b (list vs) h = absurd h
-  true_view b (variant i vs) h = absurd h
-  true_view b (state i ps vs) h = absurd h
-  true_view b (bytes content) h = absurd h
+  true_view b _ h = absurd h
 
   true_flag : IsFlagTrue dl tree placed
   true_flag = let some = some_number dl s here in rw flag (λ _. (number some.0, some.1))

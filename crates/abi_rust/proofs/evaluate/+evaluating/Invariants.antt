@@ -1,5 +1,9 @@
 -- Each of these evaluates within less room, or within the same room what stands lower.
-use Rattle.std.proofs.Common.{◌+◌, ◌*◌}
+use Rattle.std.proofs.Common.{◌≡◌, ◌+◌, ◌*◌, [], drop}
+use Rattle.indexmap.specs.IndexMap.{get}
+use Rattle.abi_rust.specs.Evaluating.{AreValues, arguments_from, evaluator}
+use Rattle.abi_rust.specs.Scope.{same_key}
+use Rattle.abi_rust.specs.Types.{all_given, where_of}
 use Rattle.abi_rust.proofs.evaluate.+evaluating.Given as goal
 
 abbrev pub decreases-evaluate : goal.decreases-evaluate
@@ -49,6 +53,23 @@ decreases-evaluate_of_both l = 8 * l.env.depth_left + 2
 
 abbrev pub decreases-evaluate_method : goal.decreases-evaluate_method
 decreases-evaluate_method l = 8 * l.env.depth_left + 3
+
+abbrev pub decreases-evaluate_argument : goal.decreases-evaluate_argument
+decreases-evaluate_argument l = 8 * l.env.depth_left + 1
+
+abbrev pub decreases-evaluate_arguments : goal.decreases-evaluate_arguments
+decreases-evaluate_arguments l = 8 * l.env.depth_left + 2
+
+abbrev pub decreases-evaluate_function : goal.decreases-evaluate_function
+decreases-evaluate_function l = 8 * l.env.depth_left + 3
+
+-- the arguments that are left, behind those that are evaluated, are given as all are
+abbrev pub invariant-evaluate_arguments-loop-index : goal.invariant-evaluate_arguments-loop-index
+invariant-evaluate_arguments-loop-index l = record {
+  value : arguments_from l.cx (evaluator l.cx l.env.depth_left) (where_of l.env) l.expr.at l.function (all_given l.given.items) l.index (drop l.index l.expr.arguments.now)
+      ≡ arguments_from l.cx (evaluator l.cx l.env.depth_left) (where_of l.env) l.expr.at l.function [] 0 l.expr.arguments.now;
+  kept : AreValues l.cx (get same_key l.budget.values);
+}
 
 abbrev pub decreases-evaluate_call : goal.decreases-evaluate_call
 decreases-evaluate_call l = 8 * l.env.depth_left + 4

@@ -12,13 +12,10 @@ set_at-requires c = (c.requires.made c.loop-i.i 0 (omega (arith, c.min-i-end.ens
 
 pub add_set-requires : goal.add_set-requires
 add_set-requires c =
-    let os : List ℕ = c.args.offsets.now in
-    let cs : List ℕ = c.args.children.now in
-    let i : ℕ = c.loop-i.i in
-    let lt : i < length os = omega (arith, c.min-i-end.ensures, c.loop-i-test.true) in
-    let below : i < length cs = omega (arith, c.min-i-end.ensures, c.loop-i-test.true) in
-    let offset : c.bytes.result ≡ get_or os i 0 = c.bytes.ensures ∙ c.index-offsets-i.is ∙ get_or_default os i c.index-offsets-i.result 0 lt in
-    rw c.set_at.ensures (λ k d inside. omega (arith, c.requires.fits i lt below k d inside, offset))
+    let lt : c.loop-i.i < length c.args.offsets.now = omega (arith, c.min-i-end.ensures, c.loop-i-test.true) in
+    let below : c.loop-i.i < length c.args.children.now = omega (arith, c.min-i-end.ensures, c.loop-i-test.true) in
+    let offset = c.bytes.ensures ∙ c.index-offsets-i.is ∙ get_or_default c.args.offsets.now c.loop-i.i c.index-offsets-i.result 0 lt in
+    rw c.set_at.ensures (λ k d inside. omega (arith, c.requires.fits c.loop-i.i lt below k d inside, offset))
 
 pub loop-i-preserved : goal.loop-i-preserved
 loop-i-preserved c =

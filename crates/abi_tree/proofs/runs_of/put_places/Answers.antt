@@ -1,5 +1,4 @@
-use Rattle.std.proofs.Common.{◌≡◌, ◌<◌, ℕ, [], ◌∷◌, ap, arith, length, subst, sym, ◌∙◌}
-use Rattle.std.specs.Prelude.{◌^◌}
+use Rattle.std.proofs.Common.{◌≡◌, ℕ, [], ◌∷◌, ap, arith, length, subst, sym, ◌∙◌}
 use Rattle.std.proofs.lemmas.Result.{on_ok_weaker}
 use Rattle.abi_index.specs.RangeSet.{is_in_ranges}
 use Rattle.abi_index.specs.Runs.{Adds, moved_to, repeated}
@@ -10,69 +9,25 @@ use Rattle.abi_tree.specs.Needed.{placed_nodes}
 use Rattle.abi_tree.proofs.Places.MadeLemmas.{beside_fits, beside_tagged, elements_of, listed_fields, listed_fit, listed_pair, listed_single, maximal_fits, put_elements, put_fields, put_pair, put_single, put_states, put_tagged, put_union, put_vector, states_parts, union_sets, vector_set}
 use Rattle.abi_tree.proofs.runs_of.put_places.Goals as goal
 
-pub put_parts-requires-clause-made : goal.put_parts-requires-clause-made
-put_parts-requires-clause-made c =
-    let n : Node = lent_node c.args.node in
-    let t = c.requires.made.0 in
-    let m = c.requires.made.1 in
-    let fits : n.layout.size < 2 ^ 64 = omega (arith, c.bytes-size.ensures, c.bytes-size.type_inv) in
-    (listed_fit t n c.args.done.now m c.requires.some (c.in-Pair.first ∷ c.in-Pair.second ∷ []) c.offsets.result.now c.placed_children.result.now (listed_pair t n c.args.done.now m c.requires.some c.in-Pair.first c.in-Pair.second c.in-Pair.is) c.offsets.ensures (c.placed_children.ensures) fits).0
+pub put_parts-requires : goal.put_parts-requires
+put_parts-requires c =
+    let all = listed_fit c.requires.made.0 (lent_node c.args.node) c.args.done.now c.requires.made.1 c.requires.some (c.in-Pair.first ∷ c.in-Pair.second ∷ []) c.offsets.result.now c.placed_children.result.now (listed_pair c.requires.made.0 (lent_node c.args.node) c.args.done.now c.requires.made.1 c.requires.some c.in-Pair.first c.in-Pair.second c.in-Pair.is) c.offsets.ensures (c.placed_children.ensures) (omega (arith, c.bytes-size.ensures, c.bytes-size.type_inv)) in
+    record { made = all.0; fits = all.1 }
 
-pub put_parts-requires-clause-fits : goal.put_parts-requires-clause-fits
-put_parts-requires-clause-fits c =
-    let n : Node = lent_node c.args.node in
-    let t = c.requires.made.0 in
-    let m = c.requires.made.1 in
-    let fits : n.layout.size < 2 ^ 64 = omega (arith, c.bytes-size.ensures, c.bytes-size.type_inv) in
-    (listed_fit t n c.args.done.now m c.requires.some (c.in-Pair.first ∷ c.in-Pair.second ∷ []) c.offsets.result.now c.placed_children.result.now (listed_pair t n c.args.done.now m c.requires.some c.in-Pair.first c.in-Pair.second c.in-Pair.is) c.offsets.ensures (c.placed_children.ensures) fits).1
+pub put_parts-requires-in-Fields : goal.put_parts-requires-in-Fields
+put_parts-requires-in-Fields c =
+    let all = listed_fit c.requires.made.0 (lent_node c.args.node) c.args.done.now c.requires.made.1 c.requires.some c.in-Fields.children.items c.offsets-in-Fields.result.now c.placed_children-in-Fields.result.now (listed_fields c.requires.made.0 (lent_node c.args.node) c.args.done.now c.requires.made.1 c.requires.some c.in-Fields.field-0 c.in-Fields.children c.in-Fields.is) c.offsets-in-Fields.ensures (c.placed_children-in-Fields.ensures ∙ ap (placed_nodes (lent_node c.args.node).layout) c.deref.ensures.value) (omega (arith, c.bytes-size.ensures, c.bytes-size.type_inv)) in
+    record { made = all.0; fits = all.1 }
 
-pub put_parts-requires-in-Fields-clause-made : goal.put_parts-requires-in-Fields-clause-made
-put_parts-requires-in-Fields-clause-made c =
-    let n : Node = lent_node c.args.node in
-    let t = c.requires.made.0 in
-    let m = c.requires.made.1 in
-    let fits : n.layout.size < 2 ^ 64 = omega (arith, c.bytes-size.ensures, c.bytes-size.type_inv) in
-    (listed_fit t n c.args.done.now m c.requires.some c.in-Fields.children.items c.offsets-in-Fields.result.now c.placed_children-in-Fields.result.now (listed_fields t n c.args.done.now m c.requires.some c.in-Fields.field-0 c.in-Fields.children c.in-Fields.is) c.offsets-in-Fields.ensures (c.placed_children-in-Fields.ensures ∙ ap (placed_nodes n.layout) c.deref.ensures.value) fits).0
+pub put_parts-requires-in-Single : goal.put_parts-requires-in-Single
+put_parts-requires-in-Single c =
+    let all = listed_fit c.requires.made.0 (lent_node c.args.node) c.args.done.now c.requires.made.1 c.requires.some c.in-Single.children.items c.offsets-in-Single.result.now c.placed_children-in-Single.result.now (listed_single c.requires.made.0 (lent_node c.args.node) c.args.done.now c.requires.made.1 c.requires.some c.in-Single.field-0 c.in-Single.children c.in-Single.is) c.offsets-in-Single.ensures (c.placed_children-in-Single.ensures ∙ ap (placed_nodes (lent_node c.args.node).layout) c.deref-in-Single.ensures.value) (omega (arith, c.bytes-size.ensures, c.bytes-size.type_inv)) in
+    record { made = all.0; fits = all.1 }
 
-pub put_parts-requires-in-Fields-clause-fits : goal.put_parts-requires-in-Fields-clause-fits
-put_parts-requires-in-Fields-clause-fits c =
-    let n : Node = lent_node c.args.node in
-    let t = c.requires.made.0 in
-    let m = c.requires.made.1 in
-    let fits : n.layout.size < 2 ^ 64 = omega (arith, c.bytes-size.ensures, c.bytes-size.type_inv) in
-    (listed_fit t n c.args.done.now m c.requires.some c.in-Fields.children.items c.offsets-in-Fields.result.now c.placed_children-in-Fields.result.now (listed_fields t n c.args.done.now m c.requires.some c.in-Fields.field-0 c.in-Fields.children c.in-Fields.is) c.offsets-in-Fields.ensures (c.placed_children-in-Fields.ensures ∙ ap (placed_nodes n.layout) c.deref.ensures.value) fits).1
-
-pub put_parts-requires-in-Single-clause-made : goal.put_parts-requires-in-Single-clause-made
-put_parts-requires-in-Single-clause-made c =
-    let n : Node = lent_node c.args.node in
-    let t = c.requires.made.0 in
-    let m = c.requires.made.1 in
-    let fits : n.layout.size < 2 ^ 64 = omega (arith, c.bytes-size.ensures, c.bytes-size.type_inv) in
-    (listed_fit t n c.args.done.now m c.requires.some c.in-Single.children.items c.offsets-in-Single.result.now c.placed_children-in-Single.result.now (listed_single t n c.args.done.now m c.requires.some c.in-Single.field-0 c.in-Single.children c.in-Single.is) c.offsets-in-Single.ensures (c.placed_children-in-Single.ensures ∙ ap (placed_nodes n.layout) c.deref-in-Single.ensures.value) fits).0
-
-pub put_parts-requires-in-Single-clause-fits : goal.put_parts-requires-in-Single-clause-fits
-put_parts-requires-in-Single-clause-fits c =
-    let n : Node = lent_node c.args.node in
-    let t = c.requires.made.0 in
-    let m = c.requires.made.1 in
-    let fits : n.layout.size < 2 ^ 64 = omega (arith, c.bytes-size.ensures, c.bytes-size.type_inv) in
-    (listed_fit t n c.args.done.now m c.requires.some c.in-Single.children.items c.offsets-in-Single.result.now c.placed_children-in-Single.result.now (listed_single t n c.args.done.now m c.requires.some c.in-Single.field-0 c.in-Single.children c.in-Single.is) c.offsets-in-Single.ensures (c.placed_children-in-Single.ensures ∙ ap (placed_nodes n.layout) c.deref-in-Single.ensures.value) fits).1
-
-pub put_parts-requires-in-States-clause-made : goal.put_parts-requires-in-States-clause-made
-put_parts-requires-in-States-clause-made c =
-    let n : Node = lent_node c.args.node in
-    let t = c.requires.made.0 in
-    let m = c.requires.made.1 in
-    let fits : n.layout.size < 2 ^ 64 = omega (arith, c.bytes-size.ensures, c.bytes-size.type_inv) in
-    (listed_fit t n c.args.done.now m c.requires.some c.in-States.prefix.items c.offsets-in-States.result.now c.placed_children-in-States.result.now (states_parts t n c.args.done.now m c.requires.some c.in-States.prefix c.in-States.tag c.in-States.states c.in-States.is).0 c.offsets-in-States.ensures (c.placed_children-in-States.ensures ∙ ap (placed_nodes n.layout) c.deref-in-States.ensures.value) fits).0
-
-pub put_parts-requires-in-States-clause-fits : goal.put_parts-requires-in-States-clause-fits
-put_parts-requires-in-States-clause-fits c =
-    let n : Node = lent_node c.args.node in
-    let t = c.requires.made.0 in
-    let m = c.requires.made.1 in
-    let fits : n.layout.size < 2 ^ 64 = omega (arith, c.bytes-size.ensures, c.bytes-size.type_inv) in
-    (listed_fit t n c.args.done.now m c.requires.some c.in-States.prefix.items c.offsets-in-States.result.now c.placed_children-in-States.result.now (states_parts t n c.args.done.now m c.requires.some c.in-States.prefix c.in-States.tag c.in-States.states c.in-States.is).0 c.offsets-in-States.ensures (c.placed_children-in-States.ensures ∙ ap (placed_nodes n.layout) c.deref-in-States.ensures.value) fits).1
+pub put_parts-requires-in-States : goal.put_parts-requires-in-States
+put_parts-requires-in-States c =
+    let all = listed_fit c.requires.made.0 (lent_node c.args.node) c.args.done.now c.requires.made.1 c.requires.some c.in-States.prefix.items c.offsets-in-States.result.now c.placed_children-in-States.result.now (states_parts c.requires.made.0 (lent_node c.args.node) c.args.done.now c.requires.made.1 c.requires.some c.in-States.prefix c.in-States.tag c.in-States.states c.in-States.is).0 c.offsets-in-States.ensures (c.placed_children-in-States.ensures ∙ ap (placed_nodes (lent_node c.args.node).layout) c.deref-in-States.ensures.value) (omega (arith, c.bytes-size.ensures, c.bytes-size.type_inv)) in
+    record { made = all.0; fits = all.1 }
 
 pub returns-in-Pair : goal.returns-in-Pair
 returns-in-Pair c =
@@ -142,32 +97,11 @@ returns-in-Vector c =
     (subst (λ s. Adds c.args.runs.now c.add_set.new.self (moved_to 0 (is_in_ranges s))) c.set_at-in-Vector.ensures put))
     c.add_set.ensures.bytes
 
-pub put_tagged-requires-clause-tag : goal.put_tagged-requires-clause-tag
-put_tagged-requires-clause-tag c =
-    let n : Node = lent_node c.args.node in
-    let t = c.requires.made.0 in
-    let m = c.requires.made.1 in
-    let fits : n.layout.size < 2 ^ 64 = omega (arith, c.bytes-size.ensures, c.bytes-size.type_inv) in
-    let beside = beside_tagged t n c.args.done.now m c.requires.some c.in-Tagged.mark c.in-Tagged.tag c.in-Tagged.variants c.in-Tagged.is in
-    (beside_fits t n c.args.done.now m c.requires.some _ c.in-Tagged.tag c.in-Tagged.variants.items beside fits).0
-
-pub put_tagged-requires-clause-fits : goal.put_tagged-requires-clause-fits
-put_tagged-requires-clause-fits c =
-    let n : Node = lent_node c.args.node in
-    let t = c.requires.made.0 in
-    let m = c.requires.made.1 in
-    let fits : n.layout.size < 2 ^ 64 = omega (arith, c.bytes-size.ensures, c.bytes-size.type_inv) in
-    let beside = beside_tagged t n c.args.done.now m c.requires.some c.in-Tagged.mark c.in-Tagged.tag c.in-Tagged.variants c.in-Tagged.is in
-    rw c.tag_offset.ensures (beside_fits t n c.args.done.now m c.requires.some _ c.in-Tagged.tag c.in-Tagged.variants.items beside fits).1
-
-pub put_tagged-requires-clause-made : goal.put_tagged-requires-clause-made
-put_tagged-requires-clause-made c =
-    let n : Node = lent_node c.args.node in
-    let t = c.requires.made.0 in
-    let m = c.requires.made.1 in
-    let fits : n.layout.size < 2 ^ 64 = omega (arith, c.bytes-size.ensures, c.bytes-size.type_inv) in
-    let beside = beside_tagged t n c.args.done.now m c.requires.some c.in-Tagged.mark c.in-Tagged.tag c.in-Tagged.variants c.in-Tagged.is in
-    rw c.deref-in-Tagged.ensures.value (beside_fits t n c.args.done.now m c.requires.some _ c.in-Tagged.tag c.in-Tagged.variants.items beside fits).2
+pub put_tagged-requires : goal.put_tagged-requires
+put_tagged-requires c =
+    let beside = beside_tagged c.requires.made.0 (lent_node c.args.node) c.args.done.now c.requires.made.1 c.requires.some c.in-Tagged.mark c.in-Tagged.tag c.in-Tagged.variants c.in-Tagged.is in
+    let all = beside_fits c.requires.made.0 (lent_node c.args.node) c.args.done.now c.requires.made.1 c.requires.some _ c.in-Tagged.tag c.in-Tagged.variants.items beside (omega (arith, c.bytes-size.ensures, c.bytes-size.type_inv)) in
+    record { tag = all.0; fits = rw c.tag_offset.ensures all.1; made = rw c.deref-in-Tagged.ensures.value all.2 }
 
 pub returns-in-Tagged : goal.returns-in-Tagged
 returns-in-Tagged c =
@@ -176,33 +110,12 @@ returns-in-Tagged c =
     c.put_tagged.new.runs c.in-Tagged.is c.tag_offset.ensures c.deref-in-Tagged.ensures.value put)
     c.put_tagged.ensures
 
-pub put_tagged-requires-in-States-clause-tag : goal.put_tagged-requires-in-States-clause-tag
-put_tagged-requires-in-States-clause-tag c =
-    let n : Node = lent_node c.args.node in
-    let t = c.requires.made.0 in
-    let m = c.requires.made.1 in
-    let fits : n.layout.size < 2 ^ 64 = omega (arith, c.bytes-size.ensures, c.bytes-size.type_inv) in
-    let parts = states_parts t n c.args.done.now m c.requires.some c.in-States.prefix c.in-States.tag c.in-States.states c.in-States.is in
-    (beside_fits t n c.args.done.now m c.requires.some _ c.in-States.tag c.in-States.states.items parts.1 fits).0
-
-pub put_tagged-requires-in-States-clause-fits : goal.put_tagged-requires-in-States-clause-fits
-put_tagged-requires-in-States-clause-fits c =
-    let n : Node = lent_node c.args.node in
-    let t = c.requires.made.0 in
-    let m = c.requires.made.1 in
-    let fits : n.layout.size < 2 ^ 64 = omega (arith, c.bytes-size.ensures, c.bytes-size.type_inv) in
-    let parts = states_parts t n c.args.done.now m c.requires.some c.in-States.prefix c.in-States.tag c.in-States.states c.in-States.is in
+pub put_tagged-requires-in-States : goal.put_tagged-requires-in-States
+put_tagged-requires-in-States c =
+    let parts = states_parts c.requires.made.0 (lent_node c.args.node) c.args.done.now c.requires.made.1 c.requires.some c.in-States.prefix c.in-States.tag c.in-States.states c.in-States.is in
     let many : c.len.result ≡ length c.in-States.prefix.items = c.len.ensures ∙ sym c.deref-in-States.ensures.len ∙ ap length c.deref-in-States.ensures.value in
-    rw (c.state_tag_offset-offset.ensures, many) (beside_fits t n c.args.done.now m c.requires.some _ c.in-States.tag c.in-States.states.items parts.1 fits).1
-
-pub put_tagged-requires-in-States-clause-made : goal.put_tagged-requires-in-States-clause-made
-put_tagged-requires-in-States-clause-made c =
-    let n : Node = lent_node c.args.node in
-    let t = c.requires.made.0 in
-    let m = c.requires.made.1 in
-    let fits : n.layout.size < 2 ^ 64 = omega (arith, c.bytes-size.ensures, c.bytes-size.type_inv) in
-    let parts = states_parts t n c.args.done.now m c.requires.some c.in-States.prefix c.in-States.tag c.in-States.states c.in-States.is in
-    rw c.deref-in-States-2.ensures.value (beside_fits t n c.args.done.now m c.requires.some _ c.in-States.tag c.in-States.states.items parts.1 fits).2
+    let all = beside_fits c.requires.made.0 (lent_node c.args.node) c.args.done.now c.requires.made.1 c.requires.some _ c.in-States.tag c.in-States.states.items parts.1 (omega (arith, c.bytes-size.ensures, c.bytes-size.type_inv)) in
+    record { tag = all.0; fits = rw (c.state_tag_offset-offset.ensures, many) all.1; made = rw c.deref-in-States-2.ensures.value all.2 }
 
 pub returns-in_ok-put_parts-in-States : goal.returns-in_ok-put_parts-in-States
 returns-in_ok-put_parts-in-States c =

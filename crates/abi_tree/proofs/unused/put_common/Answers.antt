@@ -1,5 +1,4 @@
-use Rattle.std.proofs.Common.{◌≡◌, ◌<◌, ℕ, ap, arith, length, subst, sym, ◌∙◌}
-use Rattle.std.specs.Prelude.{◌^◌}
+use Rattle.std.proofs.Common.{◌≡◌, ap, arith, length, subst, sym, ◌∙◌}
 use Rattle.std.proofs.lemmas.Result.{on_ok_weaker}
 use Rattle.abi_index.specs.RangeSet.{is_in_ranges}
 use Rattle.abi_index.specs.Runs.{Adds, moved_to}
@@ -12,56 +11,29 @@ use Rattle.abi_tree.proofs.unused.put_common.Goals as goal
 
 pub set_at-requires : goal.set_at-requires
 set_at-requires c =
-    let n : Node = lent_node c.args.node in
-    let t = c.requires.made.0 in
-    let m = c.requires.made.1 in
-    let fits : n.layout.size < 2 ^ 64 = omega (arith, c.bytes-size.ensures, c.bytes-size.type_inv) in
-    let beside = beside_tagged t n c.args.done.now m c.requires.some c.in-Tagged.mark c.in-Tagged.tag c.in-Tagged.variants c.in-Tagged.is in
-    (beside_fits t n c.args.done.now m c.requires.some _ c.in-Tagged.tag c.in-Tagged.variants.items beside fits).0.0
+    let beside = beside_tagged c.requires.made.0 (lent_node c.args.node) c.args.done.now c.requires.made.1 c.requires.some c.in-Tagged.mark c.in-Tagged.tag c.in-Tagged.variants c.in-Tagged.is in
+    (beside_fits c.requires.made.0 (lent_node c.args.node) c.args.done.now c.requires.made.1 c.requires.some _ c.in-Tagged.tag c.in-Tagged.variants.items beside (omega (arith, c.bytes-size.ensures, c.bytes-size.type_inv))).0.0
 
 pub add_set-requires : goal.add_set-requires
 add_set-requires c =
-    let n : Node = lent_node c.args.node in
-    let t = c.requires.made.0 in
-    let m = c.requires.made.1 in
-    let fits : n.layout.size < 2 ^ 64 = omega (arith, c.bytes-size.ensures, c.bytes-size.type_inv) in
-    let beside = beside_tagged t n c.args.done.now m c.requires.some c.in-Tagged.mark c.in-Tagged.tag c.in-Tagged.variants c.in-Tagged.is in
-    rw (c.set_at.ensures, c.tag_offset.ensures) (beside_fits t n c.args.done.now m c.requires.some _ c.in-Tagged.tag c.in-Tagged.variants.items beside fits).1
+    let beside = beside_tagged c.requires.made.0 (lent_node c.args.node) c.args.done.now c.requires.made.1 c.requires.some c.in-Tagged.mark c.in-Tagged.tag c.in-Tagged.variants c.in-Tagged.is in
+    rw (c.set_at.ensures, c.tag_offset.ensures) (beside_fits c.requires.made.0 (lent_node c.args.node) c.args.done.now c.requires.made.1 c.requires.some _ c.in-Tagged.tag c.in-Tagged.variants.items beside (omega (arith, c.bytes-size.ensures, c.bytes-size.type_inv))).1
 
-pub put_parts-requires-clause-made : goal.put_parts-requires-clause-made
-put_parts-requires-clause-made c =
-    let n : Node = lent_node c.args.node in
-    let t = c.requires.made.0 in
-    let m = c.requires.made.1 in
-    let fits : n.layout.size < 2 ^ 64 = omega (arith, c.bytes-size.ensures, c.bytes-size.type_inv) in
-    (listed_fit t n c.args.done.now m c.requires.some c.in-States.prefix.items c.offsets.result.now c.placed_children.result.now (states_parts t n c.args.done.now m c.requires.some c.in-States.prefix c.in-States.tag c.in-States.states c.in-States.is).0 c.offsets.ensures (c.placed_children.ensures ∙ ap (placed_nodes n.layout) c.deref.ensures.value) fits).0
-
-pub put_parts-requires-clause-fits : goal.put_parts-requires-clause-fits
-put_parts-requires-clause-fits c =
-    let n : Node = lent_node c.args.node in
-    let t = c.requires.made.0 in
-    let m = c.requires.made.1 in
-    let fits : n.layout.size < 2 ^ 64 = omega (arith, c.bytes-size.ensures, c.bytes-size.type_inv) in
-    (listed_fit t n c.args.done.now m c.requires.some c.in-States.prefix.items c.offsets.result.now c.placed_children.result.now (states_parts t n c.args.done.now m c.requires.some c.in-States.prefix c.in-States.tag c.in-States.states c.in-States.is).0 c.offsets.ensures (c.placed_children.ensures ∙ ap (placed_nodes n.layout) c.deref.ensures.value) fits).1
+pub put_parts-requires : goal.put_parts-requires
+put_parts-requires c =
+    let all = listed_fit c.requires.made.0 (lent_node c.args.node) c.args.done.now c.requires.made.1 c.requires.some c.in-States.prefix.items c.offsets.result.now c.placed_children.result.now (states_parts c.requires.made.0 (lent_node c.args.node) c.args.done.now c.requires.made.1 c.requires.some c.in-States.prefix c.in-States.tag c.in-States.states c.in-States.is).0 c.offsets.ensures (c.placed_children.ensures ∙ ap (placed_nodes (lent_node c.args.node).layout) c.deref.ensures.value) (omega (arith, c.bytes-size.ensures, c.bytes-size.type_inv)) in
+    record { made = all.0; fits = all.1 }
 
 pub set_at-requires-in-States : goal.set_at-requires-in-States
 set_at-requires-in-States c =
-    let n : Node = lent_node c.args.node in
-    let t = c.requires.made.0 in
-    let m = c.requires.made.1 in
-    let fits : n.layout.size < 2 ^ 64 = omega (arith, c.bytes-size.ensures, c.bytes-size.type_inv) in
-    let parts = states_parts t n c.args.done.now m c.requires.some c.in-States.prefix c.in-States.tag c.in-States.states c.in-States.is in
-    (beside_fits t n c.args.done.now m c.requires.some _ c.in-States.tag c.in-States.states.items parts.1 fits).0.0
+    let parts = states_parts c.requires.made.0 (lent_node c.args.node) c.args.done.now c.requires.made.1 c.requires.some c.in-States.prefix c.in-States.tag c.in-States.states c.in-States.is in
+    (beside_fits c.requires.made.0 (lent_node c.args.node) c.args.done.now c.requires.made.1 c.requires.some _ c.in-States.tag c.in-States.states.items parts.1 (omega (arith, c.bytes-size.ensures, c.bytes-size.type_inv))).0.0
 
 pub add_set-requires-in-States : goal.add_set-requires-in-States
 add_set-requires-in-States c =
-    let n : Node = lent_node c.args.node in
-    let t = c.requires.made.0 in
-    let m = c.requires.made.1 in
-    let fits : n.layout.size < 2 ^ 64 = omega (arith, c.bytes-size.ensures, c.bytes-size.type_inv) in
-    let parts = states_parts t n c.args.done.now m c.requires.some c.in-States.prefix c.in-States.tag c.in-States.states c.in-States.is in
+    let parts = states_parts c.requires.made.0 (lent_node c.args.node) c.args.done.now c.requires.made.1 c.requires.some c.in-States.prefix c.in-States.tag c.in-States.states c.in-States.is in
     let many : c.len.result ≡ length c.in-States.prefix.items = c.len.ensures ∙ sym c.deref.ensures.len ∙ ap length c.deref.ensures.value in
-    rw (c.set_at-in-States.ensures, c.state_tag_offset.ensures, many) (beside_fits t n c.args.done.now m c.requires.some _ c.in-States.tag c.in-States.states.items parts.1 fits).1
+    rw (c.set_at-in-States.ensures, c.state_tag_offset.ensures, many) (beside_fits c.requires.made.0 (lent_node c.args.node) c.args.done.now c.requires.made.1 c.requires.some _ c.in-States.tag c.in-States.states.items parts.1 (omega (arith, c.bytes-size.ensures, c.bytes-size.type_inv))).1
 
 pub returns-in-Tagged : goal.returns-in-Tagged
 returns-in-Tagged c =

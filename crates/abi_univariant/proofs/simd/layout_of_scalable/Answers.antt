@@ -1,30 +1,18 @@
 use Rattle.std.proofs.Common.{rules, ap, ◌≡◌, ◌≤◌, ◌*◌, ◌∙◌, arith}
 use Rattle.abi_base.specs.DataLayout.{size_bound}
 use Rattle.std.proofs.Math.Nat.{mul-le-mul_left}
-use Rattle.abi_univariant.proofs.UnionsVectors.VectorLemmas.{lanes_are, lanes_bounded, vectors_lawful}
+use Rattle.abi_univariant.proofs.UnionsVectors.VectorLemmas.{lanes_are, vectors_lawful, vectors_most}
 use Rattle.abi_univariant.proofs.simd.layout_of_scalable.Goals as goal
 
 pub mul-bytes-requires : goal.mul-bytes-requires
 mul-bytes-requires g c =
-    let are = lanes_are g.F.LayoutHandle.layout_of (size_bound c.args.dl.now) c.args.element c.args.count
-    c.in_ok-lanes.lanes c.in_ok-lanes.ensures in
-    let bounded = lanes_bounded c.args.dl.now (g.F.LayoutHandle.layout_of c.args.element) c.args.count
-    c.in_ok-lanes.lanes c.requires.element are in
     let few : c.from.result ≤ 255 = search rules in
-    let all : c.in_ok-lanes.lanes.size * c.from.result ≤ c.in_ok-lanes.lanes.size * 255 = mul-le-mul_left
-    c.in_ok-lanes.lanes.size few in
-    omega (arith, bounded.most)
+    omega (arith, vectors_most g.F.LayoutHandle.layout_of c.args.dl.now c.args.element c.args.count c.in_ok-lanes.lanes c.from.result few c.requires.element c.in_ok-lanes.ensures)
 
 pub layout_of_vectors-requires-clause-small : goal.layout_of_vectors-requires-clause-small
 layout_of_vectors-requires-clause-small g c =
-    let are = lanes_are g.F.LayoutHandle.layout_of (size_bound c.args.dl.now) c.args.element c.args.count
-    c.in_ok-lanes.lanes c.in_ok-lanes.ensures in
-    let bounded = lanes_bounded c.args.dl.now (g.F.LayoutHandle.layout_of c.args.element) c.args.count
-    c.in_ok-lanes.lanes c.requires.element are in
     let few : c.from.result ≤ 255 = search rules in
-    let all : c.in_ok-lanes.lanes.size * c.from.result ≤ c.in_ok-lanes.lanes.size * 255 = mul-le-mul_left
-    c.in_ok-lanes.lanes.size few in
-    omega (arith, bounded.most)
+    omega (arith, vectors_most g.F.LayoutHandle.layout_of c.args.dl.now c.args.element c.args.count c.in_ok-lanes.lanes c.from.result few c.requires.element c.in_ok-lanes.ensures)
 
 pub returns-clause-lawful : goal.returns-clause-lawful
 returns-clause-lawful g c some =

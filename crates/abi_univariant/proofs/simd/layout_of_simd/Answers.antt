@@ -4,35 +4,17 @@ use Rattle.abi_base.specs.DataLayout.{size_bound}
 use Rattle.abi_scalar.specs.Lawful.{IsLawfulView, IsNicheOfView}
 use Rattle.abi_univariant.specs.Simd.{is_tight}
 use Rattle.abi_univariant.proofs.Offsets.Rounding.{round_multiple}
-use Rattle.abi_univariant.proofs.UnionsVectors.VectorLemmas.{below_ok, lanes_are, lanes_bounded, simd_of_view, simd_viewed, vectors_lawful}
+use Rattle.abi_univariant.proofs.UnionsVectors.VectorLemmas.{below_ok, lanes_are, lanes_found, simd_of_view, simd_viewed, vectors_lawful}
 use Rattle.abi_univariant.proofs.simd.layout_of_simd.Goals as goal
 
 pub simd_align-align-requires-clause-some : goal.simd_align-align-requires-clause-some
-simd_align-align-requires-clause-some g c =
-    let are = lanes_are g.F.LayoutHandle.layout_of (size_bound c.args.dl.now) c.args.element c.args.count
-    c.in_ok-lanes.lanes c.in_ok-lanes.ensures in
-    (lanes_bounded c.args.dl.now (g.F.LayoutHandle.layout_of c.args.element) c.args.count c.in_ok-lanes.lanes
-    c.requires.element are).some
+simd_align-align-requires-clause-some g c = (lanes_found g.F.LayoutHandle.layout_of c.args.dl.now c.args.element c.args.count c.in_ok-lanes.lanes c.requires.element c.in_ok-lanes.ensures).some
 
 pub simd_align-align-requires-clause-small : goal.simd_align-align-requires-clause-small
-simd_align-align-requires-clause-small g c =
-    let are = lanes_are g.F.LayoutHandle.layout_of (size_bound c.args.dl.now) c.args.element c.args.count
-    c.in_ok-lanes.lanes c.in_ok-lanes.ensures in
-    omega (
-      arith,
-      (lanes_bounded c.args.dl.now (g.F.LayoutHandle.layout_of c.args.element) c.args.count
-          c.in_ok-lanes.lanes c.requires.element are).most,
-    )
+simd_align-align-requires-clause-small g c = omega (arith, (lanes_found g.F.LayoutHandle.layout_of c.args.dl.now c.args.element c.args.count c.in_ok-lanes.lanes c.requires.element c.in_ok-lanes.ensures).most)
 
 pub layout_of_vectors-requires-clause-small : goal.layout_of_vectors-requires-clause-small
-layout_of_vectors-requires-clause-small g c =
-    let are = lanes_are g.F.LayoutHandle.layout_of (size_bound c.args.dl.now) c.args.element c.args.count
-    c.in_ok-lanes.lanes c.in_ok-lanes.ensures in
-    omega (
-      arith,
-      (lanes_bounded c.args.dl.now (g.F.LayoutHandle.layout_of c.args.element) c.args.count
-          c.in_ok-lanes.lanes c.requires.element are).most,
-    )
+layout_of_vectors-requires-clause-small g c = omega (arith, (lanes_found g.F.LayoutHandle.layout_of c.args.dl.now c.args.element c.args.count c.in_ok-lanes.lanes c.requires.element c.in_ok-lanes.ensures).most)
 
 pub returns-clause-tight : goal.returns-clause-tight
 returns-clause-tight g c t =

@@ -21,13 +21,15 @@ time-requires c =
     let room : count ≤ numbers_of size = omega (arith, c.fit_unsigned-tag.ensures.holds, same) in
     let within = All-weaker (λ (item : VariantIdx × ℕ). item.1 < count) (λ item. item.1 < numbers_of size) (λ item less. omega (arith, less, room)) items c.in_ok-discriminants.ensures.within in
     record {
-      data_layout = search rules;
-      fields = rw c.deref.ensures.value at (c.are_lawful_lists.ensures yes);
-      aligns = search rules;
-      few = search rules;
-      each = subst (λ n. map (λ item. item.0) items ≡ source_order n) long c.in_ok-discriminants.ensures.each;
-      tag = record {
-        most = search rules;
-        differ = apart (numbers_of size) (λ item. not (has_no_value (variant_at (map (map (λ f. f.now)) variants) item.0))) items c.in_ok-discriminants.ensures.ascending within;
+      at = λ alloc lent at same kept. record {
+        data_layout = search rules;
+        fields = rw c.deref.ensures.value at (c.are_lawful_lists.ensures yes);
+        aligns = search rules;
+        few = search rules;
+        each = subst (λ n. map (λ item. item.0) items ≡ source_order n) long c.in_ok-discriminants.ensures.each;
+        tag = record {
+          most = search rules;
+          differ = apart (numbers_of size) (λ item. not (has_no_value (variant_at (map (map (λ f. f.now)) variants) item.0))) items c.in_ok-discriminants.ensures.ascending within;
+        };
       };
     }

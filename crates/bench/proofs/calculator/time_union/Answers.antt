@@ -4,4 +4,4 @@ use Rattle.bench.proofs.calculator.time_union.Goals as goal
 pub time-requires : goal.time-requires
 time-requires c =
     let yes : IsTrue c.are_lawful_lists.result = search rules in
-    (c.requires.data_layout, c.requires.one, rw c.deref.ensures.value at (c.are_lawful_lists.ensures yes))
+    record { at = λ alloc lent at same kept. (c.requires.data_layout, (c.requires.one, rw c.deref.ensures.value at (c.are_lawful_lists.ensures yes))) }

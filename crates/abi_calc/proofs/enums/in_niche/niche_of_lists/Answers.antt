@@ -1,5 +1,5 @@
 -- Each step is one of the definition's.
-use Rattle.std.proofs.Common.{◌≡◌, ◌∙◌, ◌<◌, ap, arith, length, map}
+use Rattle.std.proofs.Common.{◌≡◌, ◌∙◌, ◌<◌, ap, arith, length, map, rules}
 use Rattle.std.specs.Prelude.{Some, slice_get}
 use Rattle.std.proofs.lemmas.List.{length-map}
 use Rattle.abi_scalar.specs.Niche.{available_in}
@@ -30,10 +30,7 @@ span_count-requires g c =
 
 pub reserve-requires-clause-readable : goal.reserve-requires-clause-readable
 reserve-requires-clause-readable g c =
-    let vs = map (map g.F.LayoutHandle.layout_of) c.args.variants.now in
-    let span = known_span vs c.args.lists c.untagged_of-untagged.result c.untagged_of-untagged.ensures c.span_of.result c.span_of.ensures in
-    let found = known_niche c.args.lists c.untagged_of-untagged.result c.untagged_of-untagged.ensures c.niche_at.result c.niche_at.ensures in
-    let there = niche_there c.args.dl.now c.args.lists (untagged_of c.args.lists) c.in-Some-niche_at.niche c.requires.lawful (found ∙ c.in-Some-niche_at.is) in
+    let there = niche_there c.args.dl.now c.args.lists (untagged_of c.args.lists) c.in-Some-niche_at.niche c.requires.lawful (known_niche c.args.lists c.untagged_of-untagged.result c.untagged_of-untagged.ensures c.niche_at.result c.niche_at.ensures ∙ c.in-Some-niche_at.is) in
     lawful_readable c.args.dl.now there.0 (Some c.in-Some-niche_at.niche) there.1
 
 pub returns-in_default-reserve : goal.returns-in_default-reserve
@@ -44,51 +41,28 @@ returns-in_default-reserve g c =
     let known = niche_known (slice_get c.args.lists (untagged_of c.args.lists)) c.in-Some-niche_at.niche (found ∙ c.in-Some-niche_at.is) in
     too_few (g.FieldIdx.Idx.at 0) g.VariantIdx.Idx.at c.args.dl.now c.args.repr.now vs c.args.lists c.in-Some.span known.0 c.in-Some-niche_at.niche (span ∙ c.in-Some.is) known.1 known.2 (few_of c.reserve.result (span_count c.in-Some.span) (available_in c.args.dl.now c.in-Some-niche_at.niche) c.in_default-reserve.is (rw c.span_count.ensures at c.reserve.ensures.room))
 
-pub layout_in_niche-requires-clause-untagged : goal.layout_in_niche-requires-clause-untagged
-layout_in_niche-requires-clause-untagged g c =
+pub layout_in_niche-requires : goal.layout_in_niche-requires
+layout_in_niche-requires g c =
     let vs = map (map g.F.LayoutHandle.layout_of) c.args.variants.now in
     let span = known_span vs c.args.lists c.untagged_of-untagged.result c.untagged_of-untagged.ensures c.span_of.result c.span_of.ensures in
-    let found = known_niche c.args.lists c.untagged_of-untagged.result c.untagged_of-untagged.ensures c.niche_at.result c.niche_at.ensures in
-    let there = niche_there c.args.dl.now c.args.lists (untagged_of c.args.lists) c.in-Some-niche_at.niche c.requires.lawful (found ∙ c.in-Some-niche_at.is) in
-    omega (arith, c.untagged_of-untagged.ensures, there.3)
-
-pub layout_in_niche-requires-clause-first : goal.layout_in_niche-requires-clause-first
-layout_in_niche-requires-clause-first g c =
-    let vs = map (map g.F.LayoutHandle.layout_of) c.args.variants.now in
-    let span = known_span vs c.args.lists c.untagged_of-untagged.result c.untagged_of-untagged.ensures c.span_of.result c.span_of.ensures in
-    let within = (span_holds (λ i. i < length vs) (needing_numbers (untagged_of c.args.lists) vs) c.in-Some.span (span ∙ c.in-Some.is) (needing_within (untagged_of c.args.lists) vs)).0 in
-    omega (arith, within, length-map c.args.variants.now (map g.F.LayoutHandle.layout_of), c.requires.each, c.requires.count)
-
-pub layout_in_niche-requires-clause-last : goal.layout_in_niche-requires-clause-last
-layout_in_niche-requires-clause-last g c =
-    let vs = map (map g.F.LayoutHandle.layout_of) c.args.variants.now in
-    let span = known_span vs c.args.lists c.untagged_of-untagged.result c.untagged_of-untagged.ensures c.span_of.result c.span_of.ensures in
-    let within = (span_holds (λ i. i < length vs) (needing_numbers (untagged_of c.args.lists) vs) c.in-Some.span (span ∙ c.in-Some.is) (needing_within (untagged_of c.args.lists) vs)).1 in
-    omega (arith, within, length-map c.args.variants.now (map g.F.LayoutHandle.layout_of), c.requires.each, c.requires.count)
-
-pub layout_in_niche-requires-clause-readable : goal.layout_in_niche-requires-clause-readable
-layout_in_niche-requires-clause-readable g c =
-    let vs = map (map g.F.LayoutHandle.layout_of) c.args.variants.now in
-    let span = known_span vs c.args.lists c.untagged_of-untagged.result c.untagged_of-untagged.ensures c.span_of.result c.span_of.ensures in
-    let found = known_niche c.args.lists c.untagged_of-untagged.result c.untagged_of-untagged.ensures c.niche_at.result c.niche_at.ensures in
-    let there = niche_there c.args.dl.now c.args.lists (untagged_of c.args.lists) c.in-Some-niche_at.niche c.requires.lawful (found ∙ c.in-Some-niche_at.is) in
-    lawful_readable c.args.dl.now there.0 (Some c.in-Some-niche_at.niche) there.1
-
-pub layout_in_niche-requires-clause-offset : goal.layout_in_niche-requires-clause-offset
-layout_in_niche-requires-clause-offset g c =
-    let vs = map (map g.F.LayoutHandle.layout_of) c.args.variants.now in
-    let span = known_span vs c.args.lists c.untagged_of-untagged.result c.untagged_of-untagged.ensures c.span_of.result c.span_of.ensures in
-    let found = known_niche c.args.lists c.untagged_of-untagged.result c.untagged_of-untagged.ensures c.niche_at.result c.niche_at.ensures in
-    let there = niche_there c.args.dl.now c.args.lists (untagged_of c.args.lists) c.in-Some-niche_at.niche c.requires.lawful (found ∙ c.in-Some-niche_at.is) in
-    omega (arith, there.1.inside, there.2, bound_small c.args.dl.now c.requires.data_layout)
-
-pub layout_in_niche-requires-clause-tag : goal.layout_in_niche-requires-clause-tag
-layout_in_niche-requires-clause-tag g c =
-    let vs = map (map g.F.LayoutHandle.layout_of) c.args.variants.now in
-    let span = known_span vs c.args.lists c.untagged_of-untagged.result c.untagged_of-untagged.ensures c.span_of.result c.span_of.ensures in
-    let found = known_niche c.args.lists c.untagged_of-untagged.result c.untagged_of-untagged.ensures c.niche_at.result c.niche_at.ensures in
-    let there = niche_there c.args.dl.now c.args.lists (untagged_of c.args.lists) c.in-Some-niche_at.niche c.requires.lawful (found ∙ c.in-Some-niche_at.is) in
-    handed_lawful c.args.dl.now c.in-Some-niche_at.niche c.in-Some-reserve.handed c.span_count.result c.in-Some-reserve.ensures.side there.1.pointer c.in-Some-reserve.ensures.set.within
+    let there = niche_there c.args.dl.now c.args.lists (untagged_of c.args.lists) c.in-Some-niche_at.niche c.requires.lawful (known_niche c.args.lists c.untagged_of-untagged.result c.untagged_of-untagged.ensures c.niche_at.result c.niche_at.ensures ∙ c.in-Some-niche_at.is) in
+    record {
+      data_layout = c.requires.data_layout;
+      lawful = c.requires.lawful;
+      small = c.requires.small;
+      count = c.requires.count;
+      untagged = omega (arith, c.untagged_of-untagged.ensures, there.3);
+      first =
+          let within = (span_holds (λ i. i < length vs) (needing_numbers (untagged_of c.args.lists) vs) c.in-Some.span (span ∙ c.in-Some.is) (needing_within (untagged_of c.args.lists) vs)).0 in
+          omega (arith, within, length-map c.args.variants.now (map g.F.LayoutHandle.layout_of), c.requires.each, c.requires.count);
+      last =
+          let within = (span_holds (λ i. i < length vs) (needing_numbers (untagged_of c.args.lists) vs) c.in-Some.span (span ∙ c.in-Some.is) (needing_within (untagged_of c.args.lists) vs)).1 in
+          omega (arith, within, length-map c.args.variants.now (map g.F.LayoutHandle.layout_of), c.requires.each, c.requires.count);
+      readable = lawful_readable c.args.dl.now there.0 (Some c.in-Some-niche_at.niche) there.1;
+      offset = omega (arith, there.1.inside, there.2, bound_small c.args.dl.now c.requires.data_layout);
+      handed = search rules;
+      tag = handed_lawful c.args.dl.now c.in-Some-niche_at.niche c.in-Some-reserve.handed c.span_count.result c.in-Some-reserve.ensures.side there.1.pointer c.in-Some-reserve.ensures.set.within;
+    }
 
 pub returns : goal.returns
 returns g c =

@@ -11,6 +11,7 @@ returns-in-Some-clause-err c =
       crates = c.in-Ok.ensures.crates;
       globs = c.in-Ok.ensures.globs;
       own = c.in-Ok.ensures.own;
+      enums = c.in-Ok.ensures.enums;
       words = c.in-Ok.ensures.roots.0;
       root = c.in-Ok.ensures.roots.1;
     })

@@ -10,21 +10,16 @@ use Rattle.abi_tree.proofs.Meaning.SeenLemmas.{seen_at}
 use Rattle.abi_tree.proofs.Meaning.TypedLemmas.{layout-placed}
 use Rattle.abi_tree.proofs.laid.Laid.root.Goals as goal
 
-pub returns-clause-seen : goal.returns-clause-seen
-returns-clause-seen c =
+pub returns : goal.returns
+returns c =
     let laid = c.args.self.now in
     let ns : List Node = laid.nodes in
     let last : length ns - 1 < length ns = omega (arith, laid.some) in
-    let tag_layout : tree_type c.handle_at.result ≡ typed_of laid = c.handle_at.ensures.typed ∙ ap (λ n. typed_at ns (n - 1)) (c.len.ensures ∙ ap length c.nodes.ensures.same) in
-    subst (λ t. Sees t (placed_of laid)) (sym tag_layout) (seen_at ns laid.earlier laid.laws (length ns - 1) last)
-
-pub returns-clause-layout : goal.returns-clause-layout
-returns-clause-layout c =
-    let laid = c.args.self.now in
-    let ns : List Node = laid.nodes in
-    let last : length ns - 1 < length ns = omega (arith, laid.some) in
-    let tag_layout : tree_type c.handle_at.result ≡ typed_of laid = c.handle_at.ensures.typed ∙ ap (λ n. typed_at ns (n - 1)) (c.len.ensures ∙ ap length c.nodes.ensures.same) in
-    sym c.handle_at.ensures.valid.layout ∙ ap layout_in tag_layout ∙ layout-placed ns (length ns - 1) last
-
-pub returns-clause-within : goal.returns-clause-within
-returns-clause-within c k place = within_room (placed_of c.args.self.now) k c.args.self.now.room place
+    let typed : tree_type c.handle_at.result ≡ typed_of laid = c.handle_at.ensures.typed ∙ ap (λ n. typed_at ns (n - 1)) (c.len.ensures ∙ ap length c.nodes.ensures.same) in
+    record {
+      valid = c.handle_at.ensures.valid;
+      typed = typed;
+      seen = subst (λ t. Sees t (placed_of laid)) (sym typed) (seen_at ns laid.earlier laid.laws (length ns - 1) last);
+      layout = sym c.handle_at.ensures.valid.layout ∙ ap layout_in typed ∙ layout-placed ns (length ns - 1) last;
+      within = λ k place. within_room (placed_of laid) k laid.room place;
+    }

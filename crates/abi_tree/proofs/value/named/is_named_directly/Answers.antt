@@ -1,6 +1,7 @@
 use Rattle.std.proofs.Common.{sym, ◌∙◌}
 use Rattle.abi_tree.specs.Nodes.{types_in}
-use Rattle.abi_tree.proofs.Found.NamedLemmas.{cut_width, told_by_flag, told_by_number}
+use Rattle.abi_tree.proofs.Bytes.NumberLemmas.{cut_width}
+use Rattle.abi_tree.proofs.Found.NamedLemmas.{told_by_flag, told_by_number}
 use Rattle.abi_tree.proofs.value.named.is_named_directly.Goals as goal
 
 pub returns-then-truncate-tag : goal.returns-then-truncate-tag

@@ -1,5 +1,5 @@
 use Rattle.std.proofs.Common.{◌+◌, ◌-◌, ◌∙◌}
-use Rattle.abi_tree.proofs.Found.NamedLemmas.{cut_twice}
+use Rattle.abi_tree.proofs.Bytes.NumberLemmas.{cut_twice}
 use Rattle.abi_tree.proofs.value.named.niche_number.Goals as goal
 
 pub returns : goal.returns

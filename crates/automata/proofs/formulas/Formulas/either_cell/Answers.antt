@@ -1,5 +1,5 @@
 use Rattle.automata.specs.Nodes.{formulas_in}
-use Rattle.automata.proofs.BigNumberLemmas.{cells_made}
+use Rattle.automata.proofs.NumberLemmas.{cells_made}
 use Rattle.automata.proofs.formulas.Formulas.either_cell.Goals as goal
 
 pub returns : goal.returns

@@ -18,6 +18,9 @@ decreases-read_named_module l = 8 * l.named.now.depth_left + 2
 abbrev pub decreases-read_module : goal.decreases-read_module
 decreases-read_module l = 8 * l.context.now.depth_left + 3
 
+abbrev pub decreases-read_call : goal.decreases-read_call
+decreases-read_call l = 8 * l.context.now.depth_left + 3
+
 abbrev pub decreases-read_in_context : goal.decreases-read_in_context
 decreases-read_in_context l = 8 * l.context.now.depth_left + 4
 

@@ -1,0 +1,7 @@
+-- The places so far are the first ones.
+use Rattle.std.proofs.Common.{◌≡◌}
+use Rattle.std.specs.List.{range_with_len}
+use Rattle.type_reports.proofs.sorting.places_of.Given as goal
+
+abbrev pub invariant-loop-place : goal.invariant-loop-place
+invariant-loop-place l = l.places.items ≡ range_with_len 0 l.place

@@ -1,0 +1,13 @@
+-- what fields, variants and parts are called
+pub mod Labels
+-- a type as lines
+pub mod Lines
+pub mod ModuleFiles
+-- the least size of fields
+pub mod LeastOrder
+-- the order in which types are listed
+pub mod Sorting
+-- how many bytes no value covers
+pub mod Waste
+-- a report as JSON
+pub mod Document

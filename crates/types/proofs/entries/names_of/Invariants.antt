@@ -1,6 +1,0 @@
--- There are as many names as entries so far.
-use Rattle.std.proofs.Common.{◌≡◌, length}
-use Rattle.types.proofs.entries.names_of.Given as goal
-
-abbrev pub invariant-loop-entry : goal.invariant-loop-entry
-invariant-loop-entry l = length l.names.items ≡ l.entry-index

@@ -1,7 +1,0 @@
--- Nothing is text.
-use Rattle.std.proofs.Common.{[], arith, refl}
-use Rattle.std.proofs.lemmas.Grind.{common_steps}
-use Rattle.types.proofs.module_files.module_files.Goals as goal
-
-pub loop-outer-preserved : goal.loop-outer-preserved
-loop-outer-preserved c = (grind (arith, common_steps), ([], (refl, refl)))
