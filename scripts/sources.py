@@ -95,7 +95,9 @@ def values_fault(it, dice):
     held = 0
     for number in range(VALUES if it.size <= 4096 else 0):
         content = bytes(it.size) if number == 0 else bytes(dice.choice((0, 0, 1, 1, 2, dice.randrange(256))) for _ in range(it.size))
-        value = it.read(content)
+        value, wrong = it.read(content), it.wrong_part(content)
+        if (value is None) != (wrong is not None):
+            return f"{it.name} holds {value!r} in {content!r}, of which {wrong} is wrong", held
         if value is not None:
             held += 1
             again = it.read(it.write(value))

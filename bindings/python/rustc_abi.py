@@ -18,7 +18,9 @@ docs/FORMATS.md has the format of types and of answers, docs/NUMBERS.md the numb
 
 from __future__ import annotations
 
+import builtins
 import ctypes
+import importlib
 import itertools
 import json
 import os
@@ -254,20 +256,20 @@ class Repr:
     #: The integer of an enum's tag: `"usize"`, `"isize"`, `"u8"` to `"i128"`.
     int: Optional[str] = None
     #: The least alignment of the type, in bytes.
-    align: Optional[int] = None
+    align: Optional[builtins.int] = None
     #: The greatest alignment of each field, in bytes.
-    packed: Optional[int] = None
+    packed: Optional[builtins.int] = None
     c: bool = False
     transparent: bool = False
     linear: bool = False
     #: Further flags, as bits: 2 `simd`, 16 that a struct's order may be any, 64 a scalable vector.
-    flags: int = 0
+    flags: builtins.int = 0
     #: The count of elements of a scalable vector, or -1 for a vector of vectors.
-    scalable: Optional[int] = None
-    seed: int = 0
+    scalable: Optional[builtins.int] = None
+    seed: builtins.int = 0
 
     @property
-    def numbers(self) -> tuple[int, ...]:
+    def numbers(self) -> tuple[builtins.int, ...]:
         """Its six numbers."""
         ints = (None, "usize", "isize", "u8", "i8", "u16", "i16", "u32", "i32", "u64", "i64", "u128", "i128")
         scalable = 0 if self.scalable is None else self.scalable + 2
@@ -629,7 +631,7 @@ def _layout_of(numbers: Sequence[int]) -> Layout:
     for _ in range(variant_count):
         own_size, own_uninhabited, own_count = take(3)
         all.append(VariantLayout(own_size, own_uninhabited == 1, take(own_count), take(own_count)))
-    runs = tuple(take(2) for _ in range(run_count))
+    runs = tuple((first, length) for first, length in (take(2) for _ in range(run_count)))
     return Layout(
         size, align, uninhabited == 1, fields,
         Variants(variants, index, tag, (untagged, first, last, niche_start) if encoding == 1 else None, tuple(all)),
@@ -747,6 +749,8 @@ class _Tree:
     repr: tuple[int, ...] = ()
     #: Of an enum those of each variant, of other types one list.
     lists: tuple[tuple[_Tree, ...], ...] = ((),)
+    #: Of an enum that of each variant, as a number of 128 bits.
+    discriminants: tuple[int, ...] = ()
 
 
 class _Trees:
@@ -777,6 +781,7 @@ class _Trees:
         scalars: tuple[Scalar, ...] = ()
         repr: tuple[int, ...] = ()
         lists: tuple[tuple[_Tree, ...], ...] = ((),)
+        discriminants: tuple[int, ...] = ()
         if kind in (0, 1):
             scalars = tuple(self.scalar() for _ in range(kind + 1))
         elif kind in (4, 5):
@@ -790,14 +795,15 @@ class _Trees:
             if kind == 7:
                 self.at += self.word()
             if kind == 9:
-                lists = tuple(self.variant() for _ in range(self.word()))
+                variants = [self.variant() for _ in range(self.word())]
+                discriminants, lists = tuple(number for number, _ in variants), tuple(fields for _, fields in variants)
             else:
                 lists = (self.many(),)
-        return _Tree(kind, tuple(self.numbers[start : self.at]), scalars, count, repr, lists)
+        return _Tree(kind, tuple(self.numbers[start : self.at]), scalars, count, repr, lists, discriminants)
 
-    def variant(self) -> tuple[_Tree, ...]:
-        self.at += 2
-        return self.many()
+    def variant(self) -> tuple[int, tuple[_Tree, ...]]:
+        discriminant = self.word() + (self.word() << 64)
+        return discriminant, self.many()
 
 
 def _list_of(part: Mapping[str, Any], index: int) -> tuple[Optional[str], list[Any]]:
@@ -865,6 +871,18 @@ class TypeLayout:
         self._module.refuse_c_enums(self._tree)
         return self._module.layouts.write_value(self._module.data_layout, self.type, self._plain(self._tree, 0, value))
 
+    def wrong_part(self, content: bytes) -> Optional[str]:
+        """Where bytes hold no value of the type: the first part whose own bytes hold none, by its way, as `head.kind`, `Move.x` or `3`; `tag`
+        where they name no variant of an enum, and the empty text where it is the type itself. `None` where they hold a value, else as `read`."""
+        self._module.refuse_c_enums(self._tree)
+        return None if self._holds(self._tree, bytes(content)) else self._wrong(self._tree, 0, bytes(content))
+
+    def parts_of(self, content: bytes) -> list[tuple[str, bytes]]:
+        """The fields of a struct, or of the variant that the bytes name, by their ways, and the bytes of each; none of other types."""
+        if self._tree.kind not in (3, 6, 7, 9):
+            return []
+        return [(name, content[offset : offset + size]) for name, offset, size, _, _ in self._held_parts(self._tree, 0, bytes(content)) or []]
+
     def to_ctypes(self) -> Any:
         """A type of `ctypes` with its size, whose fields have the names and the places of its own; bytes where an enum with fields stands.
         Its alignment is 1."""
@@ -872,9 +890,7 @@ class TypeLayout:
 
     def to_numpy_dtype(self) -> Any:
         """The same as a `numpy.dtype`, with offsets and the size; aligned where numpy's own alignments allow it."""
-        import numpy  # type: ignore[import-not-found, unused-ignore]
-
-        return self._dtype(numpy, self._tree, 0)
+        return self._dtype(importlib.import_module("numpy"), self._tree, 0)
 
     def to_struct_format(self) -> Optional[str]:
         """A format of the module `struct` for it, with its padding; `None` where there is none, as of an enum with fields."""
@@ -884,7 +900,7 @@ class TypeLayout:
     # ---- values by names
 
     def _part(self, number: Optional[int]) -> Mapping[str, Any]:
-        parts = self._told.get("parts", [])
+        parts: list[Mapping[str, Any]] = self._told.get("parts", [])
         return parts[number] if number is not None and number < len(parts) else {}
 
     def _parts(self, tree: _Tree, number: Optional[int], index: int) -> tuple[Optional[str], list[tuple[str, Optional[int], _Tree]]]:
@@ -949,9 +965,59 @@ class TypeLayout:
             raise NotAValue(f"there are {len(parts)} fields")
         return tuple(self._plain(tree, part, it) for (_, part, tree), it in zip(parts, given))
 
+    # ---- the bytes of parts
+
+    def _holds(self, tree: _Tree, content: bytes) -> bool:
+        return self._module.layouts.read_value(self._module.data_layout, Type(tree.numbers), content) is not None
+
+    def _wrong(self, tree: _Tree, number: Optional[int], content: bytes) -> str:
+        """The way to the first part whose bytes hold none of its values, of a type whose bytes hold none."""
+        parts = self._held_parts(tree, number, content)
+        for name, offset, size, part, it in parts or []:
+            own = content[offset : offset + size]
+            if not self._holds(it, own):
+                way = self._wrong(it, part, own)
+                return f"{name}.{way}" if way else name
+        return "tag" if parts is None else ""
+
+    def _held_parts(self, tree: _Tree, number: Optional[int], content: bytes) -> Optional[list[_Place]]:
+        """The parts that a value in these bytes has, as they lie in memory: fields, elements, and of an enum those of the variant that its tag
+        names; `None` where that names none."""
+        if tree.kind in (3, 6, 7):
+            return self._places(tree, number)[1]
+        if tree.kind == 4:
+            size = self._module.layout_of(tree.lists[0][0]).size
+            count = tree.count if size else min(1, tree.count)
+            return [(str(at), at * size, size, self._element(number), tree.lists[0][0]) for at in range(count)]
+        if tree.kind != 9:
+            return []
+        layout = self._module.layout_of(tree)
+        index = self._variant_of(tree, content)
+        if index is None:
+            return None
+        variant, parts = self._parts(tree, number, index)
+        offsets = layout.variants.all[index].offsets if layout.variants.kind == 2 else layout.fields.offsets
+        sizes = [self._module.layout_of(it).size for _, _, it in parts]
+        found = [(f"{variant or index}.{name}", at, size, part, it) for (name, part, it), at, size in zip(parts, offsets, sizes)]
+        return sorted(found, key=lambda it: (it[1], it[2]))
+
+    def _variant_of(self, tree: _Tree, content: bytes) -> Optional[int]:
+        """The variant of an enum that the tag in these bytes names, by where it stands; `None` where it names none."""
+        layout = self._module.layout_of(tree)
+        it = layout.variants
+        if it.kind != 2 or it.tag is None:
+            return it.index if it.kind == 1 else None
+        at, bits = layout.fields.offsets[it.index], _bits_of(it.tag, self._module)
+        number = int.from_bytes(content[at : at + bits // 8], "big" if self._module.is_big_endian else "little")
+        if it.niche is None:
+            return next((index for index, own in enumerate(tree.discriminants) if own % (1 << bits) == number), None)
+        untagged, first, last, start = it.niche
+        index = first + (number - start) % (1 << bits)
+        return index if index <= last else untagged
+
     # ---- types of other libraries
 
-    def _places(self, tree: _Tree, number: Optional[int]) -> tuple[int, list[tuple[str, int, int, Optional[int], _Tree]]]:
+    def _places(self, tree: _Tree, number: Optional[int]) -> tuple[int, list[_Place]]:
         """The size of a struct, and its fields as they lie in memory: name, offset, size, the number of the part, type."""
         layout = self._module.layout_of(tree)
         _, parts = self._parts(tree, number, 0)
@@ -1024,6 +1090,10 @@ class TypeLayout:
             codes += "x" * (offset - end) + inner
             end = offset + count
         return codes + "x" * (size - end)
+
+
+#: A part in memory: its name, its offset and size in bytes, the number of what is said of it, and its type.
+_Place = tuple[str, int, int, Optional[int], _Tree]
 
 
 def _fields_of(told: Mapping[str, Any]) -> dict[str, Field]:
@@ -1252,7 +1322,7 @@ def _lent(call: Any, lent: Any, data_layout: bytes, *given: Any) -> tuple[int, l
 def _lent_of_files(call: Any, lent: Any, files: Mapping[str, bytes], asked: bytes) -> tuple[int, list[int]]:
     """The same of a call over files."""
     paths = {path: path.encode() for path in files}
-    all = (_File * max(1, len(files)))(*((paths[path], len(paths[path]), text, len(text)) for path, text in files.items()))
+    all = (_File * max(1, len(files)))(*[_File(paths[path], len(paths[path]), text, len(text)) for path, text in files.items()])
     room, needed = 16 * ROOM, ctypes.c_size_t()
     while True:
         output = (lent * room)()

@@ -8,7 +8,7 @@
 
 `rust-source` reads a source, with the files in its folder and below where it is a `main.rs` or a `lib.rs`, for a target if one stands behind it.
 `rust-layout` tells where the parts of a type lie, or the value at an address; `rust-check` whether the bytes of an expression hold a value of its
-type, and which. A type is called as the source does, without its crate.
+type, and which, or the part whose bytes hold none; both with the bytes of each field. A type is called as the source does, without its crate.
 """
 
 from __future__ import annotations
@@ -45,13 +45,14 @@ def _evaluated(expression: str) -> Any:
 
 
 def _held(it: rustc_abi.TypeLayout, address: int) -> str:
-    """What the bytes at an address hold."""
+    """What the bytes at an address hold: the value, or the part whose bytes hold none; and the bytes by field."""
     content = gdb.selected_inferior().read_memory(address, it.size).tobytes() if it.size else b""
     try:
-        value = it.read(content)
+        value, wrong, parts = it.read(content), it.wrong_part(content), it.parts_of(content)
     except rustc_abi.Unsupported as error:
         raise gdb.GdbError(str(error))
-    return f"no value of {it.name}: {content.hex(' ')}" if value is None else repr(value)
+    first = repr(value) if wrong is None else f"no value of {it.name}" + (f": {wrong} holds none" if wrong else "")
+    return "\n".join([first, *(f"  {name}: {own.hex(' ')}" for name, own in parts or [("bytes", content)])])
 
 
 def _lines(it: rustc_abi.TypeLayout) -> list[str]:
