@@ -1,14 +1,16 @@
 #!/usr/bin/env python3
-"""sources.py LIBRARY PROGRAM [EVERY]: tries the calls over Rust source of the shared library at LIBRARY: each source of cases/rust/, or each so
+"""sources.py LIBRARY PROGRAM [EVERY [BROKEN]]: tries the calls over Rust source of the shared library at LIBRARY: each source of cases/rust/, or each so
 manyeth, has to have the JSON document and the status that PROGRAM, which is `types`, answers with --json, byte for byte; and where that has no
 document, one with its fault. What is answered by numbers has to lie as the document says, and values of bytes at random have to be read, by
-names, as the same from what is written of them. Prints what differs, or how many agreed; the status is 0 where all did."""
+names, as the same from what is written of them. Of BROKEN of them with bytes that don't belong there (300 where nothing is said) the status has
+to be that of their faults, whose places lie in the source. Prints what differs, or how many agreed; the status is 0 where all did."""
 import glob, json, os, random, subprocess, sys, tempfile
 
 sys.dont_write_bytecode = True
 ROOT = os.path.dirname(os.path.dirname(os.path.abspath(__file__)))
 sys.path.insert(0, os.path.join(ROOT, "bindings/python"))
 import rustc_abi
+from breaking import break_text
 from schemas import faults_in
 
 # The options that both have: those with a word behind them, and those alone.
@@ -106,7 +108,34 @@ def values_fault(it, dice):
     return None, held
 
 
-def main(path, program, every):
+def broken_fault(library, source):
+    """What is wrong with the document of a broken source, or None."""
+    status, text = library.types_text({"": source}, b"")
+    document = json.loads(text)
+    if status not in (0, 1, 2) or (status == 0) == bool(document["faults"]):
+        return f"the status is {status}, with {len(document['faults'])} faults"
+    if faults := faults_in(document, SCHEMA):
+        return f"the document isn't as its schema says: {faults[0]}"
+    lines = source.decode(errors="replace").split("\n")
+    for at in (it["place"] for it in document["faults"] if "place" in it):
+        if not (1 <= at["line"] <= len(lines) and 1 <= at["column"] <= len(lines[at["line"] - 1]) + 1):
+            return f"line {at['line']}, column {at['column']} isn't in the source"
+    return None
+
+
+def broken_faults(library, files, count):
+    """What is wrong with the documents of so many broken sources."""
+    dice, faults = random.Random(2), []
+    for number in range(count):
+        source = break_text(dice.choice(files), dice)
+        if fault := broken_fault(library, source):
+            with open(f"{tempfile.gettempdir()}/broken-source-{number}.rs", "wb") as out:
+                out.write(source)
+            faults.append(f"broken source {number}, which is {out.name} now: {fault}")
+    return faults
+
+
+def main(path, program, every, broken):
     library, dice, faults, tried, types, values = rustc_abi.load(path), random.Random(1), [], 0, 0, 0
     for number, (name, words, files) in enumerate(cases()):
         both = asked_of(words)
@@ -126,15 +155,16 @@ def main(path, program, every):
                 fault, values = fault or wrong, values + held
         if fault is not None:
             faults.append(f"{name}: {fault}")
+    faults += broken_faults(library, [next(iter(files.values())) for _, _, files in cases()], broken)
     for it in faults:
         print(f"sources: {it}")
     if not faults and tried * every < 300:
         faults.append("too few")
         print(f"sources: {tried} sources are too few")
     if not faults:
-        print(f"sources: {tried} sources have the program's documents; {types} of their types lie as these say, and {values} values were read from what was written of them")
+        print(f"sources: {tried} sources have the program's documents; {types} of their types lie as these say, {values} values were read from what was written of them, and {broken} broken sources have their faults")
     return 1 if faults else 0
 
 
 if __name__ == "__main__":
-    sys.exit(main(sys.argv[1], sys.argv[2].split(), int(sys.argv[3]) if len(sys.argv) > 3 else 1))
+    sys.exit(main(sys.argv[1], sys.argv[2].split(), *(int(sys.argv[at]) if len(sys.argv) > at else default for at, default in ((3, 1), (4, 300)))))
