@@ -11,3 +11,5 @@ pub mod Sorting
 pub mod Waste
 -- a report as JSON
 pub mod Document
+-- what an object says of a type
+pub mod Facts

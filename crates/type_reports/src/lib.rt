@@ -35,6 +35,7 @@ mod line_options;
 mod facts;
 
 // What could be saved of types.
+mod data_runs;
 mod least;
 mod savings;
 mod savings_text;
