@@ -1,4 +1,5 @@
 mod CfgIfTurns
+mod CfgCallTurns
 mod CfgTurns
 mod Digits
 mod Facts

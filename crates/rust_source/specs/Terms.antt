@@ -15,6 +15,7 @@ use Rattle.rust_source.specs.declared.tokens.token.Bracket.TheVariants as bracke
 use Rattle.rust_source.specs.declared.tokens.token.TokenKind.{TokenKind}
 use Rattle.rust_source.specs.declared.tokens.token.TokenKind.TheVariants as kind
 use Rattle.rust_source.specs.Cursor.{behind_group, comma_passed, expected, fault, inside, is_done, is_group, is_lifetime, is_named_next, is_next, is_nth, is_nth_pair, is_pair, is_keyword_next, next_kind, passed, place}
+use Rattle.rust_source.specs.CfgCalls.{cfg_call, is_cfg_call}
 use Rattle.rust_source.specs.Operators.{all_joined, next_operator, operator_put, with_operators}
 use Rattle.rust_source.specs.Lifetimes.{lifetimes_given}
 use Rattle.rust_source.specs.Passing.{bounds}
@@ -294,7 +295,9 @@ module _ (R : Readers) where
 
   -- the operand without operators that is next
   unfoldable pub primary : Reader ExprRead
-  primary c names = if is_literal c then (literal_read c, names) else primary_by c (next_kind c) names
+  primary c names =
+      if is_literal c then (literal_read c, names)
+      else (if is_cfg_call c then done (cfg_call c) names else primary_by c (next_kind c) names)
 
   -- an operand with the casts behind it; there are less than `limit`
   abbrev pub cast_from : (limit : ℕ) → ExprRead → Reader ExprRead

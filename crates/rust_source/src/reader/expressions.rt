@@ -15,6 +15,7 @@ ghost use Rattle.rust_source.specs.Tokens.{Yields};
 use crate::fault::{SourceFault, SourceFaultKind};
 use crate::names::Names;
 use crate::place::{Place, Symbol};
+use crate::reader::cfg_calls::{is_cfg_call, read_cfg_call};
 use crate::reader::cursor::{
     Cursor, expect_comma, fault, is_done, is_group, is_named_next, is_next, next_kind, nth, pass,
     place, take_group, take_word, text_of,
@@ -444,6 +445,9 @@ fn read_primary(
 {
     if is_literal(cursor) {
         return read_literal(cursor);
+    }
+    if is_cfg_call(cursor) {
+        return Ok(read_cfg_call(cursor));
     }
     let at = place(cursor);
     match next_kind(cursor) {
