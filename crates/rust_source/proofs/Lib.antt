@@ -14,6 +14,7 @@ mod Joining
 mod OneJoining
 mod Operators
 mod Pointed
+mod Pushed
 mod Depths
 mod SourceLemmas
 mod Steps

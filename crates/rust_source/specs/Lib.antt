@@ -19,6 +19,7 @@ pub mod Reading
 pub mod Repr
 pub mod Texts
 pub mod Simple
+pub mod Matches
 pub mod Cfg
 pub mod CfgCalls
 pub mod Terms

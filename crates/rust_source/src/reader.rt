@@ -1,6 +1,7 @@
 //! Sources and single types, read.
 
 mod attributes;
+mod blocks;
 mod cfg;
 mod cfg_calls;
 mod cfg_if;
@@ -16,6 +17,7 @@ mod items;
 mod known_attributes;
 mod lifetimes;
 mod literals;
+mod matches;
 pub(crate) mod modules;
 mod naming;
 mod operators;
