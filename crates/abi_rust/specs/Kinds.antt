@@ -350,9 +350,10 @@ module _ (items : Items) (scope : Scope) where
   unfoldable pub path_kind : Where → Path → Option Kind
   path_kind w p = path_kind_of w p (local_at w p)
 
-  -- a `let` of this name hides another one, or a parameter
+  -- a `let` of this name hides another one, or a parameter; what a `match` compares is named by nothing else
   abbrev pub hides : Where → Symbol → Bool
-  hides w name = is_some (local_named w.locals name.0) || is_some (parameter_named w.item name)
+  hides w name =
+      if is_same_name name UNDERSCORE then false else is_some (local_named w.locals name.0) || is_some (parameter_named w.item name)
 
   -- the call of a method of integers on what is in the path's type, where that is one
   abbrev pub call_on : Method → Option Kind → Option IntegerCall

@@ -118,10 +118,13 @@ fn local_at(env: Env<'_>, path: &Path) -> Option<ConstValue>
     local_named(env.locals, single_name(path)?)
 }
 
-/// Whether a `let` of this name hides another one, or a parameter.
+/// Whether a `let` of this name hides another one, or a parameter. What a `match` compares is named by nothing else.
 fn hides(cx: &Context<'_, '_>, env: Env<'_>, name: Symbol) -> bool
     ensures { result ≡ hides cx.now.items.now cx.now.scope.now (where_of env.entry) name }
 {
+    if name == Symbol::UNDERSCORE {
+        return false;
+    }
     local_named(env.locals, name).is_some() || parameter_named(cx, env.item, name).is_some()
 }
 
