@@ -19,9 +19,11 @@ pub mod Reading
 pub mod Repr
 pub mod Texts
 pub mod Simple
+pub mod Matches
+pub mod Cfg
+pub mod CfgCalls
 pub mod Terms
 pub mod Joining
-pub mod Cfg
 pub mod Attributes
 pub mod Items
 pub mod Repeated

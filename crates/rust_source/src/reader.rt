@@ -1,7 +1,9 @@
 //! Sources and single types, read.
 
 mod attributes;
+mod blocks;
 mod cfg;
+mod cfg_calls;
 mod cfg_if;
 mod constants;
 mod cursor;
@@ -15,6 +17,7 @@ mod items;
 mod known_attributes;
 mod lifetimes;
 mod literals;
+mod matches;
 pub(crate) mod modules;
 mod naming;
 mod operators;
@@ -48,8 +51,9 @@ use crate::item::Items;
 use crate::names::Names;
 use crate::place::Place;
 use crate::reader::attributes::Rules;
+use crate::reader::cfg_calls::calls_of;
 use crate::reader::cfg_if::has_own;
-use crate::reader::cursor::{Cursor, fault, is_done};
+use crate::reader::cursor::{CfgCall, Cursor, fault, is_done};
 use crate::reader::depth::most_nested;
 use crate::reader::items::read_root;
 use crate::reader::modules::SourceRoot;
@@ -110,13 +114,19 @@ fn tokens_at(alloc: Global, text: &str, start: Place) -> Result<Vec<Token>, Sour
     }
 }
 
-/// A cursor at the first token.
-fn cursor_at_start<'a>(text: &'a str, start: Place, tokens: &'a [Token]) -> Cursor<'a>
-    ensures { StandsBefore result text.now start.0 tokens.now }
+/// A cursor at the first token of a text, of whose calls of `cfg!` these are decided.
+fn cursor_at_start<'a>(
+    text: &'a str,
+    start: Place,
+    tokens: &'a [Token],
+    calls: &'a [CfgCall],
+) -> Cursor<'a>
+    ensures { StandsBefore result text.now start.0 tokens.now calls.now }
 {
     Cursor {
         text,
         tokens,
+        calls,
         start: start.0,
         at: 0,
         end: tokens.len(),
@@ -146,7 +156,9 @@ pub fn read_items(
         (texts names.new, items_as_read items.new) result }
 {
     let found = tokens_at(alloc, source.text, source.start)?;
-    let mut cursor = cursor_at_start(source.text, source.start, &found);
+    let undecided = cursor_at_start(source.text, source.start, &found, &[]);
+    let calls = calls_of(alloc, target, &undecided)?;
+    let mut cursor = cursor_at_start(source.text, source.start, &found, &calls);
     let rules = Rules {
         target: *target,
         is_trusted: source.is_trusted,
@@ -183,6 +195,6 @@ pub fn read_type(
     ensures one { OneJoiningByStrength }
 {
     let found = tokens_at(alloc, text, start)?;
-    let mut cursor = cursor_at_start(text, start, &found);
+    let mut cursor = cursor_at_start(text, start, &found, &[]);
     read_alone(names, &mut cursor)
 }
