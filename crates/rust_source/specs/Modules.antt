@@ -118,7 +118,7 @@ module _ (rules : Rules) where
 
   -- the items that stand in place of the call that is next, in the module with this number; none where they aren't known
   unfoldable pub items_of_call : (number : ℕ) → Cursor → Having → Result (Option Cursor) SourceFault × Having
-  items_of_call number c known = wrapped_or_chosen number c (wrapped_items rules number c known) known
+  items_of_call number c known = read_on (λ found ns. wrapped_or_chosen number c found ns) (wrapped_items rules number c known)
 
   -- the item that is next, which makes no type and is no constant
   unfoldable pub other_read : Standing → Attributes → Cursor → Having → Result Cursor SourceFault × Having

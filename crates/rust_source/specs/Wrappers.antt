@@ -6,16 +6,21 @@ use Rattle.std.specs.Str.{bytes_eq}
 use Rattle.rust_source.specs.declared.fault.SourceFault.{SourceFault}
 use Rattle.rust_source.specs.declared.item.Macro.{Macro}
 use Rattle.rust_source.specs.declared.item.Module.{Module}
+use Rattle.rust_source.specs.declared.item.Wrapping.{Wrapping}
 use Rattle.rust_source.specs.declared.place.Place.{Place}
 use Rattle.rust_source.specs.declared.place.Symbol.{Symbol}
 use Rattle.rust_source.specs.declared.reader.attributes.Attributes.{Attributes}
 use Rattle.rust_source.specs.declared.reader.attributes.Rules.{Rules}
 use Rattle.rust_source.specs.declared.reader.cursor.Cursor.{Cursor}
+use Rattle.rust_source.specs.declared.reader.wrappers.Headed.{Headed}
+use Rattle.rust_source.specs.declared.reader.wrappers.WrappedCall.{WrappedCall}
 use Rattle.rust_source.specs.declared.reader.wrappers.WrappingRule.{WrappingRule}
+use Rattle.rust_source.specs.declared.target.CfgTarget.{CfgTarget}
 use Rattle.rust_source.specs.declared.tokens.keyword.Keyword.TheVariants as keyword
 use Rattle.rust_source.specs.declared.tokens.token.Bracket.TheVariants as bracket
 use Rattle.rust_source.specs.Attributes.{attributes_read}
 use Rattle.rust_source.specs.Cfg.{Noted}
+use Rattle.rust_source.specs.CfgIf.{predicate_alone, predicate_in}
 use Rattle.rust_source.specs.Cursor.{behind_group, inside, is_done, is_keyword_next, is_named_next, is_next, is_pair, passed}
 use Rattle.rust_source.specs.Fields.{by_names}
 use Rattle.rust_source.specs.Having.{Having, noted, noted_within, with_macro}
@@ -57,10 +62,10 @@ abbrev pub repeated_within : Option Cursor → Option Cursor
 repeated_within None = None
 repeated_within (Some i) = repeated i
 
--- `$name:item` is all that is left
-unfoldable pub is_item_variable : Cursor → Bool
-is_item_variable c =
-    is_next c 36 && not (length (word_text (passed c 1)) == 0) && is_next (passed c 2) 58 && is_named (passed c 3) (codes "item") && is_done (passed c 4)
+-- `$name:kind` is all that is left, of this kind
+unfoldable pub is_variable_of : Cursor → (kind : List ℕ) → Bool
+is_variable_of c kind =
+    is_next c 36 && not (length (word_text (passed c 1)) == 0) && is_next (passed c 2) 58 && is_named (passed c 3) kind && is_done (passed c 4)
 
 -- `$` and this name is all that is left
 abbrev pub is_variable : Cursor → (name : List ℕ) → Bool
@@ -70,17 +75,60 @@ is_variable c name = is_next c 36 && bytes_eq (word_text (passed c 1)) name && i
 abbrev pub ends_rule : Cursor → Bool
 ends_rule c = is_done c || (is_next c 59 && is_done (passed c 1))
 
+-- what begins with the attribute of what stands around whose brackets have this
+abbrev pub head_by : Cursor → Option Cursor → Option Headed
+head_by c None = None
+head_by c (Some i) = Some (record { attribute = i; behind = behind_group c })
+
+-- what begins with `#![..]`
+unfoldable pub head_of : Cursor → Option Headed
+head_of c = if is_next c 35 && is_next (passed c 1) 33 then head_by (passed c 2) (inside (passed c 2) bracket.Square) else None
+
+-- the predicate is the variable of this name
+abbrev pub is_predicate_of : (name : List ℕ) → Option Cursor → Bool
+is_predicate_of name None = false
+is_predicate_of name (Some p) = is_variable p name
+
+-- these brackets have `cfg($name)` alone
+abbrev pub is_cfg_of : (name : List ℕ) → Option Cursor → Bool
+is_cfg_of name i = is_predicate_of name (predicate_in i)
+
+-- what follows the `#[cfg($name)]` that is next
+unfoldable pub behind_cfg : (name : List ℕ) → Cursor → Option Cursor
+behind_cfg name c =
+    if is_next c 35 && is_cfg_of name (inside (passed c 1) bracket.Square) then Some (behind_group (passed c 1)) else None
+
 -- a rule that matches items, and repeats what stands there
-abbrev pub rule_of : (matched written : Option Cursor) → Option WrappingRule
-rule_of (Some m) (Some w) = if is_item_variable m then Some (record { variable = m; written = w }) else None
-rule_of _ _ = None
+abbrev pub item_rule : (takes_predicate : Bool) → (variable written : Option Cursor) → Option WrappingRule
+item_rule takes_predicate (Some v) (Some w) =
+    if is_variable_of v (codes "item") then Some (record { variable = v; written = w; takes_predicate = takes_predicate }) else None
+item_rule takes_predicate _ _ = None
+
+-- a rule that matches `#![$name:meta]` and items, and repeats what stands there behind `#[cfg($name)]`
+unfoldable pub rule_headed : Headed → (written : Cursor) → Option WrappingRule
+rule_headed h w =
+    if is_variable_of h.attribute (codes "meta")
+    then item_rule true (repeated h.behind) (behind_cfg (word_text (passed h.attribute 1)) w) else None
+
+-- a rule that matches items, with a predicate before them or not
+abbrev pub rule_by : (matched written : Cursor) → Option Headed → Option WrappingRule
+rule_by m w None = item_rule false (repeated m) (Some w)
+rule_by m w (Some h) = rule_headed h w
+
+unfoldable pub rule_of : (matched written : Cursor) → Option WrappingRule
+rule_of m w = rule_by m w (head_of m)
+
+-- the same of what stands in these brackets
+abbrev pub rule_within : (matched written : Option Cursor) → Option WrappingRule
+rule_within (Some m) (Some w) = rule_of m w
+rule_within _ _ = None
 
 -- the rule that is all that is left, where it is one of a wrapper
 unfoldable pub only_rule : Cursor → Option WrappingRule
 only_rule c =
     let d = passed (behind_group c) 2 in
     if is_pair (behind_group c) 61 62 && ends_rule (behind_group d)
-    then rule_of (repeated_within (any_inside c)) (repeated_within (any_inside d)) else None
+    then rule_within (any_inside c) (repeated_within (any_inside d)) else None
 
 -- the same within brackets
 abbrev pub only_rule_within : Option Cursor → Option WrappingRule
@@ -92,24 +140,26 @@ abbrev pub says_no_more : Attributes → Bool
 says_no_more said =
     not (asks said.repr || said.derives_copy || said.has_helpers || is_some said.valid_range || is_some said.unknown || is_some said.path)
 
--- whether items stand behind these attributes, where they say no more and the variable of this name follows
-abbrev pub stands_by : (name : List ℕ) → Attributes → Cursor → Option Bool
-stands_by name said c = if says_no_more said && is_variable c name then Some said.holds else None
+-- how a rule wraps items behind these attributes, where they say no more and the item's variable follows
+abbrev pub wrapping_by : WrappingRule → Attributes → Cursor → Option Wrapping
+wrapping_by r said c =
+    if says_no_more said && is_variable c (word_text (passed r.variable 1))
+    then Some (record { stands = said.holds; takes_predicate = r.takes_predicate }) else None
 
 -- the same of what was read; none where it can't be
-abbrev pub stands_read : (name : List ℕ) → Result (Attributes × Cursor) SourceFault → Option Bool
-stands_read name (Ok s) = stands_by name s.0 s.1
-stands_read name (Err e) = None
+abbrev pub wrapping_read : WrappingRule → Result (Attributes × Cursor) SourceFault → Option Wrapping
+wrapping_read r (Ok s) = wrapping_by r s.0 s.1
+wrapping_read r (Err e) = None
 
 -- the same of a rule's attributes
-abbrev pub stands_of : Rules → WrappingRule → Noted → Result (Option Bool) SourceFault × Noted
-stands_of rules r known =
-    let read = attributes_read rules r.written known in done (stands_read (word_text (passed r.variable 1)) read.0) read.1
+abbrev pub wrapping_of : Rules → WrappingRule → Noted → Result (Option Wrapping) SourceFault × Noted
+wrapping_of rules r known =
+    let read = attributes_read rules r.written known in done (wrapping_read r read.0) read.1
 
--- whether the items of a call stand, by the rule that wraps them; none without such a rule
-abbrev pub stands_in : Rules → Option WrappingRule → Noted → Result (Option Bool) SourceFault × Noted
-stands_in rules None known = done None known
-stands_in rules (Some r) known = stands_of rules r known
+-- how a macro wraps the items of its calls, by the rule that does so; none without such a rule
+abbrev pub wrapping_in : Rules → Option WrappingRule → Noted → Result (Option Wrapping) SourceFault × Noted
+wrapping_in rules None known = done None known
+wrapping_in rules (Some r) known = wrapping_of rules r known
 
 -- the definition of a macro is next
 unfoldable pub is_macro_rules : Cursor → Bool
@@ -129,19 +179,19 @@ unfoldable pub last_macro : ItemsRead → (number : ℕ) → Symbol → Option M
 last_macro items number s = last_from items.modules (root_around items.modules number) s None items.macros
 
 -- a macro of this name and place; of one that isn't the first of its name nothing more is known
-abbrev pub macro_of : ItemsRead → (number : ℕ) → Symbol × Place → (stands : Option Bool) → Macro
-macro_of items number n stands = record {
+abbrev pub macro_of : ItemsRead → (number : ℕ) → Symbol × Place → Option Wrapping → Macro
+macro_of items number n wrapping = record {
   name = n.0;
   at = n.1;
   «module» = number;
-  stands = if is_some (last_macro items number n.0) then None else stands;
+  wrapping = if is_some (last_macro items number n.0) then None else wrapping;
 }
 
 -- the macro of this name, behind which its rules stand, is kept; of one that may be rewritten nothing more is known
 abbrev pub macro_kept : Rules → (number : ℕ) → (is_rewritten : Bool) → Symbol × Place → Cursor → Having → Result (Unit {0}) SourceFault × Having
 macro_kept rules number is_rewritten n c known =
-    read_on (λ stands ns. done tt (ns.0, with_macro (macro_of ns.1 number n (if is_rewritten then None else stands)) ns.1))
-    (noted_within known.1 (stands_in rules (only_rule_within (any_inside c)) (noted known)))
+    read_on (λ wrapping ns. done tt (ns.0, with_macro (macro_of ns.1 number n (if is_rewritten then None else wrapping)) ns.1))
+    (noted_within known.1 (wrapping_in rules (only_rule_within (any_inside c)) (noted known)))
 
 -- the macro is kept whose definition is next, if one is
 unfoldable pub macro_read : Rules → (number : ℕ) → (is_rewritten : Bool) → Cursor → Having → Result (Unit {0}) SourceFault × Having
@@ -158,27 +208,53 @@ is_around modules outer number = (outer == number) || is_some (child_towards mod
 abbrev pub is_in_scope : List Module → (start number : ℕ) → Macro → Bool
 is_in_scope modules start number m = nat_le start m.at.0 && is_around modules m.«module» number
 
--- whether the items of its calls stand, where it is in scope
-abbrev pub stands_there : List Module → (start number : ℕ) → Option Macro → Option Bool
-stands_there modules start number None = None
-stands_there modules start number (Some m) = if is_in_scope modules start number m then m.stands else None
+-- how it wraps the items of a call, where it is in scope
+abbrev pub wrapping_there : List Module → (start number : ℕ) → Option Macro → Option Wrapping
+wrapping_there modules start number None = None
+wrapping_there modules start number (Some m) = if is_in_scope modules start number m then m.wrapping else None
 
--- whether the items of a call stand, by the macro of this name
-abbrev pub stands_by_name : ItemsRead → (start number : ℕ) → Option Symbol → Option Bool
-stands_by_name items start number None = None
-stands_by_name items start number (Some s) = stands_there items.modules start number (last_macro items number s)
+-- how the macro of this name wraps the items of a call
+abbrev pub wrapping_by_name : ItemsRead → (start number : ℕ) → Option Symbol → Option Wrapping
+wrapping_by_name items start number None = None
+wrapping_by_name items start number (Some s) = wrapping_there items.modules start number (last_macro items number s)
+
+-- a call of what wraps so, whose braces have this
+abbrev pub call_with : Cursor → Option Wrapping → Option WrappedCall
+call_with i None = None
+call_with i (Some w) = Some (record { inside = i; wrapping = w })
+
+-- the same of the macro whose name is next, in the module with this number
+abbrev pub call_within : (number : ℕ) → Cursor → Having → Option Cursor → Option WrappedCall
+call_within number c known None = None
+call_within number c known (Some i) = call_with i (wrapping_by_name known.1 c.start number (symbol_found known.0 (word_text c)))
+
+-- the call that is next, of a macro of the source that wraps items; none where it isn't known to be one
+unfoldable pub wrapped_call : Rules → (number : ℕ) → Cursor → Having → Option WrappedCall
+wrapped_call rules number c known =
+    if is_next (passed c 1) 33 && not rules.has_macro_use then call_within number c known (inside (passed c 2) bracket.Curly) else None
 
 -- these items, or none of them
-abbrev pub standing_of : Cursor → Option Bool → Option Cursor
-standing_of i None = None
-standing_of i (Some stands) = Some (if stands then i else record i { at = i.end })
+abbrev pub standing_of : Cursor → (stands : Bool) → Cursor
+standing_of i stands = if stands then i else record i { at = i.end }
 
--- the items that stand in place of the call whose braces have these
-abbrev pub wrapped_in : (number : ℕ) → Cursor → Having → Option Cursor → Option Cursor
-wrapped_in number c known None = None
-wrapped_in number c known (Some i) = standing_of i (stands_by_name known.1 c.start number (symbol_found known.0 (word_text c)))
+module _ (t : CfgTarget) where
+  -- the items behind a predicate, which stand where it holds; none where it isn't there
+  abbrev pub standing_behind : (stands : Bool) → Option Headed → Noted → Result (Option Cursor) SourceFault × Noted
+  standing_behind stands None known = done None known
+  standing_behind stands (Some h) known =
+      read_on (λ holds ns. done (Some (standing_of h.behind (stands && holds))) ns) (predicate_alone t h.attribute known)
+
+  -- the items that stand in place of a call
+  unfoldable pub standing_items : WrappedCall → Noted → Result (Option Cursor) SourceFault × Noted
+  standing_items w known =
+      if w.wrapping.takes_predicate then standing_behind w.wrapping.stands (head_of w.inside) known
+      else done (Some (standing_of w.inside w.wrapping.stands)) known
+
+  -- the same where there is such a call
+  abbrev pub standing_by : Option WrappedCall → Having → Result (Option Cursor) SourceFault × Having
+  standing_by None known = done None known
+  standing_by (Some w) known = noted_within known.1 (standing_items w (noted known))
 
 -- the items that stand in place of the call that is next, by a macro of the source; none where they aren't known
-unfoldable pub wrapped_items : Rules → (number : ℕ) → Cursor → Having → Option Cursor
-wrapped_items rules number c known =
-    if is_next (passed c 1) 33 && not rules.has_macro_use then wrapped_in number c known (inside (passed c 2) bracket.Curly) else None
+unfoldable pub wrapped_items : Rules → (number : ℕ) → Cursor → Having → Result (Option Cursor) SourceFault × Having
+wrapped_items rules number c known = standing_by rules.target (wrapped_call rules number c known) known

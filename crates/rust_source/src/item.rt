@@ -190,6 +190,15 @@ pub struct Outline {
     pub at: Place,
 }
 
+/// How a macro wraps the items of its calls: it puts attributes in front of each, which say no more than `cfg`s do.
+#[derive(Clone, Copy, PartialEq, Eq)]
+pub struct Wrapping {
+    /// Whether the items stand, by those `cfg`s.
+    pub stands: bool,
+    /// Whether a call begins with `#![..]`, whose predicate is one more `cfg` of the items.
+    pub takes_predicate: bool,
+}
+
 /// A macro that `macro_rules!` defines outside of bodies.
 #[derive(Clone, Copy, PartialEq, Eq)]
 pub struct Macro {
@@ -198,9 +207,8 @@ pub struct Macro {
     pub at: Place,
     /// The module that it stands in, by its number.
     pub module: u32,
-    /// Where it puts attributes in front of the items of a call, whether these stand, by the `cfg`s among them. None where
-    /// it is the second one of its name in the crate, or isn't of that form.
-    pub stands: Option<bool>,
+    /// How it wraps items. None where it is the second one of its name in the crate, or does something else.
+    pub wrapping: Option<Wrapping>,
 }
 
 /// What sources have, in the order in which they were read.

@@ -17,7 +17,7 @@ mod tokens;
 pub use fault::{SourceFault, SourceFaultKind};
 pub use item::{
     Const, Enum, Field, FieldName, Fields, Item, ItemKind, Items, Macro, Module, Outline,
-    Parameter, ParameterKind, Repr, Use, UsedName, Variant,
+    Parameter, ParameterKind, Repr, Use, UsedName, Variant, Wrapping,
 };
 pub use names::Names;
 pub use place::{Place, Symbol};

@@ -380,10 +380,10 @@ fn items_of_call<'a>(
     ensures read { Reads (λ found. found) (items_of_call rules.now «module» cursor.now (texts names.old, items_as_read items.old))
         (texts names.new, items_as_read items.new) result }
 {
-    if let Some(wrapped) = wrapped_items(rules, names, items, module, cursor) {
-        return Ok(Some(wrapped));
+    match wrapped_items(rules, names, items, module, cursor)? {
+        Some(wrapped) => Ok(Some(wrapped)),
+        None => chosen_items(rules, names, items, module, cursor),
     }
-    chosen_items(rules, names, items, module, cursor)
 }
 
 /// Reads the items that stand in place of the call that is next, or an item where they aren't known.
