@@ -5,7 +5,6 @@ use Rattle.std.specs.Option.{option_or}
 use Rattle.std.specs.Str.{bytes_eq}
 use Rattle.rust_source.specs.declared.fault.SourceFault.{SourceFault}
 use Rattle.rust_source.specs.declared.item.Macro.{Macro}
-use Rattle.rust_source.specs.declared.item.Module.{Module}
 use Rattle.rust_source.specs.declared.item.Wrapping.{Wrapping}
 use Rattle.rust_source.specs.declared.place.Place.{Place}
 use Rattle.rust_source.specs.declared.place.Symbol.{Symbol}
@@ -25,11 +24,12 @@ use Rattle.rust_source.specs.Cursor.{behind_group, inside, is_done, is_keyword_n
 use Rattle.rust_source.specs.Fields.{by_names}
 use Rattle.rust_source.specs.Having.{Having, noted, noted_within, with_macro}
 use Rattle.rust_source.specs.Items.{ItemsRead}
+use Rattle.rust_source.specs.MacroScope.{last_macro, wrapping_meant}
 use Rattle.rust_source.specs.Names.{symbol_found}
 use Rattle.rust_source.specs.Reading.{is_named, name, read_on, word_text}
 use Rattle.rust_source.specs.Repr.{asks}
 use Rattle.rust_source.specs.Terms.{done}
-use Rattle.rust_source.specs.Visibility.{child_towards, root_around}
+use Rattle.rust_source.specs.Visibility.{root_around}
 
 -- `macro_use` is next that isn't right at an `extern`: the macros of a module may stand in those around it
 unfoldable pub is_use_of_modules : Cursor → Bool
@@ -138,7 +138,8 @@ only_rule_within (Some i) = only_rule i
 -- attributes say nothing but whether a `cfg` holds
 abbrev pub says_no_more : Attributes → Bool
 says_no_more said =
-    not (asks said.repr || said.derives_copy || said.has_helpers || is_some said.valid_range || is_some said.unknown || is_some said.path)
+    not (asks said.repr || said.derives_copy || said.has_helpers || is_some said.valid_range || is_some said.unknown || is_some said.path
+    || said.uses_macros)
 
 -- how a rule wraps items behind these attributes, where they say no more and the item's variable follows
 abbrev pub wrapping_by : WrappingRule → Attributes → Cursor → Option Wrapping
@@ -165,26 +166,13 @@ wrapping_in rules (Some r) known = wrapping_of rules r known
 unfoldable pub is_macro_rules : Cursor → Bool
 is_macro_rules c = bytes_eq (word_text c) (codes "macro_rules") && is_next (passed c 1) 33 && is_named_next (passed c 1)
 
--- the macro has this name, and the root is around it
-abbrev pub is_macro_of : List Module → (root : ℕ) → Symbol → Macro → Bool
-is_macro_of modules root s m = (m.name.0 == s.0) && (root_around modules m.«module» == root)
-
--- the last of these that does, or the one before them
-abbrev pub last_from : List Module → (root : ℕ) → Symbol → (found : Option Macro) → List Macro → Option Macro
-last_from modules root s found [] = found
-last_from modules root s found (m ∷ ms) = last_from modules root s (if is_macro_of modules root s m then Some m else found) ms
-
--- the last macro of this name in the crate that the module with this number is in
-unfoldable pub last_macro : ItemsRead → (number : ℕ) → Symbol → Option Macro
-last_macro items number s = last_from items.modules (root_around items.modules number) s None items.macros
-
 -- a macro of this name and place; of one that isn't the first of its name nothing more is known
 abbrev pub macro_of : ItemsRead → (number : ℕ) → Symbol × Place → Option Wrapping → Macro
 macro_of items number n wrapping = record {
   name = n.0;
   at = n.1;
   «module» = number;
-  wrapping = if is_some (last_macro items number n.0) then None else wrapping;
+  wrapping = if is_some (last_macro items (root_around items.modules number) n.0) then None else wrapping;
 }
 
 -- the macro of this name, behind which its rules stand, is kept; of one that may be rewritten nothing more is known
@@ -200,38 +188,20 @@ macro_read rules number is_rewritten c known =
     then read_on (λ (n : (Symbol × Place) × Cursor) ns. macro_kept rules number is_rewritten n.0 n.1 ns) (by_names known.1 (name (passed c 2) known.0))
     else done tt known
 
--- the module is the one with this number, or around it
-abbrev pub is_around : List Module → (outer number : ℕ) → Bool
-is_around modules outer number = (outer == number) || is_some (child_towards modules outer number)
-
--- the macro stands in this source, in the module with this number or around it
-abbrev pub is_in_scope : List Module → (start number : ℕ) → Macro → Bool
-is_in_scope modules start number m = nat_le start m.at.0 && is_around modules m.«module» number
-
--- how it wraps the items of a call, where it is in scope
-abbrev pub wrapping_there : List Module → (start number : ℕ) → Option Macro → Option Wrapping
-wrapping_there modules start number None = None
-wrapping_there modules start number (Some m) = if is_in_scope modules start number m then m.wrapping else None
-
--- how the macro of this name wraps the items of a call
-abbrev pub wrapping_by_name : ItemsRead → (start number : ℕ) → Option Symbol → Option Wrapping
-wrapping_by_name items start number None = None
-wrapping_by_name items start number (Some s) = wrapping_there items.modules start number (last_macro items number s)
-
 -- a call of what wraps so, whose braces have this
 abbrev pub call_with : Cursor → Option Wrapping → Option WrappedCall
 call_with i None = None
 call_with i (Some w) = Some (record { inside = i; wrapping = w })
 
--- the same of the macro whose name is next, in the module with this number
-abbrev pub call_within : (number : ℕ) → Cursor → Having → Option Cursor → Option WrappedCall
-call_within number c known None = None
-call_within number c known (Some i) = call_with i (wrapping_by_name known.1 c.start number (symbol_found known.0 (word_text c)))
+module _ (rules : Rules) (number : ℕ) (c : Cursor) (known : Having) where
+  -- the same of the macro whose name is next, in the module with this number
+  abbrev pub call_within : Option Cursor → Option WrappedCall
+  call_within None = None
+  call_within (Some i) = call_with i (wrapping_meant rules known.1 number c (symbol_found known.0 (word_text c)))
 
--- the call that is next, of a macro of the source that wraps items; none where it isn't known to be one
-unfoldable pub wrapped_call : Rules → (number : ℕ) → Cursor → Having → Option WrappedCall
-wrapped_call rules number c known =
-    if is_next (passed c 1) 33 && not rules.has_macro_use then call_within number c known (inside (passed c 2) bracket.Curly) else None
+  -- the call that is next, of a macro that wraps items; none where it isn't known to be one
+  unfoldable pub wrapped_call : Option WrappedCall
+  wrapped_call = if is_next (passed c 1) 33 then call_within (inside (passed c 2) bracket.Curly) else None
 
 -- these items, or none of them
 abbrev pub standing_of : Cursor → (stands : Bool) → Cursor

@@ -179,6 +179,10 @@ pub struct Module {
     pub visible_in: Option<u32>,
     /// What `#[path = ".."]` says of the file, or the folder, that its items stand in.
     pub path: Option<Symbol>,
+    /// Whether its macros are the root's, too: `macro_use` stands at it and at each module around it.
+    pub shares_macros: bool,
+    /// Where the root's source names the module of another file that it is, or stands in; none where it stands in that source.
+    pub entry: Option<Place>,
 }
 
 /// A module whose items stand in another file: `mod name;`.
@@ -227,6 +231,9 @@ pub struct Items {
     pub owners: Vec<Path>,
     /// The macros that stand outside of bodies, in the order of the sources.
     pub macros: Vec<Macro>,
+    /// Macros that were found by reading the same crate before: each by its name, the crate's root module, and the place in
+    /// the root's source behind which it is meant.
+    pub known_macros: Vec<Macro>,
     /// How many items were passed over, since they make no type and are no constant.
     pub passed_over: u64,
     /// How many types are defined within these, in bodies and in macros' calls, by their words: what a macro makes of them

@@ -21,6 +21,7 @@ pub use item::{
 };
 pub use names::Names;
 pub use place::{Place, Symbol};
+pub use reader::macro_scope::macros_of_crate;
 pub use reader::modules::SourceRoot;
 pub use reader::{Source, read_items, read_type};
 pub use syntax::{Argument, Binary, Expr, IntegerKind, Path, Segment, Type, Unary, Unevaluated};

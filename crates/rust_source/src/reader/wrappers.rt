@@ -7,11 +7,10 @@ ghost use Rattle.rust_source.specs.Having.{with_macro};
 ghost use Rattle.rust_source.specs.Items.{items_as_read};
 ghost use Rattle.rust_source.specs.Names.{texts};
 ghost use Rattle.rust_source.specs.Reading.{Reads};
-ghost use Rattle.rust_source.specs.Visibility.{root_around};
-ghost use Rattle.rust_source.specs.Wrappers.{any_inside, behind_cfg, ends_rule, has_macro_use, head_of, is_around, is_cfg_of, is_in_scope, is_macro_of, is_macro_rules, is_use_of_modules, is_variable, is_variable_of, item_rule, last_macro, macro_of, macro_read, only_rule, only_rule_within, repeated, rule_headed, rule_of, says_no_more, standing_items, standing_of, wrapped_call, wrapped_items, wrapping_by, wrapping_by_name, wrapping_in, wrapping_of};
+ghost use Rattle.rust_source.specs.Wrappers.{any_inside, behind_cfg, ends_rule, has_macro_use, head_of, is_cfg_of, is_macro_rules, is_use_of_modules, is_variable, is_variable_of, item_rule, macro_of, macro_read, only_rule, only_rule_within, repeated, rule_headed, rule_of, says_no_more, standing_items, standing_of, wrapped_call, wrapped_items, wrapping_by, wrapping_in, wrapping_of};
 
 use crate::fault::{SourceFault, SourceFaultKind};
-use crate::item::{Items, Macro, Module, Wrapping};
+use crate::item::{Items, Macro, Wrapping};
 use crate::names::Names;
 use crate::place::{Place, Symbol};
 use crate::reader::attributes::{Attributes, Rules, read_attributes};
@@ -20,9 +19,10 @@ use crate::reader::constants::is_wanting;
 use crate::reader::cursor::{
     Cursor, is_done, is_named_next, is_next, is_pair, is_word, pass, take, take_group, take_pair,
 };
+use crate::reader::macro_scope::{last_macro, wrapping_meant};
 use crate::reader::naming::{is_named, take_name, word_text};
 use crate::reader::repr::asks;
-use crate::reader::visibility::{child_towards, root_around};
+use crate::reader::visibility::root_around;
 use crate::target::CfgTarget;
 use crate::tokens::keyword::Keyword;
 use crate::tokens::token::Bracket;
@@ -255,7 +255,8 @@ fn says_no_more(said: &Attributes) -> bool
         || said.has_helpers
         || said.valid_range.is_some()
         || said.unknown.is_some()
-        || said.path.is_some())
+        || said.path.is_some()
+        || said.uses_macros)
 }
 
 /// How a rule wraps items behind these attributes, where they say no more and the item's variable follows.
@@ -328,28 +329,6 @@ fn is_macro_rules(cursor: &Cursor<'_>) -> bool
     word_text(cursor) == "macro_rules" && is_next(&behind, b'!') && is_named_next(&behind)
 }
 
-/// Whether a macro has this name, and this root is around it.
-fn is_macro_of(modules: &[Module], root: u32, name: Symbol, one: Macro) -> bool
-    ensures { result ≡ is_macro_of modules.now root name one }
-{
-    one.name == name && root_around(modules, one.module) == root
-}
-
-/// The last macro of this name in the crate that the module with this number is in.
-#[tactic(auto, unfolding(crate::specs::Wrappers::last_macro))]
-fn last_macro(items: &Items, module: u32, name: Symbol) -> Option<Macro>
-    ensures { result ≡ last_macro (items_as_read items.now) «module» name }
-{
-    let root = root_around(&items.modules, module);
-    let mut found = None;
-    for one in &items.macros {
-        if is_macro_of(&items.modules, root, name, *one) {
-            found = Some(*one);
-        }
-    }
-    found
-}
-
 /// How a macro wraps items. None where it may be rewritten.
 fn unless_rewritten(place: MacroPlace, wrapping: Option<Wrapping>) -> Option<Wrapping>
     ensures { result ≡ (if place.is_rewritten then None else wrapping) }
@@ -362,7 +341,8 @@ fn macro_of(items: &Items, module: u32, named: (Symbol, Place), wrapping: Option
     ensures { result ≡ macro_of (items_as_read items.now) «module» named wrapping }
 {
     let (name, at) = named;
-    let is_first = last_macro(items, module, name).is_none();
+    let root = root_around(&items.modules, module);
+    let is_first = last_macro(items, root, name).is_none();
     Macro {
         name,
         at,
@@ -433,32 +413,6 @@ pub(crate) fn has_macro_use(tokens: &Cursor<'_>) -> bool
     false
 }
 
-/// Whether a module is the one with this number, or around it.
-fn is_around(modules: &[Module], outer: u32, number: u32) -> bool
-    ensures { result ≡ is_around modules.now outer number }
-{
-    outer == number || child_towards(modules, outer, number).is_some()
-}
-
-/// Whether a macro stands in the source that begins at this place, in the module with this number or around it.
-fn is_in_scope(modules: &[Module], start: u32, number: u32, one: &Macro) -> bool
-    ensures { result ≡ is_in_scope modules.now start number one.now }
-{
-    start <= one.at.0 && is_around(modules, one.module, number)
-}
-
-/// How the macro of this name wraps the items of a call, where it is in scope.
-fn wrapping_by_name(items: &Items, start: u32, number: u32, name: Symbol) -> Option<Wrapping>
-    ensures { result ≡ wrapping_by_name (items_as_read items.now) start number (Some name) }
-{
-    let one = last_macro(items, number, name)?;
-    if is_in_scope(&items.modules, start, number, &one) {
-        one.wrapping
-    } else {
-        None
-    }
-}
-
 /// The call that is next, of a macro of the source that wraps items. None where it isn't known to be one.
 #[tactic(auto, unfolding(crate::specs::Wrappers::wrapped_call))]
 fn wrapped_call<'a>(
@@ -472,14 +426,14 @@ fn wrapped_call<'a>(
 {
     let mut ahead = *cursor;
     pass(&mut ahead, 1);
-    if !is_next(&ahead, b'!') || rules.has_macro_use {
+    if !is_next(&ahead, b'!') {
         return None;
     }
     let mut braces = *cursor;
     pass(&mut braces, 2);
     let inside = take_group(&mut braces, Bracket::Curly)?;
     let name = names.find(word_text(cursor))?;
-    let wrapping = wrapping_by_name(items, cursor.start, module, name)?;
+    let wrapping = wrapping_meant(rules, items, module, name, cursor)?;
     Some(WrappedCall { inside, wrapping })
 }
 
