@@ -73,6 +73,12 @@ place_or other (Some at) = at
 abbrev pub is_behind : List Module → (number : ℕ) → Cursor → Place → Bool
 is_behind modules number c at = nat_lt at.0 (place_or (place c) (entry_of modules number)).0
 
+-- how items are wrapped that one macro hands on to another, which takes a predicate
+abbrev pub handed_on : (first : Wrapping) → (second : Option Wrapping) → Option Wrapping
+handed_on first None = None
+handed_on first (Some second) =
+    if second.takes_predicate then Some (record { stands = first.stands && second.stands; takes_predicate = false; through = None }) else None
+
 module _ (rules : Rules) (items : ItemsRead) (number : ℕ) (c : Cursor) where
   -- how a macro of this name before the call in its source wraps its items: where `macro_use` stands there it may be another module's
   abbrev pub own_wrapping : Symbol → Option Wrapping
@@ -84,9 +90,22 @@ module _ (rules : Rules) (items : ItemsRead) (number : ℕ) (c : Cursor) where
   known_or_own s (Some m) = if is_behind items.modules number c m.at then m.wrapping else own_wrapping s
 
   -- the same of the macro of this name
+  unfoldable pub wrapping_named : Option Symbol → Option Wrapping
+  wrapping_named None = None
+  wrapping_named (Some s) = known_or_own s (known_in (root_around items.modules number) s items.known_macros)
+
+  -- with the macro that it is handed on to, if it is
+  abbrev pub through_by : (first : Wrapping) → (through : Option Symbol) → Option Wrapping
+  through_by first None = Some first
+  through_by first (Some s) = handed_on first (wrapping_named (Some s))
+
+  abbrev pub meant_by : Option Wrapping → Option Wrapping
+  meant_by None = None
+  meant_by (Some w) = through_by w w.through
+
+  -- how the macro of this name wraps the items of the call that is next, or the one that it hands them on to
   unfoldable pub wrapping_meant : Option Symbol → Option Wrapping
-  wrapping_meant None = None
-  wrapping_meant (Some s) = known_or_own s (known_in (root_around items.modules number) s items.known_macros)
+  wrapping_meant s = meant_by (wrapping_named s)
 
 -- the macro stands elsewhere
 abbrev pub is_another : Macro → Option Macro → Bool

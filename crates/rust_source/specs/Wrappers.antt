@@ -1,6 +1,6 @@
 -- Macros of a source that put attributes in front of the items of a call, as `macro_rules! name { ($($item:item)*) => { $(#[cfg(..)] $item)* } }`,
 -- and the items that stand in place of such a call.
-use Rattle.std.specs.Prelude.{ℕ, zero, suc, ◌-◌, ◌==◌, ◌&&◌, ◌||◌, Bool, true, false, not, codes, is_some, length, nat_le, List, [], ◌∷◌, Option, None, Some, Result, Ok, Err, if◌then◌else◌}
+use Rattle.std.specs.Prelude.{ℕ, zero, suc, ◌-◌, ◌==◌, ◌&&◌, ◌||◌, Bool, true, false, not, codes, is_some, length, List, Option, None, Some, Result, Ok, Err, if◌then◌else◌}
 use Rattle.std.specs.Option.{option_or}
 use Rattle.std.specs.Str.{bytes_eq}
 use Rattle.rust_source.specs.declared.fault.SourceFault.{SourceFault}
@@ -11,7 +11,10 @@ use Rattle.rust_source.specs.declared.place.Symbol.{Symbol}
 use Rattle.rust_source.specs.declared.reader.attributes.Attributes.{Attributes}
 use Rattle.rust_source.specs.declared.reader.attributes.Rules.{Rules}
 use Rattle.rust_source.specs.declared.reader.cursor.Cursor.{Cursor}
+use Rattle.rust_source.specs.declared.reader.wrappers.HandingRule.{HandingRule}
 use Rattle.rust_source.specs.declared.reader.wrappers.Headed.{Headed}
+use Rattle.rust_source.specs.declared.reader.wrappers.MacroRule.{MacroRule}
+use Rattle.rust_source.specs.declared.reader.wrappers.MacroRule.TheVariants.{Handing as Hands, Wrapping as Wraps}
 use Rattle.rust_source.specs.declared.reader.wrappers.WrappedCall.{WrappedCall}
 use Rattle.rust_source.specs.declared.reader.wrappers.WrappingRule.{WrappingRule}
 use Rattle.rust_source.specs.declared.target.CfgTarget.{CfgTarget}
@@ -111,27 +114,71 @@ rule_headed h w =
     then item_rule true (repeated h.behind) (behind_cfg (word_text (passed h.attribute 1)) w) else None
 
 -- a rule that matches items, with a predicate before them or not
-abbrev pub rule_by : (matched written : Cursor) → Option Headed → Option WrappingRule
-rule_by m w None = item_rule false (repeated m) (Some w)
-rule_by m w (Some h) = rule_headed h w
+abbrev pub wrapping_by_head : (matched written : Cursor) → Option Headed → Option WrappingRule
+wrapping_by_head m w None = item_rule false (repeated m) (Some w)
+wrapping_by_head m w (Some h) = rule_headed h w
 
-unfoldable pub rule_of : (matched written : Cursor) → Option WrappingRule
-rule_of m w = rule_by m w (head_of m)
+unfoldable pub wrapping_rule : (matched written : Cursor) → Option WrappingRule
+wrapping_rule m w = wrapping_by_head m w (head_of m)
+
+-- what stands in the braces of the call of a macro that is all that is left
+unfoldable pub call_alone : Cursor → Option Cursor
+call_alone c = if is_next (passed c 1) 33 && is_done (behind_group (passed c 2)) then inside (passed c 2) bracket.Curly else None
+
+-- the same where something is there
+abbrev pub is_variable_in : (name : List ℕ) → Option Cursor → Bool
+is_variable_in name None = false
+is_variable_in name (Some c) = is_variable c name
+
+-- all items of this variable follow, and nothing else
+abbrev pub repeats : (rest variable : Cursor) → Bool
+repeats c v = is_variable_in (word_text (passed v 1)) (repeated c)
+
+-- what begins with a predicate, and goes on with all items of a variable, which are handed on by what is written
+abbrev pub handing_by_head : (written variable : Cursor) → Option Headed → Option HandingRule
+handing_by_head w v None = None
+handing_by_head w v (Some h) =
+    if is_variable_of v (codes "item") && repeats h.behind v then Some (record { through = w; predicate = h.attribute }) else None
+
+-- the same of what stands in braces
+abbrev pub handing_by : (written : Cursor) → (variable inside : Option Cursor) → Option HandingRule
+handing_by w (Some v) (Some i) = handing_by_head w v (head_of i)
+handing_by w _ _ = None
+
+-- a rule that matches items, and hands them on to another macro: `name! { #![..] $($item)* }`
+unfoldable pub handing_rule : (matched written : Cursor) → Option HandingRule
+handing_rule m w = handing_by w (repeated m) (call_alone w)
+
+-- a rule of one kind or the other
+abbrev pub as_wrapping : Option WrappingRule → Option MacroRule
+as_wrapping None = None
+as_wrapping (Some r) = Some (Wraps r)
+
+abbrev pub as_handing : Option HandingRule → Option MacroRule
+as_handing None = None
+as_handing (Some r) = Some (Hands r)
+
+-- a rule that repeats this for each item, or hands them on
+abbrev pub rule_by : (matched written : Cursor) → (each : Option Cursor) → Option MacroRule
+rule_by m w None = as_handing (handing_rule m w)
+rule_by m w (Some each) = as_wrapping (wrapping_rule m each)
+
+unfoldable pub rule_of : (matched written : Cursor) → Option MacroRule
+rule_of m w = rule_by m w (repeated w)
 
 -- the same of what stands in these brackets
-abbrev pub rule_within : (matched written : Option Cursor) → Option WrappingRule
+abbrev pub rule_within : (matched written : Option Cursor) → Option MacroRule
 rule_within (Some m) (Some w) = rule_of m w
 rule_within _ _ = None
 
 -- the rule that is all that is left, where it is one of a wrapper
-unfoldable pub only_rule : Cursor → Option WrappingRule
+unfoldable pub only_rule : Cursor → Option MacroRule
 only_rule c =
     let d = passed (behind_group c) 2 in
-    if is_pair (behind_group c) 61 62 && ends_rule (behind_group d)
-    then rule_within (any_inside c) (repeated_within (any_inside d)) else None
+    if is_pair (behind_group c) 61 62 && ends_rule (behind_group d) then rule_within (any_inside c) (any_inside d) else None
 
 -- the same within brackets
-abbrev pub only_rule_within : Option Cursor → Option WrappingRule
+abbrev pub only_rule_within : Option Cursor → Option MacroRule
 only_rule_within None = None
 only_rule_within (Some i) = only_rule i
 
@@ -145,7 +192,7 @@ says_no_more said =
 abbrev pub wrapping_by : WrappingRule → Attributes → Cursor → Option Wrapping
 wrapping_by r said c =
     if says_no_more said && is_variable c (word_text (passed r.variable 1))
-    then Some (record { stands = said.holds; takes_predicate = r.takes_predicate }) else None
+    then Some (record { stands = said.holds; takes_predicate = r.takes_predicate; through = None }) else None
 
 -- the same of what was read; none where it can't be
 abbrev pub wrapping_read : WrappingRule → Result (Attributes × Cursor) SourceFault → Option Wrapping
@@ -157,10 +204,27 @@ abbrev pub wrapping_of : Rules → WrappingRule → Noted → Result (Option Wra
 wrapping_of rules r known =
     let read = attributes_read rules r.written known in done (wrapping_read r read.0) read.1
 
+-- how a rule hands items on: whether its predicate holds, and the macro that it names
+unfoldable pub handing_of : Rules → HandingRule → Noted → Result Wrapping SourceFault × Noted
+handing_of rules r known =
+    read_on (λ (n : (Symbol × Place) × Cursor) ns.
+    read_on (λ holds ms. done (record { stands = holds; takes_predicate = false; through = Some n.0.0 }) ms) (predicate_alone rules.target r.predicate ns))
+    (by_names known.1 (name r.through known.0))
+
+-- what was read, if it was
+abbrev pub if_read : Result Wrapping SourceFault → Option Wrapping
+if_read (Ok w) = Some w
+if_read (Err e) = None
+
+-- the same; none where it can't be read
+abbrev pub handing_tried : Rules → HandingRule → Noted → Result (Option Wrapping) SourceFault × Noted
+handing_tried rules r known = let read = handing_of rules r known in done (if_read read.0) read.1
+
 -- how a macro wraps the items of its calls, by the rule that does so; none without such a rule
-abbrev pub wrapping_in : Rules → Option WrappingRule → Noted → Result (Option Wrapping) SourceFault × Noted
+abbrev pub wrapping_in : Rules → Option MacroRule → Noted → Result (Option Wrapping) SourceFault × Noted
 wrapping_in rules None known = done None known
-wrapping_in rules (Some r) known = wrapping_of rules r known
+wrapping_in rules (Some (Wraps r)) known = wrapping_of rules r known
+wrapping_in rules (Some (Hands r)) known = handing_tried rules r known
 
 -- the definition of a macro is next
 unfoldable pub is_macro_rules : Cursor → Bool

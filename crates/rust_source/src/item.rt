@@ -194,13 +194,16 @@ pub struct Outline {
     pub at: Place,
 }
 
-/// How a macro wraps the items of its calls: it puts attributes in front of each, which say no more than `cfg`s do.
+/// How a macro wraps the items of its calls: it puts attributes in front of each, which say no more than `cfg`s do, or hands
+/// them on to another macro that does.
 #[derive(Clone, Copy, PartialEq, Eq)]
 pub struct Wrapping {
-    /// Whether the items stand, by those `cfg`s.
+    /// Whether the items stand, by those `cfg`s, or by the predicate that is handed on with them.
     pub stands: bool,
     /// Whether a call begins with `#![..]`, whose predicate is one more `cfg` of the items.
     pub takes_predicate: bool,
+    /// The macro that the items are handed on to, behind a predicate, if they are.
+    pub through: Option<Symbol>,
 }
 
 /// A macro that `macro_rules!` defines outside of bodies.

@@ -2,7 +2,7 @@
 
 ghost use Rattle.std.specs.Prelude.{◌≡◌, IfOk, None, Some, if◌then◌else◌, slice_get};
 ghost use Rattle.rust_source.specs.Items.{items_as_read};
-ghost use Rattle.rust_source.specs.MacroScope.{entry_by, entry_of, is_around, is_behind, is_in_scope, is_macro_of, is_repeated, known_in, known_macro, known_or_own, last_macro, macros_of_crate, place_or, shares_by, shares_macros, wrapping_by_name, wrapping_meant};
+ghost use Rattle.rust_source.specs.MacroScope.{entry_of, handed_on, is_around, is_behind, is_in_scope, is_macro_of, is_repeated, known_in, known_macro, last_macro, macros_of_crate, shares_macros, wrapping_by_name, wrapping_meant, wrapping_named};
 ghost use Rattle.rust_source.specs.Visibility.{root_around};
 
 use crate::item::{Items, Macro, Module, Wrapping};
@@ -105,15 +105,15 @@ fn is_behind(modules: &[Module], number: u32, call: &Cursor<'_>, at: Place) -> b
 
 /// How the macro of this name wraps the items of a call that is next in the module with this number: one that is known and
 /// meant there, or else one before it in the source. None where it isn't certain.
-#[tactic(auto, unfolding(crate::specs::MacroScope::wrapping_meant))]
-pub(crate) fn wrapping_meant(
+#[tactic(auto, unfolding(crate::specs::MacroScope::wrapping_named))]
+fn wrapping_named(
     rules: &Rules<'_>,
     items: &Items,
     number: u32,
     name: Symbol,
     call: &Cursor<'_>,
 ) -> Option<Wrapping>
-    ensures { result ≡ wrapping_meant rules.now (items_as_read items.now) number call.now (Some name) }
+    ensures { result ≡ wrapping_named rules.now (items_as_read items.now) number call.now (Some name) }
 {
     let root = root_around(&items.modules, number);
     if let Some(one) = known_in(&items.known_macros, root, name) {
@@ -126,6 +126,41 @@ pub(crate) fn wrapping_meant(
     } else {
         wrapping_by_name(items, call.start, number, name)
     }
+}
+
+/// How items are wrapped that one macro hands on to another, which has to take a predicate.
+fn handed_on(first: Wrapping, second: Wrapping) -> Option<Wrapping>
+    ensures { result ≡ handed_on first (Some second) }
+{
+    if second.takes_predicate {
+        Some(Wrapping {
+            stands: first.stands && second.stands,
+            takes_predicate: false,
+            through: None,
+        })
+    } else {
+        None
+    }
+}
+
+/// How the macro of this name wraps the items of a call that is next in the module with this number, where it hands them on,
+/// with the macro that is meant there. None where it isn't certain.
+#[tactic(auto, unfolding(crate::specs::MacroScope::wrapping_meant))]
+pub(crate) fn wrapping_meant(
+    rules: &Rules<'_>,
+    items: &Items,
+    number: u32,
+    name: Symbol,
+    call: &Cursor<'_>,
+) -> Option<Wrapping>
+    ensures { result ≡ wrapping_meant rules.now (items_as_read items.now) number call.now (Some name) }
+{
+    let first = wrapping_named(rules, items, number, name, call)?;
+    let Some(through) = first.through else {
+        return Some(first);
+    };
+    let second = wrapping_named(rules, items, number, through, call)?;
+    handed_on(first, second)
 }
 
 /// Whether another macro of the crate with this root has the name of this one, which is the first.

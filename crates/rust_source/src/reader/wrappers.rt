@@ -7,7 +7,7 @@ ghost use Rattle.rust_source.specs.Having.{with_macro};
 ghost use Rattle.rust_source.specs.Items.{items_as_read};
 ghost use Rattle.rust_source.specs.Names.{texts};
 ghost use Rattle.rust_source.specs.Reading.{Reads};
-ghost use Rattle.rust_source.specs.Wrappers.{any_inside, behind_cfg, ends_rule, has_macro_use, head_of, is_cfg_of, is_macro_rules, is_use_of_modules, is_variable, is_variable_of, item_rule, macro_of, macro_read, only_rule, only_rule_within, repeated, rule_headed, rule_of, says_no_more, standing_items, standing_of, wrapped_call, wrapped_items, wrapping_by, wrapping_in, wrapping_of};
+ghost use Rattle.rust_source.specs.Wrappers.{any_inside, behind_cfg, ends_rule, has_macro_use, head_of, is_cfg_of, is_macro_rules, is_use_of_modules, is_variable, is_variable_of, item_rule, call_alone, handing_of, handing_rule, handing_tried, macro_of, macro_read, only_rule, only_rule_within, repeated, repeats, rule_headed, rule_of, says_no_more, standing_items, standing_of, wrapped_call, wrapped_items, wrapping_by, wrapping_in, wrapping_of, wrapping_rule};
 
 use crate::fault::{SourceFault, SourceFaultKind};
 use crate::item::{Items, Macro, Wrapping};
@@ -45,6 +45,22 @@ pub(crate) struct WrappingRule<'a> {
     pub written: Cursor<'a>,
     /// Whether `#![$name:meta]` stands before the items, and `#[cfg($name)]` before those attributes.
     pub takes_predicate: bool,
+}
+
+/// A macro's rule that matches items and hands them on, behind a predicate.
+#[derive(Clone, Copy)]
+pub(crate) struct HandingRule<'a> {
+    /// What begins with the name of the macro that they are handed on to.
+    pub through: Cursor<'a>,
+    /// The predicate.
+    pub predicate: Cursor<'a>,
+}
+
+/// A macro's rule that wraps items.
+#[derive(Clone, Copy)]
+pub(crate) enum MacroRule<'a> {
+    Wrapping(WrappingRule<'a>),
+    Handing(HandingRule<'a>),
 }
 
 /// The call of a macro that wraps items.
@@ -186,7 +202,7 @@ fn item_rule<'a>(
     written: Cursor<'a>,
     takes_predicate: bool,
 ) -> Option<WrappingRule<'a>>
-    ensures { result ≡ item_rule takes_predicate (Some variable) (Some written) }
+    ensures { result ≡ item_rule takes_predicate (Some variable.entry) (Some written.entry) }
 {
     if is_variable_of(&variable, "item") {
         Some(WrappingRule {
@@ -215,9 +231,9 @@ fn rule_headed<'a>(head: &Headed<'a>, written: &Cursor<'a>) -> Option<WrappingRu
 }
 
 /// The rule that matches this, and repeats that for each item.
-#[tactic(auto, unfolding(crate::specs::Wrappers::rule_of))]
-fn rule_of<'a>(matched: &Cursor<'a>, written: &Cursor<'a>) -> Option<WrappingRule<'a>>
-    ensures { result ≡ rule_of matched.now written.now }
+#[tactic(auto, unfolding(crate::specs::Wrappers::wrapping_rule))]
+fn wrapping_rule<'a>(matched: &Cursor<'a>, written: &Cursor<'a>) -> Option<WrappingRule<'a>>
+    ensures { result ≡ wrapping_rule matched.now written.now }
 {
     match head_of(matched) {
         Some(head) => rule_headed(&head, written),
@@ -228,9 +244,72 @@ fn rule_of<'a>(matched: &Cursor<'a>, written: &Cursor<'a>) -> Option<WrappingRul
     }
 }
 
-/// The rule that is all that is left, where it matches items and repeats them behind attributes.
+/// What stands in the braces of the call of a macro that is all that is left.
+#[tactic(auto, unfolding(crate::specs::Wrappers::call_alone))]
+fn call_alone<'a>(written: &Cursor<'a>) -> Option<Cursor<'a>>
+    ensures { result ≡ call_alone written.now }
+{
+    let mut mark = *written;
+    let mut behind = *written;
+    pass(&mut mark, 1);
+    pass(&mut behind, 2);
+    if !is_next(&mark, b'!') {
+        return None;
+    }
+    let inside = take_group(&mut behind, Bracket::Curly)?;
+    if is_done(&behind) { Some(inside) } else { None }
+}
+
+/// Whether all items of this variable follow, and nothing else.
+fn repeats(rest: &Cursor<'_>, variable: &Cursor<'_>) -> bool
+    ensures { result ≡ repeats rest.now variable.now }
+{
+    let mut name = *variable;
+    pass(&mut name, 1);
+    match repeated(rest) {
+        Some(each) => is_variable(&each, word_text(&name)),
+        None => false,
+    }
+}
+
+/// The rule that matches this, and hands the items on by that.
+#[tactic(auto, unfolding(crate::specs::Wrappers::handing_rule))]
+fn handing_rule<'a>(matched: &Cursor<'a>, written: &Cursor<'a>) -> Option<HandingRule<'a>>
+    ensures { result ≡ handing_rule matched.now written.now }
+{
+    let variable = repeated(matched)?;
+    let inside = call_alone(written)?;
+    let head = head_of(&inside)?;
+    if is_variable_of(&variable, "item") && repeats(&head.behind, &variable) {
+        Some(HandingRule {
+            through: *written,
+            predicate: head.attribute,
+        })
+    } else {
+        None
+    }
+}
+
+/// The rule that matches this and writes that, where it wraps items.
+#[tactic(auto, unfolding(crate::specs::Wrappers::rule_of))]
+fn rule_of<'a>(matched: &Cursor<'a>, written: &Cursor<'a>) -> Option<MacroRule<'a>>
+    ensures { result ≡ rule_of matched.now written.now }
+{
+    match repeated(written) {
+        Some(each) => {
+            let rule = wrapping_rule(matched, &each)?;
+            Some(MacroRule::Wrapping(rule))
+        }
+        None => {
+            let rule = handing_rule(matched, written)?;
+            Some(MacroRule::Handing(rule))
+        }
+    }
+}
+
+/// The rule that is all that is left, where it wraps items.
 #[tactic(auto, unfolding(crate::specs::Wrappers::only_rule))]
-fn only_rule<'a>(rules: &Cursor<'a>) -> Option<WrappingRule<'a>>
+fn only_rule<'a>(rules: &Cursor<'a>) -> Option<MacroRule<'a>>
     ensures { result ≡ only_rule rules.now }
 {
     let mut ahead = *rules;
@@ -239,11 +318,11 @@ fn only_rule<'a>(rules: &Cursor<'a>) -> Option<WrappingRule<'a>>
         return None;
     }
     let written = take_any(&mut ahead)?;
-    if !ends_rule(&ahead) {
-        return None;
+    if ends_rule(&ahead) {
+        rule_of(&matched, &written)
+    } else {
+        None
     }
-    let each = repeated(&written)?;
-    rule_of(&matched, &each)
 }
 
 /// Whether attributes say nothing but whether a `cfg` holds.
@@ -269,6 +348,7 @@ fn wrapping_by(rule: &WrappingRule<'_>, said: &Attributes, behind: &Cursor<'_>) 
         Some(Wrapping {
             stands: said.holds,
             takes_predicate: rule.takes_predicate,
+            through: None,
         })
     } else {
         None
@@ -298,6 +378,49 @@ fn read_wrapping(
     }
 }
 
+/// How a rule hands items on.
+#[tactic(auto, unfolding(crate::specs::Wrappers::handing_of))]
+fn read_handing(
+    rules: &Rules<'_>,
+    names: &mut Names,
+    unknown: &mut Vec<Symbol>,
+    rule: &HandingRule<'_>,
+) -> Result<Wrapping, SourceFault>
+    ensures { Reads (λ found. found) (handing_of rules.now rule.now (texts names.old, unknown.old.items))
+        (texts names.new, unknown.new.items) result }
+{
+    let mut ahead = rule.through;
+    let (through, _at) = take_name(names, &mut ahead)?;
+    let stands = is_predicate_alone(names, unknown, &rules.target, &rule.predicate)?;
+    Ok(Wrapping {
+        stands,
+        takes_predicate: false,
+        through: Some(through),
+    })
+}
+
+/// The same. None where its name or its predicate can't be read.
+fn try_handing(
+    rules: &Rules<'_>,
+    names: &mut Names,
+    unknown: &mut Vec<Symbol>,
+    rule: &HandingRule<'_>,
+) -> Result<Option<Wrapping>, SourceFault>
+    ensures { Reads (λ found. found) (handing_tried rules.now rule.now (texts names.old, unknown.old.items))
+        (texts names.new, unknown.new.items) result }
+{
+    match read_handing(rules, names, unknown, rule) {
+        Ok(wrapping) => Ok(Some(wrapping)),
+        Err(fault) => {
+            if is_wanting(fault.kind) {
+                Err(fault)
+            } else {
+                Ok(None)
+            }
+        }
+    }
+}
+
 /// How a macro wraps the items of its calls, whose rules are next in brackets. None where it isn't known.
 fn read_rules(
     rules: &Rules<'_>,
@@ -314,7 +437,8 @@ fn read_rules(
         return Ok(None);
     };
     match only_rule(&inside) {
-        Some(rule) => read_wrapping(rules, names, unknown, &rule),
+        Some(MacroRule::Wrapping(rule)) => read_wrapping(rules, names, unknown, &rule),
+        Some(MacroRule::Handing(rule)) => try_handing(rules, names, unknown, &rule),
         None => Ok(None),
     }
 }
