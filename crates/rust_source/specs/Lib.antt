@@ -40,5 +40,6 @@ pub mod Functions
 pub mod Traits
 pub mod Outlines
 pub mod Unread
+pub mod MacroScope
 pub mod Modules
 pub mod Sources

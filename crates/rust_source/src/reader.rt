@@ -17,6 +17,7 @@ mod items;
 mod known_attributes;
 mod lifetimes;
 mod literals;
+pub(crate) mod macro_scope;
 mod matches;
 pub(crate) mod modules;
 mod naming;
@@ -36,6 +37,7 @@ mod wrappers;
 
 ghost use Rattle.std.specs.Prelude.{◌≡◌, [], IfOk, length};
 ghost use Rattle.rust_source.specs.Growth.{KeepsItems};
+ghost use Rattle.rust_source.specs.Having.{with_known_macros};
 ghost use Rattle.rust_source.specs.Items.{items_as_read, no_items};
 ghost use Rattle.rust_source.specs.Joining.{OneJoiningByStrength, OperatorsBindByStrength};
 ghost use Rattle.rust_source.specs.Names.{texts};
@@ -47,7 +49,7 @@ ghost use Rattle.rust_source.specs.Terms.{type_read};
 ghost use Rattle.rust_source.specs.Tokens.{Yields};
 
 use crate::fault::{SourceFault, SourceFaultKind};
-use crate::item::Items;
+use crate::item::{Items, Macro};
 use crate::names::Names;
 use crate::place::Place;
 use crate::reader::attributes::Rules;
@@ -85,6 +87,16 @@ impl Items {
         ensures uses { result.uses.items ≡ [] }
         ensures nothing { items_as_read result ≡ no_items }
     {
+        Items::with_macros(alloc, Vec::new(alloc))
+    }
+
+    /// The same where these macros of a crate are known. No memory is asked for.
+    pub fn with_macros(alloc: Global, known_macros: Vec<Macro>) -> Items
+        ensures modules { result.modules.items ≡ [] }
+        ensures items { result.items.items ≡ [] }
+        ensures uses { result.uses.items ≡ [] }
+        ensures macros { items_as_read result ≡ with_known_macros known_macros.items no_items }
+    {
         Items {
             modules: Vec::new(alloc),
             are_read: Vec::new(alloc),
@@ -93,6 +105,7 @@ impl Items {
             uses: Vec::new(alloc),
             owners: Vec::new(alloc),
             macros: Vec::new(alloc),
+            known_macros,
             passed_over: 0,
             types_passed: 0,
             unknown_cfgs: Vec::new(alloc),
@@ -139,7 +152,8 @@ fn cursor_at_start<'a>(
 /// stay in front.
 ///
 /// In place of a call of `cfg_if!`, of the crate `cfg-if`, and of a macro that puts attributes in front of the items of a call,
-/// these items stand where it is certain which macro that is; all other calls are passed over.
+/// these items stand where it is certain which macro that is: one before it in the same source, or one that is known; all
+/// other calls are passed over.
 ///
 /// An item that can't be read is passed over, up to its `;` or the end of its braces, and its fault is kept beside the items;
 /// it may have a name, which leads nowhere then. What can't be cut into tokens, or has a bracket without its partner, is the

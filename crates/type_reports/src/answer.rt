@@ -27,7 +27,7 @@ use abi_bytes::transmute;
 use abi_map::map_of;
 use abi_rust::{Fault, ReportShape, Sources, TypeReport, data_layout_of};
 use abi_tree::{Laid, TypeTree};
-use rust_source::{CfgTarget, Names, Outline};
+use rust_source::{CfgTarget, Macro, Names, Outline};
 use rustc_abi::{LayError, lay_out};
 use serde_json::{Map, Value};
 use std::alloc::{AllocError, Global};
@@ -230,6 +230,9 @@ const NO_ITEM: &str = "note: so this item is passed over\n";
 /// What comes of the last that is told of.
 const NO_ITEMS: &str =
     "note: so this item is passed over, and others behind it, of which no more is told\n";
+
+/// How many times the files of a crate are read, each time with the macros known that were found before.
+const MOST_READINGS: usize = 8;
 
 /// How many items that aren't read are told of.
 const MOST_UNREAD: usize = 1000;
@@ -559,18 +562,60 @@ impl SourceSet<'_> {
     }
 
     /// Reads the file that is named, and those of its modules where it is the root of a crate.
+    fn read_once<F: FileSource>(
+        &mut self,
+        cx: ReadContext<'_>,
+        from: &F,
+    ) -> Result<(), SourceFailure> {
+        if let Err(fault) = self.read_root(cx) {
+            return Err(self.failure(cx.alloc, &fault));
+        }
+        if self.files.is_crate() {
+            self.follow_modules(cx, from)?;
+        }
+        Ok(())
+    }
+
+    /// Forgets what was read, so that it can be read once more, with these macros of it known.
+    fn restart(&mut self, alloc: Global, known_macros: Vec<Macro>) {
+        self.sources.restart(alloc, known_macros);
+        self.files = CrateFiles::new(alloc, self.files.root);
+        self.faults = Vec::new(alloc);
+        self.searched = 0;
+    }
+
+    /// Reads what the first crate has, and once more while macros are found in its files that weren't known before. Where that
+    /// has no end, none is known from outside of its own source.
+    fn read_first<F: FileSource>(
+        &mut self,
+        cx: ReadContext<'_>,
+        from: &F,
+    ) -> Result<(), SourceFailure> {
+        let alloc = cx.alloc;
+        for _reading in 0..MOST_READINGS {
+            self.read_once(cx, from)?;
+            if self.files.count() == 1 {
+                return Ok(());
+            }
+            let found = self.sources.macros_of_crate(alloc)?;
+            if found.as_slice() == self.sources.known_macros() {
+                return Ok(());
+            }
+            self.restart(alloc, found);
+        }
+        self.restart(alloc, Vec::new(alloc));
+        self.read_once(cx, from)
+    }
+
+    /// Reads the file that is named, and where it is the root of a crate, those of its modules and the crates that it depends on.
     fn read_files<F: FileSource>(
         &mut self,
         cx: ReadContext<'_>,
         from: &F,
     ) -> Result<(), SourceFailure> {
         let alloc = cx.alloc;
-        if let Err(fault) = self.read_root(cx) {
-            return Err(self.failure(alloc, &fault));
-        }
-        let root = self.files.root;
-        if root.is_root && root.name.is_some() {
-            self.follow_modules(cx, from)?;
+        self.read_first(cx, from)?;
+        if self.files.is_crate() {
             self.read_crates(cx, from)?;
         }
         self.put_unread_items(alloc)?;
