@@ -6,7 +6,6 @@ use Rattle.rust_source.specs.declared.item.Module.{Module}
 use Rattle.rust_source.specs.declared.item.Wrapping.{Wrapping}
 use Rattle.rust_source.specs.declared.place.Place.{Place}
 use Rattle.rust_source.specs.declared.place.Symbol.{Symbol}
-use Rattle.rust_source.specs.declared.reader.attributes.Rules.{Rules}
 use Rattle.rust_source.specs.declared.reader.cursor.Cursor.{Cursor}
 use Rattle.rust_source.specs.Cursor.{place}
 use Rattle.rust_source.specs.Items.{ItemsRead}
@@ -79,10 +78,10 @@ handed_on first None = None
 handed_on first (Some second) =
     if second.takes_predicate then Some (record { stands = first.stands && second.stands; takes_predicate = false; through = None }) else None
 
-module _ (rules : Rules) (items : ItemsRead) (number : ℕ) (c : Cursor) where
+module _ (has_macro_use : Bool) (items : ItemsRead) (number : ℕ) (c : Cursor) where
   -- how a macro of this name before the call in its source wraps its items: where `macro_use` stands there it may be another module's
   abbrev pub own_wrapping : Symbol → Option Wrapping
-  own_wrapping s = if rules.has_macro_use then None else wrapping_by_name items c.start number s
+  own_wrapping s = if has_macro_use then None else wrapping_by_name items c.start number s
 
   -- how a macro wraps the items of the call that is next: a known one that is meant there, or one before it in the source
   abbrev pub known_or_own : Symbol → Option Macro → Option Wrapping
@@ -90,22 +89,26 @@ module _ (rules : Rules) (items : ItemsRead) (number : ℕ) (c : Cursor) where
   known_or_own s (Some m) = if is_behind items.modules number c m.at then m.wrapping else own_wrapping s
 
   -- the same of the macro of this name
-  unfoldable pub wrapping_named : Option Symbol → Option Wrapping
-  wrapping_named None = None
-  wrapping_named (Some s) = known_or_own s (known_in (root_around items.modules number) s items.known_macros)
+  unfoldable pub wrapping_named : Symbol → Option Wrapping
+  wrapping_named s = known_or_own s (known_in (root_around items.modules number) s items.known_macros)
 
   -- with the macro that it is handed on to, if it is
   abbrev pub through_by : (first : Wrapping) → (through : Option Symbol) → Option Wrapping
   through_by first None = Some first
-  through_by first (Some s) = handed_on first (wrapping_named (Some s))
+  through_by first (Some s) = handed_on first (wrapping_named s)
 
   abbrev pub meant_by : Option Wrapping → Option Wrapping
   meant_by None = None
   meant_by (Some w) = through_by w w.through
 
   -- how the macro of this name wraps the items of the call that is next, or the one that it hands them on to
-  unfoldable pub wrapping_meant : Option Symbol → Option Wrapping
+  unfoldable pub wrapping_meant : Symbol → Option Wrapping
   wrapping_meant s = meant_by (wrapping_named s)
+
+  -- the same where the name has a number
+  abbrev pub meant_if : Option Symbol → Option Wrapping
+  meant_if None = None
+  meant_if (Some s) = wrapping_meant s
 
 -- the macro stands elsewhere
 abbrev pub is_another : Macro → Option Macro → Bool

@@ -27,7 +27,7 @@ use Rattle.rust_source.specs.Cursor.{behind_group, inside, is_done, is_keyword_n
 use Rattle.rust_source.specs.Fields.{by_names}
 use Rattle.rust_source.specs.Having.{Having, noted, noted_within, with_macro}
 use Rattle.rust_source.specs.Items.{ItemsRead}
-use Rattle.rust_source.specs.MacroScope.{last_macro, wrapping_meant}
+use Rattle.rust_source.specs.MacroScope.{last_macro, meant_if}
 use Rattle.rust_source.specs.Names.{symbol_found}
 use Rattle.rust_source.specs.Reading.{is_named, name, read_on, word_text}
 use Rattle.rust_source.specs.Repr.{asks}
@@ -261,7 +261,7 @@ module _ (rules : Rules) (number : ℕ) (c : Cursor) (known : Having) where
   -- the same of the macro whose name is next, in the module with this number
   abbrev pub call_within : Option Cursor → Option WrappedCall
   call_within None = None
-  call_within (Some i) = call_with i (wrapping_meant rules known.1 number c (symbol_found known.0 (word_text c)))
+  call_within (Some i) = call_with i (meant_if rules.has_macro_use known.1 number c (symbol_found known.0 (word_text c)))
 
   -- the call that is next, of a macro that wraps items; none where it isn't known to be one
   unfoldable pub wrapped_call : Option WrappedCall

@@ -7,10 +7,22 @@ ghost use Rattle.rust_source.specs.Visibility.{root_around};
 
 use crate::item::{Items, Macro, Module, Wrapping};
 use crate::place::{Place, Symbol};
-use crate::reader::attributes::Rules;
 use crate::reader::cursor::{Cursor, place};
 use crate::reader::visibility::{child_towards, root_around};
 use std::alloc::{AllocError, Global};
+
+/// The call of a macro that is next.
+#[derive(Clone, Copy)]
+pub(crate) struct MacroCall<'a> {
+    /// What was read before it.
+    pub items: &'a Items,
+    /// The module that it stands in, by its number.
+    pub module: u32,
+    /// The tokens from it on.
+    pub at: Cursor<'a>,
+    /// Whether the macros of a module of its source may stand in those around it.
+    pub has_macro_use: bool,
+}
 
 /// Where the root's source names the module of another file that the module with this number is, or stands in.
 pub(crate) fn entry_of(modules: &[Module], number: u32) -> Option<Place>
@@ -103,28 +115,23 @@ fn is_behind(modules: &[Module], number: u32, call: &Cursor<'_>, at: Place) -> b
     at.0 < from.0
 }
 
-/// How the macro of this name wraps the items of a call that is next in the module with this number: one that is known and
-/// meant there, or else one before it in the source. None where it isn't certain.
+/// How the macro of this name wraps the items of a call: one that is known and meant there, or else one before it in the
+/// source. None where it isn't certain.
 #[tactic(auto, unfolding(crate::specs::MacroScope::wrapping_named))]
-fn wrapping_named(
-    rules: &Rules<'_>,
-    items: &Items,
-    number: u32,
-    name: Symbol,
-    call: &Cursor<'_>,
-) -> Option<Wrapping>
-    ensures { result ≡ wrapping_named rules.now (items_as_read items.now) number call.now (Some name) }
+fn wrapping_named(call: &MacroCall<'_>, name: Symbol) -> Option<Wrapping>
+    ensures { result ≡ wrapping_named call.now.has_macro_use (items_as_read call.now.items.now) call.now.«module» call.now.at name }
 {
-    let root = root_around(&items.modules, number);
+    let items = call.items;
+    let root = root_around(&items.modules, call.module);
     if let Some(one) = known_in(&items.known_macros, root, name) {
-        if is_behind(&items.modules, number, call, one.at) {
+        if is_behind(&items.modules, call.module, &call.at, one.at) {
             return one.wrapping;
         }
     }
-    if rules.has_macro_use {
+    if call.has_macro_use {
         None
     } else {
-        wrapping_by_name(items, call.start, number, name)
+        wrapping_by_name(items, call.at.start, call.module, name)
     }
 }
 
@@ -143,23 +150,17 @@ fn handed_on(first: Wrapping, second: Wrapping) -> Option<Wrapping>
     }
 }
 
-/// How the macro of this name wraps the items of a call that is next in the module with this number, where it hands them on,
-/// with the macro that is meant there. None where it isn't certain.
+/// How the macro of this name wraps the items of a call, where it hands them on, with the macro that is meant there. None where
+/// it isn't certain.
 #[tactic(auto, unfolding(crate::specs::MacroScope::wrapping_meant))]
-pub(crate) fn wrapping_meant(
-    rules: &Rules<'_>,
-    items: &Items,
-    number: u32,
-    name: Symbol,
-    call: &Cursor<'_>,
-) -> Option<Wrapping>
-    ensures { result ≡ wrapping_meant rules.now (items_as_read items.now) number call.now (Some name) }
+pub(crate) fn wrapping_meant(call: &MacroCall<'_>, name: Symbol) -> Option<Wrapping>
+    ensures { result ≡ wrapping_meant call.now.has_macro_use (items_as_read call.now.items.now) call.now.«module» call.now.at name }
 {
-    let first = wrapping_named(rules, items, number, name, call)?;
+    let first = wrapping_named(call, name)?;
     let Some(through) = first.through else {
         return Some(first);
     };
-    let second = wrapping_named(rules, items, number, through, call)?;
+    let second = wrapping_named(call, through)?;
     handed_on(first, second)
 }
 

@@ -19,7 +19,7 @@ use crate::reader::constants::is_wanting;
 use crate::reader::cursor::{
     Cursor, is_done, is_named_next, is_next, is_pair, is_word, pass, take, take_group, take_pair,
 };
-use crate::reader::macro_scope::{last_macro, wrapping_meant};
+use crate::reader::macro_scope::{MacroCall, last_macro, wrapping_meant};
 use crate::reader::naming::{is_named, take_name, word_text};
 use crate::reader::repr::asks;
 use crate::reader::visibility::root_around;
@@ -557,7 +557,13 @@ fn wrapped_call<'a>(
     pass(&mut braces, 2);
     let inside = take_group(&mut braces, Bracket::Curly)?;
     let name = names.find(word_text(cursor))?;
-    let wrapping = wrapping_meant(rules, items, module, name, cursor)?;
+    let call = MacroCall {
+        items,
+        module,
+        at: *cursor,
+        has_macro_use: rules.has_macro_use,
+    };
+    let wrapping = wrapping_meant(&call, name)?;
     Some(WrappedCall { inside, wrapping })
 }
 

@@ -28,3 +28,23 @@ macro_rules! cfg_not_rt {
         $( #[cfg(not(feature = "rt"))] $item )*
     }
 }
+
+macro_rules! cfg_proto {
+    ($($item:item)*) => {
+        feature! {
+            #![all(any(feature = "rt", feature = "fs"), unix)]
+            $($item)*
+        }
+    }
+}
+
+cfg_proto! {
+    macro_rules! cfg_client {
+        ($($item:item)*) => {
+            feature! {
+                #![feature = "fs"]
+                $($item)*
+            }
+        }
+    }
+}
