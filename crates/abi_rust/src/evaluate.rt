@@ -235,7 +235,7 @@ fn evaluate_bound<'a>(
     kind: Option<Kind>,
 ) -> Result<ConstValue, Stop>
     requires { AreValues cx.now (get same_key budget.old.values) }
-    ensures value { Means value_as_read (bound_value (evaluator cx.now env.entry.depth_left) (where_of env.entry) expr.now kind) result }
+    ensures value { Means value_as_read (bound_value cx.now (evaluator cx.now env.entry.depth_left) (where_of env.entry) expr.now kind) result }
     ensures kept { IfOk result (λ _. AreValues cx.now (get same_key budget.new.values)) }
 {
     if kind.is_some() || is_call(expr) {
