@@ -1,0 +1,142 @@
+-- Why cells don't hold a type: a part of it that they don't hold, and the way to it.
+use Rattle.std.specs.Prelude.{◌≡◌, ◌≢◌, ◌⊎◌, ℕ, zero, suc, ◌+◌, ◌*◌, ◌<◌, List, [], ◌∷◌, Option, None, Some, MatchOption, length, map, slice_get, ⊤}
+use Rattle.automata.specs.Cell.{Cell}
+use Rattle.abi_base.specs.declared.endian.Endian.{Endian}
+use Rattle.abi_scalar.specs.Scalar.{IsNumberOf}
+use Rattle.abi_scalar.specs.declared.scalar.Scalar.{Scalar}
+use Rattle.abi_scalar.specs.declared.variants.TagEncoding.{TagEncoding}
+use Rattle.abi_scalar.specs.declared.variants.TagEncoding.TheVariants.{Direct}
+use Rattle.abi_tree.specs.Bytes.{number_of}
+use Rattle.abi_tree.specs.Placed.{Placed, scalar, pair, never, elements, vector, fields, union, single, tagged, states, Parts, no_parts, part, TaggedVariants, nothing_tagged, tagged_variant, size_of}
+use Rattle.abi_tree.specs.Tag.{Names}
+use Rattle.abi_bytes.specs.Answers.{byte_in}
+use Rattle.abi_bytes.specs.Filling.{AreSet}
+use Rattle.abi_bytes.specs.GoesInto.{HoldStored, Stored}
+use Rattle.abi_bytes.specs.Holding.{HoldCells, HoldCellsOfVariant, HoldTag, cells_at}
+use Rattle.abi_bytes.specs.declared.not_held.NotHeld.{NotHeld}
+use Rattle.abi_bytes.specs.declared.not_held.Step.{Step}
+use Rattle.abi_bytes.specs.declared.not_held.Step.TheVariants.{Field, VariantField, Element, Lanes, Tag}
+use Rattle.abi_bytes.specs.declared.not_held.Why.{Why}
+use Rattle.abi_bytes.specs.declared.not_held.Why.TheVariants.{Unset, OutOfRange, NoVariant, NoValue, OtherSize}
+use Rattle.abi_bytes.specs.declared.not_held.WrongPart.{WrongPart}
+
+-- the part is these n cells from a place on
+abbrev pub IsPartAt : (at n : ℕ) → WrongPart → Type 0
+IsPartAt at n wrong = (wrong.start ≡ at) × (wrong.size ≡ n)
+
+-- of n cells from a place on, this one is the first that isn't set
+pub record IsFirstUnset (w : List Cell) (at n k : ℕ) : Type 0 where
+  pub below : k < n
+  pub unset : slice_get w (at + k) ≡ Some None
+  pub before : AreSet (cells_at w at k)
+
+-- a variant has this index
+abbrev pub HasVariant : TaggedVariants → (index : ℕ) → Type 0
+HasVariant nothing_tagged i = ⊥
+HasVariant (tagged_variant number layout mark parts variants) zero = ⊤
+HasVariant (tagged_variant number layout mark parts variants) (suc i) = HasVariant variants i
+
+-- the step to a field: to one of a variant, where that is given
+abbrev pub field_step : (variant : Option ℕ) → (index : ℕ) → Step
+field_step None i = Field i
+field_step (Some v) i = VariantField v i
+
+module _ (order : Endian) where
+  -- the number that cells make which are all set
+  abbrev pub number_in : List Cell → ℕ
+  number_in w = number_of order (map byte_in w)
+
+  -- the tag of n cells at the offset names a variant whose parts are held
+  abbrev pub HoldBeside : TagEncoding ℕ → TaggedVariants → (offset n : ℕ) → List Cell → Type 0
+  HoldBeside encoding variants offset n u = (i : ℕ) × HoldTag order encoding offset n variants i u × HoldCellsOfVariant order variants i u
+
+  -- no cells hold the type
+  abbrev pub HasNoCells : Placed → Type 0
+  HasNoCells placed = (u : List Cell) → HoldCells order placed u → ⊥
+
+  module _ (w : List Cell) where
+    -- the n cells from a place on are set, and make this number
+    abbrev pub MakeAt : (at n number : ℕ) → Type 0
+    MakeAt at n number = AreSet (cells_at w at n) × (number ≡ number_in (cells_at w at n))
+
+    -- one of a scalar's cells isn't set, or they make a number that isn't one of its own
+    abbrev pub IsWhyNumber : Scalar → (at n : ℕ) → Why → Type 0
+    IsWhyNumber s at n (Unset k) = IsFirstUnset w at n k
+    IsWhyNumber s at n (OutOfRange number of) = (of ≡ s) × MakeAt at n number × (IsNumberOf n s number → ⊥)
+    IsWhyNumber s at n why = ⊥
+
+    -- one of a tag's cells isn't set, or they make a number that names none of the variants
+    abbrev pub IsWhyTag : TagEncoding ℕ → TaggedVariants → (at n : ℕ) → Why → Type 0
+    IsWhyTag encoding variants at n (Unset k) = IsFirstUnset w at n k
+    IsWhyTag encoding variants at n (NoVariant number) = MakeAt at n number × ((i : ℕ) → HasVariant variants i → Names encoding n variants number i → ⊥)
+    IsWhyTag encoding variants at n why = ⊥
+
+    -- the tag of n cells from a place on names the variant
+    abbrev pub NamesAt : TagEncoding ℕ → TaggedVariants → (at n index : ℕ) → Type 0
+    NamesAt encoding variants at n i = (number : ℕ) × MakeAt at n number × Names encoding n variants number i
+
+    abbrev mutual
+      -- of the type that lies at a place, the part on this way isn't held
+      pub IsWrong : Placed → (at : ℕ) → (way : List Step) → WrongPart → Type 0
+      IsWrong (scalar layout s) at [] wrong = IsPartAt at layout.size wrong × IsWhyNumber s at layout.size wrong.why
+      IsWrong (pair layout parts) at (Field i ∷ way) wrong = IsWrongField parts at i way wrong
+      IsWrong (elements layout count element) at (Element i ∷ way) wrong = (i < count) × IsWrong element (at + i * size_of element) way wrong
+      IsWrong (vector layout lanes) at (Lanes ∷ way) wrong = IsWrong lanes at way wrong
+      IsWrong (fields layout mark parts) at (Field i ∷ way) wrong = IsWrongField parts at i way wrong
+      IsWrong (single layout mark index parts) at (VariantField v i ∷ way) wrong = (v ≡ index) × IsWrongField parts at i way wrong
+      IsWrong (tagged layout mark offset tag encoding variants) at (Tag ∷ way) wrong =
+          (way ≡ []) × IsPartAt (at + offset) (size_of tag) wrong × IsWhyTag encoding variants (at + offset) (size_of tag) wrong.why
+      IsWrong (tagged layout mark offset tag encoding variants) at (VariantField v i ∷ way) wrong =
+          NamesAt encoding variants (at + offset) (size_of tag) v × IsWrongVariantField variants at v i way wrong
+      IsWrong (states layout prefix offset tag variants) at (Field i ∷ way) wrong = IsWrongField prefix at i way wrong
+      IsWrong (states layout prefix offset tag variants) at (Tag ∷ way) wrong =
+          (way ≡ []) × IsPartAt (at + offset) (size_of tag) wrong × IsWhyTag Direct variants (at + offset) (size_of tag) wrong.why
+      IsWrong (states layout prefix offset tag variants) at (VariantField v i ∷ way) wrong =
+          NamesAt Direct variants (at + offset) (size_of tag) v × IsWrongVariantField variants at v i way wrong
+      IsWrong placed at [] wrong = IsPartAt at (size_of placed) wrong × (wrong.why ≡ NoValue) × HasNoCells placed
+      IsWrong placed at way wrong = ⊥
+
+      -- so it is by the field with this index
+      pub IsWrongField : Parts → (at index : ℕ) → (way : List Step) → WrongPart → Type 0
+      IsWrongField no_parts at i way wrong = ⊥
+      IsWrongField (part offset placed parts) at zero way wrong = IsWrong placed (at + offset) way wrong
+      IsWrongField (part offset placed parts) at (suc i) way wrong = IsWrongField parts at i way wrong
+
+      -- so it is by a field of the variant with this index
+      pub IsWrongVariantField : TaggedVariants → (at variant index : ℕ) → (way : List Step) → WrongPart → Type 0
+      IsWrongVariantField nothing_tagged at v i way wrong = ⊥
+      IsWrongVariantField (tagged_variant number layout mark parts variants) at zero i way wrong = IsWrongField parts at i way wrong
+      IsWrongVariantField (tagged_variant number layout mark parts variants) at (suc v) i way wrong = IsWrongVariantField variants at v i way wrong
+
+    -- ---- as it is found
+
+    -- the way begins with a field, by which it isn't held
+    abbrev pub IsWrongIn : (variant : Option ℕ) → Parts → (at : ℕ) → (way : List Step) → WrongPart → Type 0
+    IsWrongIn variant parts at way wrong = (i : ℕ) × (rest : List Step) × (way ≡ field_step variant i ∷ rest) × IsWrongField parts at i rest wrong
+
+    -- the way begins with an element, by which it isn't held
+    abbrev pub IsWrongElement : Placed → (at count : ℕ) → (way : List Step) → WrongPart → Type 0
+    IsWrongElement element at count way wrong = (i : ℕ) × (rest : List Step) × (way ≡ Element i ∷ rest) × (i < count) × IsWrong element (at + i * size_of element) rest wrong
+
+    -- the way ends at the tag
+    abbrev pub IsWrongTag : TagEncoding ℕ → TaggedVariants → (at n : ℕ) → (way : List Step) → WrongPart → Type 0
+    IsWrongTag encoding variants at n way wrong = (way ≡ Tag ∷ []) × IsPartAt at n wrong × IsWhyTag encoding variants at n wrong.why
+
+    -- the way begins with a field of the variant that the tag names, by which it isn't held
+    abbrev pub IsWrongNamed : TagEncoding ℕ → TaggedVariants → (at offset n : ℕ) → (way : List Step) → WrongPart → Type 0
+    IsWrongNamed encoding variants at offset n way wrong =
+        (v : ℕ) × (i : ℕ) × (rest : List Step) × (way ≡ VariantField v i ∷ rest) × NamesAt encoding variants (at + offset) n v × IsWrongVariantField variants at v i rest wrong
+
+    -- so it is by the tag, or by what it names
+    abbrev pub IsWrongBeside : TagEncoding ℕ → TaggedVariants → (at offset n : ℕ) → (way : List Step) → WrongPart → Type 0
+    IsWrongBeside encoding variants at offset n way wrong =
+        IsWrongTag encoding variants (at + offset) n way wrong ⊎ IsWrongNamed encoding variants at offset n way wrong
+
+-- where nothing is found P holds; else it doesn't, and what is found is so
+abbrev pub Judges : (P : Type 0) → (List Step → WrongPart → Type 0) → Option NotHeld → Type 0
+Judges P Q found = MatchOption found P (λ f. (P → ⊥) × Q f.way.items f.part)
+
+-- why cells don't hold a type: they are more or fewer than it is large, or a part isn't held
+abbrev pub IsWhyNotHeld : Stored → List Cell → NotHeld → Type 0
+IsWhyNotHeld a w found =
+    ((found.part.why ≡ OtherSize) × (length w ≢ size_of a.placed)) ⊎ IsWrong a.order w a.placed 0 found.way.items found.part
