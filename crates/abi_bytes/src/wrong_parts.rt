@@ -319,10 +319,18 @@ fn parts_wrong(
         (parts_at parts.entry.offsets.now (all_at walk.entry.nodes.now parts.entry.children.now))
         parts.entry.at)) }
 {
-    for i in 0..parts.offsets.len().min(parts.children.len()) {
-        let start = parts.at + parts.offsets[i].bytes() as usize;
-        if let Some(found) = node_wrong(walk, parts.children[i], start)? {
-            return Ok(Some(behind(field_step(parts.variant, i), found)?));
+    let PartsAt {
+        at,
+        size: _,
+        variant,
+        offsets,
+        children,
+    } = parts;
+    let count = offsets.len().min(children.len());
+    for i in 0..count {
+        let start = at + offsets[i].bytes() as usize;
+        if let Some(found) = node_wrong(walk, children[i], start)? {
+            return Ok(Some(behind(field_step(variant, i), found)?));
         }
     }
     Ok(None)
