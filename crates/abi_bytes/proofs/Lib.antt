@@ -12,3 +12,4 @@ pub mod TypeLemmas
 pub mod AnswerLemmas
 pub mod WrongLemmas
 pub mod WrongKindLemmas
+pub mod WrongNamedLemmas

@@ -68,6 +68,34 @@ module _ (order : Endian) (w : List Cell) (at : ℕ) where
       (subst (λ x. JudgesBeside encoding (tagged_variants_in done vs) o x z found) e4
       (subst (λ x. JudgesBeside encoding (tagged_variants_in done vs) o n x found) e5 h))))
 
+  module _ (ns : List Node) where
+    -- what fields are judged by
+    abbrev pub JudgesParts : (variant : Option ℕ) → (os cs : List ℕ) → (size : ℕ) → Option NotHeld → Type 0
+    JudgesParts variant os cs size found =
+        Judges (HoldCellsOfParts order (parts_at os (all_at ns cs)) (cells_at w at size)) (IsWrongIn order w variant (parts_at os (all_at ns cs)) at) found
+
+    pub parts_like : (variant : Option ℕ) (os us cs ds : List ℕ) (s z : ℕ) (found : Option NotHeld) → os ≡ us → cs ≡ ds → s ≡ z → JudgesParts variant os cs s found → JudgesParts variant us ds z found
+    parts_like variant os us cs ds s z found e1 e2 e3 h =
+        subst (λ x. JudgesParts variant x ds z found) e1 (subst (λ x. JudgesParts variant os x z found) e2 (subst (λ x. JudgesParts variant os cs x found) e3 h))
+
+    -- what a coroutine is
+    abbrev pub JudgesStates : (os cs : List ℕ) (vs : List (ℕ × ℕ)) (offset n size : ℕ) → Option NotHeld → Type 0
+    JudgesStates os cs vs offset n size found =
+        Judges
+        (HoldCellsOfParts order (parts_at os (all_at ns cs)) (cells_at w at size) × HoldBeside order Direct (tagged_variants_in (types_in ns) vs) offset n (cells_at w at size))
+        (λ way wrong. IsWrongIn order w None (parts_at os (all_at ns cs)) at way wrong ⊎ IsWrongBeside order w Direct (tagged_variants_in (types_in ns) vs) at offset n way wrong)
+        found
+
+    pub states_like : (os us cs ds : List ℕ) (vs xs : List (ℕ × ℕ)) (o p n m s z : ℕ) (found : Option NotHeld) → os ≡ us → cs ≡ ds → vs ≡ xs → o ≡ p → n ≡ m → s ≡ z →
+        JudgesStates os cs vs o n s found → JudgesStates us ds xs p m z found
+    states_like os us cs ds vs xs o p n m s z found e1 e2 e3 e4 e5 e6 h =
+        subst (λ x. JudgesStates x ds xs p m z found) e1
+        (subst (λ x. JudgesStates os x xs p m z found) e2
+        (subst (λ x. JudgesStates os cs x p m z found) e3
+        (subst (λ x. JudgesStates os cs vs x m z found) e4
+        (subst (λ x. JudgesStates os cs vs o x z found) e5
+        (subst (λ x. JudgesStates os cs vs o n x found) e6 h)))))
+
   module _ (ns : List Node) (well : are_nodes 0 ns ≡ true) (i : ℕ) (n : Node) (lt : i < length ns) (is : n ≡ get_or ns i n) (room : has_room (placed_at ns i) ≡ true) (fits : at + size_of (placed_at ns i) ≤ length w) where
     abbrev JudgesType : Placed → Option NotHeld → Type 0
     JudgesType p found = Judges (HoldCells order p (cells_at w at (size_of p))) (IsWrong order w p at) found

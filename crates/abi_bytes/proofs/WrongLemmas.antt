@@ -1,6 +1,6 @@
 -- Why cells don't hold a type: parts at their places among the cells of the whole.
 use Rattle.std.proofs.Common.{Some, None, ◌≡◌, ◌⊎◌, ℕ, zero, suc, ◌+◌, ◌-◌, ◌*◌, ◌<◌, ◌≤◌, List, [], ◌∷◌, length, map, take, drop, get_or, arith, refl, sym, ap, ◌∙◌, subst, inl, inr, ⊎_elim, length-take, length-drop}
-use Rattle.std.specs.Prelude.{Option, is_some, true}
+use Rattle.std.specs.Prelude.{IfSome, Option, is_some, true}
 use Rattle.std.proofs.lemmas.Bool.{false≢true}
 use Rattle.std.proofs.Math.Nat.{mul-le-mul_left, suc-mul}
 use Rattle.std.proofs.lemmas.List.{drop-drop, drop-take, get_or-drop, get_or-take, take-take}
@@ -15,14 +15,15 @@ use Rattle.abi_scalar.specs.declared.wrapping_range.WrappingRange.{WrappingRange
 use Rattle.abi_scalar.specs.declared.variants.TagEncoding.{TagEncoding}
 use Rattle.abi_tree.specs.Bytes.{number_of}
 use Rattle.abi_tree.specs.Nodes.{parts_at, placed_at}
-use Rattle.abi_tree.specs.Placed.{TaggedVariants, size_of}
+use Rattle.abi_tree.specs.Placed.{Placed, TaggedVariants, size_of}
 use Rattle.abi_tree.specs.Tag.{Names}
 use Rattle.abi_tree.specs.Well.{all_at}
 use Rattle.abi_tree.specs.declared.node.Node.{Node}
 use Rattle.abi_bytes.specs.Answers.{byte_in}
 use Rattle.abi_bytes.specs.Filling.{AreSet}
+use Rattle.abi_bytes.specs.GoesInto.{Stored}
 use Rattle.abi_bytes.specs.Holding.{AreAt, AreEach, HoldCells, HoldCellsOfParts, HoldScalar, HoldTag, MakeNumber, cells_at}
-use Rattle.abi_bytes.specs.NotHeld.{IsFirstUnset, IsWrong, IsWrongField, Judges, MakeAt, number_in}
+use Rattle.abi_bytes.specs.NotHeld.{IsFirstUnset, IsWhyNotHeld, IsWrong, IsWrongField, Judges, MakeAt, number_in}
 use Rattle.abi_bytes.specs.declared.not_held.NotHeld.{NotHeld}
 use Rattle.abi_bytes.specs.declared.not_held.Step.{Step}
 use Rattle.abi_bytes.specs.declared.not_held.WrongPart.{WrongPart}
@@ -174,6 +175,16 @@ pub judged_like : (P R : Type 0) (Q S : List Step → WrongPart → Type 0) (fou
     ((way : List Step) (wrong : WrongPart) → Q way wrong → S way wrong) → Judges P Q found → Judges R S found
 judged_like P R Q S None to from say h = to h
 judged_like P R Q S (Some f) to from say h = (λ r. h.0 (from r), say f.way.items f.part h.1)
+
+pub judged_none : (P : Type 0) (Q : List Step → WrongPart → Type 0) (found : Option NotHeld) → ((f : NotHeld) → found ≡ Some f → ⊥) → Judges P Q found → P
+judged_none P Q None other h = h
+judged_none P Q (Some f) other h = absurd (other f refl)
+
+-- what is judged of the whole
+pub why_found : (a : Stored) (w : List Cell) (order : Endian) (p : Placed) (P : Type 0) (found : Option NotHeld) → order ≡ a.order → p ≡ a.placed → Judges P (IsWrong order w p 0) found → IfSome found (IsWhyNotHeld a w)
+why_found a w order p P None e is h = tt
+why_found a w order p P (Some f) e is h =
+    inr (subst (λ o. IsWrong o w a.placed 0 f.way.items f.part) e (subst (λ x. IsWrong order w x 0 f.way.items f.part) is h.1))
 
 -- ---- a field, by its index
 

@@ -19,7 +19,7 @@ use crate::package_crates::{PackageCrate, PackageSet, crates_under};
 use crate::parts::parts_value;
 use crate::place::{Spot, write_fault};
 use crate::pretty::{DeclaredType, write_pretty};
-use crate::reasons::{NamedType, write_reasons};
+use crate::reasons::{ShownType, write_reasons};
 use crate::savings::{LargestVariant, LayContext, largest_variant, savings_of};
 use crate::savings_text::{PartNames, put_savings, write_savings};
 use crate::waste::waste_of;
@@ -1070,12 +1070,12 @@ impl FileReport {
         let (first, second) = types;
         let of_first = sources.parts_written(self.alloc, cx.dl, asked_type(cx.options, 0))?;
         let of_second = sources.parts_written(self.alloc, cx.dl, asked_type(cx.options, 1))?;
-        let first = NamedType {
+        let first = ShownType {
             names: sources.names(),
             laid: first,
             parts: &of_first,
         };
-        let second = NamedType {
+        let second = ShownType {
             names: sources.names(),
             laid: second,
             parts: &of_second,

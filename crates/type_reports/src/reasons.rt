@@ -12,13 +12,13 @@ use std::alloc::{AllocError, Global};
 
 /// A type, laid out, and the names of its parts.
 #[derive(Clone, Copy)]
-pub(crate) struct NamedType<'a> {
+pub(crate) struct ShownType<'a> {
     pub(crate) names: &'a Names,
     pub(crate) laid: &'a Laid,
     pub(crate) parts: &'a [NamedPart],
 }
 
-impl<'a> NamedType<'a> {
+impl<'a> ShownType<'a> {
     /// The fields of a part, or those of a variant of it; None where they aren't known.
     fn fields(self, part: Option<usize>, variant: usize) -> Option<&'a PartFields> {
         self.parts.get(part?)?.lists.get(variant)
@@ -66,7 +66,7 @@ fn write_field(
 /// Writes a step from a part behind the way to it, and answers the part behind it.
 fn write_step(
     path: &mut String,
-    ty: NamedType<'_>,
+    ty: ShownType<'_>,
     part: Option<usize>,
     step: Step,
 ) -> Result<Option<usize>, AllocError> {
@@ -112,7 +112,7 @@ fn is_tag(step: Option<&Step>) -> bool {
 fn write_part(
     alloc: Global,
     out: &mut String,
-    ty: NamedType<'_>,
+    ty: ShownType<'_>,
     way: &[Step],
 ) -> Result<(), AllocError> {
     let mut path = String::new(alloc);
@@ -255,7 +255,7 @@ fn variant_in(
 fn write_unused(
     alloc: Global,
     out: &mut String,
-    ty: NamedType<'_>,
+    ty: ShownType<'_>,
     cells: &[Option<u8>],
     place: u64,
 ) -> Result<(), AllocError> {
@@ -281,7 +281,7 @@ fn write_unused(
 fn write_unwritten(
     alloc: Global,
     out: &mut String,
-    ty: NamedType<'_>,
+    ty: ShownType<'_>,
     cells: &[Option<u8>],
     place: u64,
 ) -> Result<(), AllocError> {
@@ -299,8 +299,8 @@ fn write_unwritten(
 pub(crate) fn write_reasons(
     alloc: Global,
     out: &mut String,
-    first: NamedType<'_>,
-    second: NamedType<'_>,
+    first: ShownType<'_>,
+    second: ShownType<'_>,
     cells: &[Option<u8>],
 ) -> Result<(), AllocError> {
     let Some(found) = why_not_held(alloc, second.laid, cells)? else {

@@ -1,4 +1,4 @@
-use Rattle.std.proofs.Common.{None, Some, ◌≡◌, ◌⊎◌, ℕ, ◌+◌, ◌*◌, ◌<◌, ◌≤◌, List, [], ◌∷◌, length, get_or, true, arith, sym, ap, ◌∙◌, subst, inl, inr, ⊎_elim}
+use Rattle.std.proofs.Common.{None, Some, ◌≡◌, ◌⊎◌, ℕ, ◌+◌, ◌*◌, ◌<◌, ◌≤◌, List, [], ◌∷◌, length, get_or, true, All, arith, refl, sym, ap, ◌∙◌, subst, inl, inr, ⊎_elim}
 use Rattle.std.specs.Prelude.{Option}
 use Rattle.std.proofs.lemmas.Bool.{cases_lt}
 use Rattle.std.proofs.lemmas.List.{get_or_default}
@@ -13,25 +13,29 @@ use Rattle.abi_tree.specs.Placed.{Placed, Parts, TaggedVariants, size_of}
 use Rattle.abi_tree.specs.Room.{has_room, have_room, tagged_variants_have_room}
 use Rattle.abi_tree.specs.Tag.{Names}
 use Rattle.abi_tree.specs.Well.{all_at}
+use Rattle.abi_tree.specs.Widths.{is_narrow}
 use Rattle.abi_tree.proofs.Meaning.WidthLemmas.{narrow_at, state_tag_width_at, tag_width_at}
 use Rattle.abi_tree.proofs.Places.DataPlacesLemmas.{elements_node, field_at, fields_node, pair_node, single_node, states_node, tagged_node, tagged_variant_room, vector_node}
 use Rattle.abi_bytes.specs.Formulas.{HoldAt, HoldBetween}
 use Rattle.abi_bytes.specs.Holding.{HoldCells, HoldCellsOfParts, HoldCellsOfVariant, cells_at}
-use Rattle.abi_bytes.specs.NotHeld.{HasVariant, IsWhyTag, IsWrong, IsWrongIn, IsWrongNamed, Judges}
+use Rattle.abi_bytes.specs.NotHeld.{HasVariant, IsWhyTag, IsWrong, IsWrongField, IsWrongIn, Judges}
 use Rattle.abi_bytes.specs.declared.not_held.NotHeld.{NotHeld}
 use Rattle.abi_bytes.specs.declared.not_held.Step.{Step}
+use Rattle.abi_bytes.specs.declared.not_held.Why.TheVariants.{NoVariant, Unset}
 use Rattle.abi_bytes.specs.declared.not_held.WrongPart.{WrongPart}
 use Rattle.abi_bytes.proofs.PartLemmas.{parts_by_index}
 use Rattle.abi_bytes.proofs.VariantLemmas.{variant_at, variant_there}
-use Rattle.abi_bytes.proofs.WrongKindLemmas.{beside_like, elements_judged, fields_judged, lanes-inside, never_judged, node_judged, scalar_judged, scalar_wrong, single_judged, size-fits, size-node, states-inside, states_judged, tagged_judged, union_judged, vector_judged}
-use Rattle.abi_bytes.proofs.WrongLemmas.{element_wrong, elements_held, field_unheld, into_part, length-at, tag_held, tag_named, tag_unset, wrong_field}
-use Rattle.abi_bytes.proofs.wrong_parts.+wrong.Goals.{elements_wrong-then-size-eq0, elements_wrong-else-size-eq0}
+use Rattle.abi_bytes.proofs.WrongKindLemmas.{beside_like, elements_judged, fields_judged, lanes-inside, never_judged, node_judged, parts_like, scalar_judged, scalar_wrong, single_judged, size-fits, size-node, states-inside, states_judged, states_like, tagged_judged, union_judged, vector_judged}
+use Rattle.abi_bytes.proofs.WrongLemmas.{element_wrong, elements_held, field_unheld, into_part, judged_none, tag_unset, wrong_field}
+use Rattle.abi_bytes.proofs.WrongNamedLemmas.{AreJudged, beside_held, beside_unheld, judged_more, judged_wrong, none_named, tag_found}
+use Rattle.abi_bytes.proofs.wrong_parts.+wrong.Goals.{elements_wrong-then-size-eq0, elements_wrong-else-size-eq0, named_wrong-then-is_named+in_ok-wrong+in-Some, named_wrong-else-is_named}
 use Rattle.abi_bytes.proofs.wrong_parts.+wrong.Goals as goal
 
 -- ---- the node itself
 
 pub node_wrong-why_no_number-requires-clause-narrow : goal.node_wrong-why_no_number-requires-clause-narrow
-node_wrong-why_no_number-requires-clause-narrow t c = ?
+node_wrong-why_no_number-requires-clause-narrow t c =
+    subst (λ z. is_narrow z c.in-Scalar.scalar ≡ true) (sym c.bytes-size.ensures) (narrow_at c.args.walk.nodes.now c.args.walk.well c.args.walk.widths c.args.node _ c.requires.there c.node-here.ensures c.in-Scalar.scalar c.in-Scalar.is)
 
 pub node_wrong-why_no_number-requires-clause-fits : goal.node_wrong-why_no_number-requires-clause-fits
 node_wrong-why_no_number-requires-clause-fits t c =
@@ -51,7 +55,12 @@ node_wrong-elements_wrong-requires t c =
     (omega (arith, facts.0, c.decreases), (omega (arith, facts.0, c.requires.there), (facts.3, omega (arith, size, facts.2, c.requires.fits))))
 
 pub node_wrong-parts_wrong-requires : goal.node_wrong-parts_wrong-requires
-node_wrong-parts_wrong-requires t c = ?
+node_wrong-parts_wrong-requires t c =
+    let facts = fields_node c.args.walk.nodes.now c.args.walk.well c.args.node _ c.requires.there c.node-here.ensures c.requires.room c.in-Fields.field-0 c.in-Fields.children c.in-Fields.is in
+    let size = size-node c.args.walk.nodes.now c.args.node _ c.requires.there c.node-here.ensures in
+    let room : have_room c.bytes-size.result (parts_at c.offsets.result.now (all_at c.args.walk.nodes.now c.deref.result.now)) ≡ true =
+    rw (c.bytes-size.ensures, c.offsets.ensures, c.deref.ensures.value) facts.2 in
+    (omega (arith, c.decreases), (c.requires.there, (rw c.deref.ensures.value facts.0, (room, omega (arith, size, c.bytes-size.ensures, c.requires.fits)))))
 
 pub node_wrong-vector_wrong-requires : goal.node_wrong-vector_wrong-requires
 node_wrong-vector_wrong-requires t c =
@@ -61,7 +70,12 @@ node_wrong-vector_wrong-requires t c =
     (omega (arith, facts.0, c.decreases), (omega (arith, facts.0, c.requires.there), (facts.2, (omega (arith, inside, c.bytes-size.ensures), omega (arith, size, c.bytes-size.ensures, c.requires.fits)))))
 
 pub node_wrong-parts_wrong-requires-in-Single : goal.node_wrong-parts_wrong-requires-in-Single
-node_wrong-parts_wrong-requires-in-Single t c = ?
+node_wrong-parts_wrong-requires-in-Single t c =
+    let facts = single_node c.args.walk.nodes.now c.args.walk.well c.args.node _ c.requires.there c.node-here.ensures c.requires.room c.in-Single.field-0 c.in-Single.children c.in-Single.is in
+    let size = size-node c.args.walk.nodes.now c.args.node _ c.requires.there c.node-here.ensures in
+    let room : have_room c.bytes-size.result (parts_at c.offsets-in-Single.result.now (all_at c.args.walk.nodes.now c.deref-in-Single.result.now)) ≡ true =
+    rw (c.bytes-size.ensures, c.offsets-in-Single.ensures, c.deref-in-Single.ensures.value) facts.2 in
+    (omega (arith, c.decreases), (c.requires.there, (rw c.deref-in-Single.ensures.value facts.0, (room, omega (arith, size, c.bytes-size.ensures, c.requires.fits)))))
 
 pub node_wrong-layout-requires : goal.node_wrong-layout-requires
 node_wrong-layout-requires t c =
@@ -69,7 +83,22 @@ node_wrong-layout-requires t c =
     omega (arith, facts.0, c.requires.there)
 
 pub node_wrong-variants_wrong-requires : goal.node_wrong-variants_wrong-requires
-node_wrong-variants_wrong-requires t c = ?
+node_wrong-variants_wrong-requires t c =
+    let facts = tagged_node c.args.walk.nodes.now c.args.walk.well c.args.node _ c.requires.there c.node-here.ensures c.requires.room c.in-Tagged.mark c.in-Tagged.tag c.in-Tagged.variants c.in-Tagged.is in
+    let width = tag_width_at c.args.walk.nodes.now c.args.walk.well c.args.walk.widths c.args.node _ c.requires.there c.node-here.ensures c.in-Tagged.mark c.in-Tagged.tag c.in-Tagged.variants c.in-Tagged.is in
+    let wide : c.bytes.result ≡ size_of (placed_at c.args.walk.nodes.now c.in-Tagged.tag) = c.bytes.ensures ∙ ap (λ (l : Layout). l.size) c.layout.ensures in
+    let size = size-node c.args.walk.nodes.now c.args.node _ c.requires.there c.node-here.ensures in
+    let room : tagged_variants_have_room c.bytes-size.result (tagged_variants_in (types_in c.args.walk.nodes.now) c.deref-in-Tagged.result.now) ≡ true =
+    rw (c.bytes-size.ensures, c.deref-in-Tagged.ensures.value) facts.5 in (
+      omega (arith, c.decreases),
+      (
+        c.requires.there,
+        (
+          rw c.deref-in-Tagged.ensures.value facts.1,
+          (omega (arith, wide, width), (omega (arith, wide, c.tag_offset.ensures, c.bytes-size.ensures, facts.3), (room, omega (arith, size, c.bytes-size.ensures, c.requires.fits)))),
+        ),
+      ),
+    )
 
 pub node_wrong-layout-requires-in-States : goal.node_wrong-layout-requires-in-States
 node_wrong-layout-requires-in-States t c =
@@ -77,7 +106,40 @@ node_wrong-layout-requires-in-States t c =
     omega (arith, facts.1, c.requires.there)
 
 pub node_wrong-states_wrong-requires : goal.node_wrong-states_wrong-requires
-node_wrong-states_wrong-requires t c = ?
+node_wrong-states_wrong-requires t c =
+    let ns = c.args.walk.nodes.now in
+    let layout : Layout = c.node-here.result.layout.now in
+    let facts = states_node c.args.walk.nodes.now c.args.walk.well c.args.node _ c.requires.there c.node-here.ensures c.requires.room c.in-States.prefix c.in-States.tag c.in-States.states c.in-States.is in
+    let inside = states-inside ns layout c.in-States.prefix.items c.in-States.tag c.in-States.states.items facts.4 in
+    let width = state_tag_width_at c.args.walk.nodes.now c.args.walk.well c.args.walk.widths c.args.node _ c.requires.there c.node-here.ensures c.in-States.prefix c.in-States.tag c.in-States.states c.in-States.is in
+    let wide : c.bytes-in-States.result ≡ size_of (placed_at ns c.in-States.tag) = c.bytes-in-States.ensures ∙ ap (λ (l : Layout). l.size) c.layout-in-States.ensures in
+    let count : c.len.result ≡ length c.in-States.prefix.items = c.len.ensures ∙ sym c.deref-in-States.ensures.len ∙ ap (λ (xs : List ℕ). length xs) c.deref-in-States.ensures.value in
+    let offset : c.state_tag_offset.result ≡ state_tag_offset layout (length c.in-States.prefix.items) = c.state_tag_offset.ensures ∙ ap (λ k. state_tag_offset layout k) count in
+    let size = size-node c.args.walk.nodes.now c.args.node _ c.requires.there c.node-here.ensures in
+    let fields_room : have_room c.bytes-size.result (parts_at c.offsets-in-States.result.now (all_at ns c.deref-in-States.result.now)) ≡ true =
+    rw (c.bytes-size.ensures, c.offsets-in-States.ensures, c.deref-in-States.ensures.value) inside.0 in
+    let room : tagged_variants_have_room c.bytes-size.result (tagged_variants_in (types_in ns) c.deref-in-States-2.result.now) ≡ true =
+    rw (c.bytes-size.ensures, c.deref-in-States-2.ensures.value) inside.1 in
+    let before : All (λ child. child < c.args.node) c.deref-in-States.result.now = rw c.deref-in-States.ensures.value facts.0 in
+    let all_before : All (λ (v : ℕ × ℕ). v.1 < c.args.node) c.deref-in-States-2.result.now = rw c.deref-in-States-2.ensures.value facts.2 in (
+      omega (arith, c.decreases),
+      (
+        c.requires.there,
+        (
+          before,
+          (
+            fields_room,
+            (
+              all_before,
+              (
+                omega (arith, wide, width),
+                (omega (arith, wide, offset, c.bytes-size.ensures, inside.2), (room, (omega (arith, size, c.bytes-size.ensures, c.requires.fits), (refl, refl, refl)))),
+              ),
+            ),
+          ),
+        ),
+      ),
+    )
 
 pub node_wrong-returns-in-Some : goal.node_wrong-returns-in-Some
 node_wrong-returns-in-Some t c =
@@ -109,7 +171,14 @@ node_wrong-returns-in-Elements t c =
     c.elements_wrong.ensures
 
 pub node_wrong-returns-in-Fields : goal.node_wrong-returns-in-Fields
-node_wrong-returns-in-Fields t c = ?
+node_wrong-returns-in-Fields t c =
+    let layout : Layout = c.node-here.result.layout.now in
+    IfOk-weaker c.parts_wrong.result _ _
+    (λ found h.
+    fields_judged c.args.walk.order c.args.walk.cells.now c.args.at c.args.walk.nodes.now c.args.walk.well c.args.node _ c.requires.there c.node-here.ensures c.requires.room c.requires.fits c.in-Fields.field-0 c.in-Fields.children c.in-Fields.is found
+    (parts_like c.args.walk.order c.args.walk.cells.now c.args.at c.args.walk.nodes.now None c.offsets.result.now (listed_offsets layout.fields) c.deref.result.now c.in-Fields.children.items c.bytes-size.result layout.size found
+    c.offsets.ensures c.deref.ensures.value c.bytes-size.ensures h))
+    c.parts_wrong.ensures
 
 pub node_wrong-returns-in-Union : goal.node_wrong-returns-in-Union
 node_wrong-returns-in-Union t c =
@@ -124,13 +193,41 @@ node_wrong-returns-in-Vector t c =
     c.vector_wrong.ensures
 
 pub node_wrong-returns-in-Single : goal.node_wrong-returns-in-Single
-node_wrong-returns-in-Single t c = ?
+node_wrong-returns-in-Single t c =
+    let layout : Layout = c.node-here.result.layout.now in
+    IfOk-weaker c.parts_wrong-in-Single.result _ _
+    (λ found h.
+    single_judged c.args.walk.order c.args.walk.cells.now c.args.at c.args.walk.nodes.now c.args.walk.well c.args.node _ c.requires.there c.node-here.ensures c.requires.room c.requires.fits c.in-Single.field-0 c.in-Single.children c.in-Single.is c.index_left.result c.index_left.ensures found
+    (parts_like c.args.walk.order c.args.walk.cells.now c.args.at c.args.walk.nodes.now (Some c.index_left.result) c.offsets-in-Single.result.now (listed_offsets layout.fields) c.deref-in-Single.result.now c.in-Single.children.items c.bytes-size.result layout.size found
+    c.offsets-in-Single.ensures c.deref-in-Single.ensures.value c.bytes-size.ensures h))
+    c.parts_wrong-in-Single.ensures
 
 pub node_wrong-returns-in-Tagged : goal.node_wrong-returns-in-Tagged
-node_wrong-returns-in-Tagged t c = ?
+node_wrong-returns-in-Tagged t c =
+    let ns = c.args.walk.nodes.now in
+    let layout : Layout = c.node-here.result.layout.now in
+    let wide : c.bytes.result ≡ size_of (placed_at ns c.in-Tagged.tag) = c.bytes.ensures ∙ ap (λ (l : Layout). l.size) c.layout.ensures in
+    IfOk-weaker c.variants_wrong.result _ _
+    (λ found h.
+    tagged_judged c.args.walk.order c.args.walk.cells.now c.args.at c.args.walk.nodes.now c.args.walk.well c.args.node _ c.requires.there c.node-here.ensures c.requires.room c.requires.fits c.in-Tagged.mark c.in-Tagged.tag c.in-Tagged.variants c.in-Tagged.is found
+    (beside_like c.args.walk.order c.args.walk.cells.now c.args.at c.encoding_of.result (encoding_of layout.variants) (types_in ns) c.deref-in-Tagged.result.now c.in-Tagged.variants.items c.tag_offset.result (tag_offset layout)
+    c.bytes.result (size_of (placed_at ns c.in-Tagged.tag)) c.bytes-size.result layout.size found c.encoding_of.ensures c.deref-in-Tagged.ensures.value c.tag_offset.ensures wide c.bytes-size.ensures h))
+    c.variants_wrong.ensures
 
 pub node_wrong-returns-in-States : goal.node_wrong-returns-in-States
-node_wrong-returns-in-States t c = ?
+node_wrong-returns-in-States t c =
+    let ns = c.args.walk.nodes.now in
+    let layout : Layout = c.node-here.result.layout.now in
+    let wide : c.bytes-in-States.result ≡ size_of (placed_at ns c.in-States.tag) = c.bytes-in-States.ensures ∙ ap (λ (l : Layout). l.size) c.layout-in-States.ensures in
+    let count : c.len.result ≡ length c.in-States.prefix.items = c.len.ensures ∙ sym c.deref-in-States.ensures.len ∙ ap (λ (xs : List ℕ). length xs) c.deref-in-States.ensures.value in
+    let offset : c.state_tag_offset.result ≡ state_tag_offset layout (length c.in-States.prefix.items) = c.state_tag_offset.ensures ∙ ap (λ k. state_tag_offset layout k) count in
+    IfOk-weaker c.states_wrong.result _ _
+    (λ found h.
+    states_judged c.args.walk.order c.args.walk.cells.now c.args.at c.args.walk.nodes.now c.args.walk.well c.args.node _ c.requires.there c.node-here.ensures c.requires.room c.requires.fits c.in-States.prefix c.in-States.tag c.in-States.states c.in-States.is found
+    (states_like c.args.walk.order c.args.walk.cells.now c.args.at ns c.offsets-in-States.result.now (listed_offsets layout.fields) c.deref-in-States.result.now c.in-States.prefix.items c.deref-in-States-2.result.now c.in-States.states.items
+    c.state_tag_offset.result (state_tag_offset layout (length c.in-States.prefix.items)) c.bytes-in-States.result (size_of (placed_at ns c.in-States.tag)) c.bytes-size.result layout.size found
+    c.offsets-in-States.ensures c.deref-in-States.ensures.value c.deref-in-States-2.ensures.value offset wide c.bytes-size.ensures h))
+    c.states_wrong.ensures
 
 -- ---- elements
 
@@ -166,19 +263,90 @@ elements_wrong-returns t c =
 -- ---- fields
 
 pub parts_wrong-overflow_add-start : goal.parts_wrong-overflow_add-start
-parts_wrong-overflow_add-start t c = ?
+parts_wrong-overflow_add-start t c =
+    let ns = c.args.walk.nodes.now in
+    let i : ℕ = c.loop-i.i in
+    let os : List ℕ = c.args.parts.offsets.now in
+    let cs : List ℕ = c.args.parts.children.now in
+    let lt : i < length os = omega (arith, c.loop-i-test.true, c.min-count.ensures) in
+    let below : i < length cs = omega (arith, c.loop-i-test.true, c.min-count.ensures) in
+    let at = field_at ns os cs i lt below c.args.parts.size c.args.node c.requires.before c.requires.room in
+    let offset : c.bytes.result ≡ get_or os i 0 = c.bytes.ensures ∙ c.index-offsets-i.is ∙ get_or_default os i c.index-offsets-i.result 0 lt in
+    omega (arith, offset, at.1, c.requires.fits)
 
 pub parts_wrong-node_wrong-requires : goal.parts_wrong-node_wrong-requires
-parts_wrong-node_wrong-requires t c = ?
+parts_wrong-node_wrong-requires t c =
+    let ns = c.args.walk.nodes.now in
+    let i : ℕ = c.loop-i.i in
+    let os : List ℕ = c.args.parts.offsets.now in
+    let cs : List ℕ = c.args.parts.children.now in
+    let lt : i < length os = omega (arith, c.loop-i-test.true, c.min-count.ensures) in
+    let below : i < length cs = omega (arith, c.loop-i-test.true, c.min-count.ensures) in
+    let at = field_at ns os cs i lt below c.args.parts.size c.args.node c.requires.before c.requires.room in
+    let offset : c.bytes.result ≡ get_or os i 0 = c.bytes.ensures ∙ c.index-offsets-i.is ∙ get_or_default os i c.index-offsets-i.result 0 lt in
+    (omega (arith, at.0, c.decreases), (omega (arith, at.0, c.requires.there), (at.2, omega (arith, offset, at.1, c.requires.fits))))
 
 pub parts_wrong-returns-in-Some : goal.parts_wrong-returns-in-Some
-parts_wrong-returns-in-Some t c = ?
+parts_wrong-returns-in-Some t c =
+    let ns = c.args.walk.nodes.now in
+    let i : ℕ = c.loop-i.i in
+    let os : List ℕ = c.args.parts.offsets.now in
+    let cs : List ℕ = c.args.parts.children.now in
+    let lt : i < length os = omega (arith, c.loop-i-test.true, c.min-count.ensures) in
+    let below : i < length cs = omega (arith, c.loop-i-test.true, c.min-count.ensures) in
+    let at = field_at ns os cs i lt below c.args.parts.size c.args.node c.requires.before c.requires.room in
+    let offset : c.bytes.result ≡ get_or os i 0 = c.bytes.ensures ∙ c.index-offsets-i.is ∙ get_or_default os i c.index-offsets-i.result 0 lt in
+    let order = c.args.walk.order in
+    let w : List Cell = c.args.walk.cells.now in
+    let start : ℕ → ℕ = λ o. c.args.parts.at + o in
+    let p : Placed = placed_at ns (get_or cs i 0) in
+    let holds : Type 0 = HoldCells order p (cells_at w (start (get_or os i 0)) (size_of p)) in
+    let found : Judges holds (IsWrong order w p (start (get_or os i 0))) c.in_ok-found.field-0 =
+    subst (λ o. Judges (HoldCells order p (cells_at w (start o) (size_of p))) (IsWrong order w p (start o)) c.in_ok-found.field-0) offset c.in_ok-found.ensures in
+    let items : List Step = c.in-Some.found.way.items in
+    let wrong : Judges holds (IsWrong order w p (start (get_or os i 0))) (Some c.in-Some.found) = subst (Judges holds (IsWrong order w p (start (get_or os i 0)))) c.in-Some.is found in (
+      field_unheld order w ns os cs c.args.parts.at c.args.parts.size i lt below at.1 wrong.0,
+      (
+        i,
+        items,
+        c.in_ok-behind.ensures.way ∙ ap (λ s. s ∷ items) c.field_step.ensures,
+        subst (IsWrongField order w (parts_at os (all_at ns cs)) c.args.parts.at i items) (sym c.in_ok-behind.ensures.part)
+            (wrong_field order w ns os cs c.args.parts.at i items c.in-Some.found.part lt below wrong.1),
+      ),
+    )
 
 pub parts_wrong-loop-i-preserved : goal.parts_wrong-loop-i-preserved
-parts_wrong-loop-i-preserved t c = ?
+parts_wrong-loop-i-preserved t c =
+    let ns = c.args.walk.nodes.now in
+    let i : ℕ = c.loop-i.i in
+    let os : List ℕ = c.args.parts.offsets.now in
+    let cs : List ℕ = c.args.parts.children.now in
+    let lt : i < length os = omega (arith, c.loop-i-test.true, c.min-count.ensures) in
+    let below : i < length cs = omega (arith, c.loop-i-test.true, c.min-count.ensures) in
+    let at = field_at ns os cs i lt below c.args.parts.size c.args.node c.requires.before c.requires.room in
+    let offset : c.bytes.result ≡ get_or os i 0 = c.bytes.ensures ∙ c.index-offsets-i.is ∙ get_or_default os i c.index-offsets-i.result 0 lt in
+    let order = c.args.walk.order in
+    let w : List Cell = c.args.walk.cells.now in
+    let start : ℕ → ℕ = λ o. c.args.parts.at + o in
+    let p : Placed = placed_at ns (get_or cs i 0) in
+    let holds : Type 0 = HoldCells order p (cells_at w (start (get_or os i 0)) (size_of p)) in
+    let found : Judges holds (IsWrong order w p (start (get_or os i 0))) c.in_ok-found.field-0 =
+    subst (λ o. Judges (HoldCells order p (cells_at w (start o) (size_of p))) (IsWrong order w p (start o)) c.in_ok-found.field-0) offset c.in_ok-found.ensures in
+    let held : holds = judged_none holds (IsWrong order w p (start (get_or os i 0))) c.in_ok-found.field-0 c.in_default.not-Some found in
+    let here : HoldAt order ns (get_or os i 0) (get_or cs i 0) (cells_at w c.args.parts.at c.args.parts.size) =
+    into_part w c.args.parts.at c.args.parts.size (get_or os i 0) (size_of p) (HoldCells order p) c.requires.fits at.1 held in
+    λ k from below_next.
+    ⊎_elim (λ before. c.loop-i.invariant k from before)
+    (λ past.
+    let same : i ≡ k = omega (arith, past, below_next) in
+    subst (λ j. HoldAt order ns (get_or os j 0) (get_or cs j 0) (cells_at w c.args.parts.at c.args.parts.size)) same here) (cases_lt k i)
 
 pub parts_wrong-returns : goal.parts_wrong-returns
-parts_wrong-returns t c = ?
+parts_wrong-returns t c =
+    let os : List ℕ = c.args.parts.offsets.now in
+    let cs : List ℕ = c.args.parts.children.now in
+    (parts_by_index c.args.walk.order c.args.walk.nodes.now os cs (cells_at c.args.walk.cells.now c.args.parts.at c.args.parts.size)).0
+    (λ k from below. c.loop-i.invariant k from (omega (arith, below, c.loop-i-test.false, c.min-count.ensures)))
 
 -- ---- the variants beside a tag
 
@@ -194,16 +362,80 @@ named_wrong-own_wrong-requires t c =
     )
 
 pub named_wrong-returns-in-None : goal.named_wrong-returns-in-None
-named_wrong-returns-in-None t c = ?
+named_wrong-returns-in-None t c =
+    let ns = c.args.walk.nodes.now in
+    let order = c.args.walk.order in
+    let w : List Cell = c.args.walk.cells.now in
+    let vs : List (ℕ × ℕ) = c.args.tag.variants.now in
+    let variants : TaggedVariants = tagged_variants_in (types_in ns) vs in
+    let i : ℕ = c.loop-i.i in
+    let own : Parts = own_fields (placed_at ns (get_or vs i (0, 0)).1) in
+    let holds : Type 0 = HoldCellsOfParts order own (cells_at w c.args.tag.at c.args.tag.size) in
+    let names : Names c.args.tag.encoding.now c.args.tag.width variants c.args.number i =
+    subst (λ z. Names c.args.tag.encoding.now z variants c.args.number i) c.from_bytes-width.ensures c.if-is_named.ensures in
+    let held : holds = subst (Judges holds (IsWrongIn order w (Some i) own c.args.tag.at)) c.in-None.is c.in_ok-wrong.ensures in
+    beside_held c.args.walk.order c.args.tag.encoding.now (types_in c.args.walk.nodes.now) c.args.tag.variants.now c.args.walk.cells.now c.args.tag.at c.args.tag.size c.args.tag.offset c.args.tag.width c.args.number c.requires.made i (0, 0) c.requires.inside c.requires.fits c.loop-i-test.true names held
 
 pub named_wrong-loop-i-preserved : goal.named_wrong-loop-i-preserved
-named_wrong-loop-i-preserved t c = ?
+named_wrong-loop-i-preserved t c =
+    let ns = c.args.walk.nodes.now in
+    let order = c.args.walk.order in
+    let w : List Cell = c.args.walk.cells.now in
+    let vs : List (ℕ × ℕ) = c.args.tag.variants.now in
+    let variants : TaggedVariants = tagged_variants_in (types_in ns) vs in
+    let i : ℕ = c.loop-i.i in
+    let own : Parts = own_fields (placed_at ns (get_or vs i (0, 0)).1) in
+    let holds : Type 0 = HoldCellsOfParts order own (cells_at w c.args.tag.at c.args.tag.size) in
+    elim c.if-is_named.branch [
+      | named_wrong-then-is_named+in_ok-wrong+in-Some v ↦ (
+          let names : Names c.args.tag.encoding.now c.args.tag.width variants c.args.number i =
+          subst (λ z. Names c.args.tag.encoding.now z variants c.args.number i) c.from_bytes-width.ensures v.if-is_named.ensures in
+          let wrong : Judges holds (IsWrongIn order w (Some i) own c.args.tag.at) (Some v.in-Some.wrong) = subst (Judges holds (IsWrongIn order w (Some i) own c.args.tag.at)) v.in-Some.is v.in_ok-wrong.ensures in
+          judged_wrong c.args.walk.order c.args.tag.encoding.now (types_in c.args.walk.nodes.now) c.args.tag.variants.now c.args.walk.cells.now c.args.tag.at c.args.tag.size c.args.tag.offset c.args.tag.width c.args.number c.requires.made i (0, 0) c.loop-i.found c.if-is_named.found v.in-Some.wrong c.loop-i-test.true names v.found-is wrong c.loop-i.invariant
+          )
+      | named_wrong-else-is_named v ↦ (
+          let other : Names c.args.tag.encoding.now c.args.tag.width variants c.args.number i → ⊥ =
+          subst (λ z. Names c.args.tag.encoding.now z variants c.args.number i → ⊥) c.from_bytes-width.ensures v.if-is_named.ensures in
+          judged_more c.args.walk.order c.args.tag.encoding.now (types_in c.args.walk.nodes.now) c.args.tag.variants.now c.args.walk.cells.now c.args.tag.at c.args.tag.size c.args.tag.offset c.args.tag.width c.args.number i c.loop-i.found c.if-is_named.found v.found-is other c.loop-i.invariant
+          )
+    ]
 
 pub named_wrong-returns-in-Some-found : goal.named_wrong-returns-in-Some-found
-named_wrong-returns-in-Some-found t c = ?
+named_wrong-returns-in-Some-found t c =
+    let ns = c.args.walk.nodes.now in
+    let order = c.args.walk.order in
+    let w : List Cell = c.args.walk.cells.now in
+    let vs : List (ℕ × ℕ) = c.args.tag.variants.now in
+    let variants : TaggedVariants = tagged_variants_in (types_in ns) vs in
+    let i : ℕ = c.loop-i.i in
+    let own : Parts = own_fields (placed_at ns (get_or vs i (0, 0)).1) in
+    let holds : Type 0 = HoldCellsOfParts order own (cells_at w c.args.tag.at c.args.tag.size) in
+    let judged = subst (AreJudged c.args.walk.order c.args.tag.encoding.now (types_in c.args.walk.nodes.now) c.args.tag.variants.now c.args.walk.cells.now c.args.tag.at c.args.tag.size c.args.tag.offset c.args.tag.width c.args.number i) c.in-Some-found.is c.loop-i.invariant in
+    (beside_unheld c.args.walk.order c.args.tag.encoding.now (types_in c.args.walk.nodes.now) c.args.tag.variants.now c.args.walk.cells.now c.args.tag.at c.args.tag.size c.args.tag.offset c.args.tag.width c.args.number c.requires.made i c.loop-i.found c.requires.inside c.loop-i-test.false c.loop-i.invariant, inr judged.1)
 
 pub named_wrong-returns-in_ok-tag_wrong-in-None-found : goal.named_wrong-returns-in_ok-tag_wrong-in-None-found
-named_wrong-returns-in_ok-tag_wrong-in-None-found t c = ?
+named_wrong-returns-in_ok-tag_wrong-in-None-found t c =
+    let ns = c.args.walk.nodes.now in
+    let order = c.args.walk.order in
+    let w : List Cell = c.args.walk.cells.now in
+    let vs : List (ℕ × ℕ) = c.args.tag.variants.now in
+    let variants : TaggedVariants = tagged_variants_in (types_in ns) vs in
+    let i : ℕ = c.loop-i.i in
+    let own : Parts = own_fields (placed_at ns (get_or vs i (0, 0)).1) in
+    let holds : Type 0 = HoldCellsOfParts order own (cells_at w c.args.tag.at c.args.tag.size) in
+    let judged = subst (AreJudged c.args.walk.order c.args.tag.encoding.now (types_in c.args.walk.nodes.now) c.args.tag.variants.now c.args.walk.cells.now c.args.tag.at c.args.tag.size c.args.tag.offset c.args.tag.width c.args.number i) c.in-None-found.is c.loop-i.invariant in (
+      beside_unheld c.args.walk.order c.args.tag.encoding.now (types_in c.args.walk.nodes.now) c.args.tag.variants.now c.args.walk.cells.now c.args.tag.at c.args.tag.size c.args.tag.offset c.args.tag.width c.args.number c.requires.made i c.loop-i.found c.requires.inside c.loop-i-test.false c.loop-i.invariant,
+      tag_found order c.args.tag.encoding.now variants w c.args.tag.at c.args.tag.offset c.args.tag.width (NoVariant c.args.number) c.in_ok-tag_wrong-in-None-found.field-0
+          c.in_ok-tag_wrong-in-None-found.ensures.way c.in_ok-tag_wrong-in-None-found.ensures.part
+          (none_named c.args.walk.order c.args.tag.encoding.now (types_in c.args.walk.nodes.now) c.args.tag.variants.now c.args.walk.cells.now c.args.tag.at c.args.tag.size c.args.tag.offset c.args.tag.width c.args.number c.requires.made i c.loop-i-test.false judged.1),
+    )
 
 pub variants_wrong-returns-in_ok-tag_wrong-in-Err : goal.variants_wrong-returns-in_ok-tag_wrong-in-Err
-variants_wrong-returns-in_ok-tag_wrong-in-Err t c = ?
+variants_wrong-returns-in_ok-tag_wrong-in-Err t c =
+    let order = c.args.walk.order in
+    let w : List Cell = c.args.walk.cells.now in
+    let variants : TaggedVariants = tagged_variants_in (types_in c.args.walk.nodes.now) c.args.tag.variants.now in (
+      λ h. tag_unset order c.args.tag.encoding.now variants w c.args.tag.at c.args.tag.size c.args.tag.offset c.args.tag.width c.in-Err.place h.0 c.requires.inside c.in-Err.ensures.made h.1,
+      tag_found order c.args.tag.encoding.now variants w c.args.tag.at c.args.tag.offset c.args.tag.width (Unset c.in-Err.place) c.in_ok-tag_wrong-in-Err.field-0
+          c.in_ok-tag_wrong-in-Err.ensures.way c.in_ok-tag_wrong-in-Err.ensures.part c.in-Err.ensures.made,
+    )
