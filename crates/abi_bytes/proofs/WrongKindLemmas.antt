@@ -20,7 +20,8 @@ use Rattle.abi_tree.specs.Well.{all_at, are_nodes}
 use Rattle.abi_tree.proofs.Meaning.NodesLemmas.{layout_of-placed_at, placed_at-node}
 use Rattle.abi_tree.proofs.Places.DataPlacesLemmas.{elements_node, fields_node, never_node, scalar_node, single_node, states_node, tagged_node, union_node, vector_node}
 use Rattle.abi_bytes.specs.Holding.{AreEach, HoldCells, HoldCellsOfParts, HoldScalar, cells_at}
-use Rattle.abi_bytes.specs.NotHeld.{HoldBeside, IsWhyNumber, IsWrong, IsWrongBeside, IsWrongElement, IsWrongIn, Judges}
+use Rattle.abi_bytes.specs.NotHeld.{IsWhyNumber, IsWrong}
+use Rattle.abi_bytes.specs.WrongParts.{HoldBeside, IsWrongBeside, IsWrongElement, IsWrongIn, Judges}
 use Rattle.abi_bytes.specs.declared.not_held.NotHeld.{NotHeld}
 use Rattle.abi_bytes.specs.declared.not_held.Step.{Step}
 use Rattle.abi_bytes.specs.declared.not_held.Why.{Why}

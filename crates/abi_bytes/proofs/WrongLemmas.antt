@@ -1,9 +1,9 @@
 -- Why cells don't hold a type: parts at their places among the cells of the whole.
-use Rattle.std.proofs.Common.{Some, None, ◌≡◌, ◌⊎◌, ℕ, zero, suc, ◌+◌, ◌-◌, ◌*◌, ◌<◌, ◌≤◌, List, [], ◌∷◌, length, map, take, drop, get_or, arith, refl, sym, ap, ◌∙◌, subst, inl, inr, ⊎_elim, length-take, length-drop}
+use Rattle.std.proofs.Common.{Some, None, ◌≡◌, ◌⊎◌, ℕ, zero, suc, ◌+◌, ◌-◌, ◌*◌, ◌<◌, ◌≤◌, List, [], ◌∷◌, All, length, map, min, take, drop, get_or, arith, refl, sym, ap, ◌∙◌, subst, inl, inr, ⊎_elim, length-take, length-drop}
 use Rattle.std.specs.Prelude.{IfSome, Option, is_some, true}
-use Rattle.std.proofs.lemmas.Bool.{false≢true}
+use Rattle.std.proofs.lemmas.Bool.{cases_lt, false≢true}
 use Rattle.std.proofs.Math.Nat.{mul-le-mul_left, suc-mul}
-use Rattle.std.proofs.lemmas.List.{drop-drop, drop-take, get_or-drop, get_or-take, take-take}
+use Rattle.std.proofs.lemmas.List.{drop-drop, drop-take, get_or-drop, get_or-take, get_or_default, take-take}
 use Rattle.std.proofs.lemmas.Option.{get_or_from_slice_get}
 use Rattle.automata.specs.Cell.{Cell}
 use Rattle.abi_base.specs.declared.endian.Endian.{Endian}
@@ -16,14 +16,20 @@ use Rattle.abi_scalar.specs.declared.variants.TagEncoding.{TagEncoding}
 use Rattle.abi_tree.specs.Bytes.{number_of}
 use Rattle.abi_tree.specs.Nodes.{parts_at, placed_at}
 use Rattle.abi_tree.specs.Placed.{Placed, TaggedVariants, size_of}
+use Rattle.abi_tree.specs.Room.{has_room, have_room}
 use Rattle.abi_tree.specs.Tag.{Names}
 use Rattle.abi_tree.specs.Well.{all_at}
 use Rattle.abi_tree.specs.declared.node.Node.{Node}
+use Rattle.abi_tree.proofs.Places.DataPlacesLemmas.{field_at}
 use Rattle.abi_bytes.specs.Answers.{byte_in}
 use Rattle.abi_bytes.specs.Filling.{AreSet}
 use Rattle.abi_bytes.specs.GoesInto.{Stored}
+use Rattle.abi_bytes.specs.Formulas.{HoldAt, HoldBetween}
 use Rattle.abi_bytes.specs.Holding.{AreAt, AreEach, HoldCells, HoldCellsOfParts, HoldScalar, HoldTag, MakeNumber, cells_at}
-use Rattle.abi_bytes.specs.NotHeld.{IsFirstUnset, IsWhyNotHeld, IsWrong, IsWrongField, Judges, MakeAt, number_in}
+use Rattle.abi_bytes.specs.NotHeld.{IsFirstUnset, IsWhyNotHeld, IsWrong, IsWrongField, MakeAt, number_in}
+use Rattle.abi_bytes.specs.WrongParts.{Judges, JudgesParts, JudgesType, field_step, fields_in}
+use Rattle.abi_bytes.specs.declared.cell_walk.CellWalk.{CellWalk}
+use Rattle.abi_bytes.specs.declared.wrong_parts.PartsAt.{PartsAt}
 use Rattle.abi_bytes.specs.declared.not_held.NotHeld.{NotHeld}
 use Rattle.abi_bytes.specs.declared.not_held.Step.{Step}
 use Rattle.abi_bytes.specs.declared.not_held.WrongPart.{WrongPart}
@@ -176,9 +182,13 @@ pub judged_like : (P R : Type 0) (Q S : List Step → WrongPart → Type 0) (fou
 judged_like P R Q S None to from say h = to h
 judged_like P R Q S (Some f) to from say h = (λ r. h.0 (from r), say f.way.items f.part h.1)
 
-pub judged_none : (P : Type 0) (Q : List Step → WrongPart → Type 0) (found : Option NotHeld) → ((f : NotHeld) → found ≡ Some f → ⊥) → Judges P Q found → P
-judged_none P Q None other h = h
-judged_none P Q (Some f) other h = absurd (other f refl)
+pub type_none : (walk : CellWalk) (p : Placed) (at : ℕ) (found : Option NotHeld) → ((f : NotHeld) → found ≡ Some f → ⊥) → JudgesType walk p at found → HoldCells walk.order p (cells_at walk.cells.now at (size_of p))
+type_none walk p at None other h = h
+type_none walk p at (Some f) other h = absurd (other f refl)
+
+-- what is judged at an offset, under other names
+pub found_at : (walk : CellWalk) (p : Placed) (at o u : ℕ) (found new : Option NotHeld) → o ≡ u → found ≡ new → JudgesType walk p (at + o) found → JudgesType walk p (at + u) new
+found_at walk p at o u found new e is h = subst (JudgesType walk p (at + u)) is (subst (λ x. JudgesType walk p (at + x) found) e h)
 
 -- what is judged of the whole
 pub why_found : (a : Stored) (w : List Cell) (order : Endian) (p : Placed) (P : Type 0) (found : Option NotHeld) → order ≡ a.order → p ≡ a.placed → Judges P (IsWrong order w p 0) found → IfSome found (IsWhyNotHeld a w)
@@ -187,6 +197,15 @@ why_found a w order p P (Some f) e is h =
     inr (subst (λ o. IsWrong o w a.placed 0 f.way.items f.part) e (subst (λ x. IsWrong order w x 0 f.way.items f.part) is h.1))
 
 -- ---- a field, by its index
+
+-- the i-th field is there, comes before the node, and ends inside the whole
+pub field_here : (ns : List Node) (os cs : List ℕ) (count i r d size node : ℕ) → count ≡ min (length os) (length cs) → i < count → r ≡ get_or os i d → All (λ child. child < node) cs → have_room size (parts_at os (all_at ns cs)) ≡ true →
+    (i < length os) × (i < length cs) × (r ≡ get_or os i 0) × (get_or cs i 0 < node) × (get_or os i 0 + size_of (placed_at ns (get_or cs i 0)) ≤ size) × (has_room (placed_at ns (get_or cs i 0)) ≡ true)
+field_here ns os cs count i r d size node many lt is before room =
+    let there : i < length os = omega arith in
+    let below : i < length cs = omega arith in
+    let at = field_at ns os cs i there below size node before room in
+    (there, below, is ∙ get_or_default os i d 0 there, at.0, at.1, at.2)
 
 pub wrong_field : (order : Endian) (w : List Cell) (ns : List Node) (os cs : List ℕ) (at i : ℕ) (way : List Step) (wrong : WrongPart) → i < length os → i < length cs →
     IsWrong order w (placed_at ns (get_or cs i 0)) (at + get_or os i 0) way wrong → IsWrongField order w (parts_at os (all_at ns cs)) at i way wrong
@@ -203,6 +222,40 @@ field_unheld order w ns os cs at size i lt below inside unheld h =
     unheld
     (out_of_part w at size (get_or os i 0) (size_of (placed_at ns (get_or cs i 0))) (HoldCells order (placed_at ns (get_or cs i 0))) inside
     ((parts_by_index order ns os cs (cells_at w at size)).1 h i (omega arith) (omega (arith, lt, below))))
+
+module _ (walk : CellWalk) (parts : PartsAt) (i : ℕ) (inside : get_or parts.offsets.now i 0 + size_of (placed_at walk.nodes.now (get_or parts.children.now i 0)) ≤ parts.size) where
+  abbrev field_type : Placed
+  field_type = placed_at walk.nodes.now (get_or parts.children.now i 0)
+
+  abbrev field_place : ℕ
+  field_place = parts.at + get_or parts.offsets.now i 0
+
+  abbrev HeldBefore : ℕ → Type 0
+  HeldBefore k = HoldBetween walk.order walk.nodes.now parts.offsets.now parts.children.now 0 k (cells_at walk.cells.now parts.at parts.size)
+
+  -- the i-th field isn't held, and neither are they all
+  pub fields_wrong : (f g : NotHeld) (step : Step) → i < length parts.offsets.now → i < length parts.children.now → step ≡ field_step parts.variant i → g.way.items ≡ step ∷ f.way.items → g.part ≡ f.part →
+      JudgesType walk field_type field_place (Some f) → JudgesParts walk parts (Some g)
+  fields_wrong f g step lt below named way part h = (
+    field_unheld walk.order walk.cells.now walk.nodes.now parts.offsets.now parts.children.now parts.at parts.size i lt below inside h.0,
+    (
+      i,
+      f.way.items,
+      way ∙ ap (λ s. s ∷ f.way.items) named,
+      subst (IsWrongField walk.order walk.cells.now (fields_in walk parts) parts.at i f.way.items) (sym part)
+          (wrong_field walk.order walk.cells.now walk.nodes.now parts.offsets.now parts.children.now parts.at i f.way.items f.part lt below h.1),
+    ),
+  )
+
+  -- it is, as those before it are
+  pub fields_more : parts.at + parts.size ≤ length walk.cells.now → HeldBefore i → HoldCells walk.order field_type (cells_at walk.cells.now field_place (size_of field_type)) → HeldBefore (i + 1)
+  fields_more fits before held k from below =
+      let here : HoldAt walk.order walk.nodes.now (get_or parts.offsets.now i 0) (get_or parts.children.now i 0) (cells_at walk.cells.now parts.at parts.size) =
+      into_part walk.cells.now parts.at parts.size (get_or parts.offsets.now i 0) (size_of field_type) (HoldCells walk.order field_type) fits inside held in
+      ⊎_elim (λ lt. before k from lt)
+      (λ past.
+      let same : i ≡ k = omega (arith, past, below) in
+      subst (λ j. HoldAt walk.order walk.nodes.now (get_or parts.offsets.now j 0) (get_or parts.children.now j 0) (cells_at walk.cells.now parts.at parts.size)) same here) (cases_lt k i)
 
 -- ---- a tag
 

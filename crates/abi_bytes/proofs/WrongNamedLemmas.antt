@@ -5,11 +5,14 @@ use Rattle.std.proofs.lemmas.Bool.{cases_lt}
 use Rattle.automata.specs.Cell.{Cell}
 use Rattle.abi_base.specs.declared.endian.Endian.{Endian}
 use Rattle.abi_scalar.specs.declared.variants.TagEncoding.{TagEncoding}
-use Rattle.abi_tree.specs.Nodes.{own_fields, placed_in, tagged_variants_in}
+use Rattle.abi_tree.specs.Nodes.{own_fields, placed_in, tagged_variants_in, types_in}
 use Rattle.abi_tree.specs.Placed.{Parts, Placed, TaggedVariants}
 use Rattle.abi_tree.specs.Tag.{Names}
 use Rattle.abi_bytes.specs.Holding.{HoldCellsOfParts, HoldCellsOfVariant, cells_at}
-use Rattle.abi_bytes.specs.NotHeld.{HasVariant, HoldBeside, IsWhyTag, IsWrongBeside, IsWrongField, IsWrongIn, IsWrongNamed, IsWrongVariantField, Judges, MakeAt}
+use Rattle.abi_bytes.specs.NotHeld.{HasVariant, IsWhyTag, IsWrongField, IsWrongVariantField, MakeAt}
+use Rattle.abi_bytes.specs.WrongParts.{HoldBeside, IsWrongBeside, IsWrongIn, IsWrongNamed, Judges, variants_in}
+use Rattle.abi_bytes.specs.declared.cell_walk.CellWalk.{CellWalk}
+use Rattle.abi_bytes.specs.declared.wrong_parts.TagAt.{TagAt}
 use Rattle.abi_bytes.specs.declared.not_held.NotHeld.{NotHeld}
 use Rattle.abi_bytes.specs.declared.not_held.Step.{Step}
 use Rattle.abi_bytes.specs.declared.not_held.Step.TheVariants.{Tag}
@@ -92,6 +95,16 @@ module _ (order : Endian) (encoding : TagEncoding ℕ) (done : List Placed) (vs 
     -- none is named
     pub none_named : (i : ℕ) → length vs ≤ i → ((j : ℕ) → j < i → IsNamed j → ⊥) → IsWhyTag order w encoding variants (at + offset) n (NoVariant number)
     none_named i all before = (made, λ j has names. let there = HasVariant-there done vs j has in before j (omega (arith, there, all)) names)
+
+-- the number of a tag of this width names the variant with this index
+abbrev pub IsNamedBy : CellWalk → TagAt → (number width index : ℕ) → Type 0
+IsNamedBy walk tag number width i = Names tag.encoding.now width (variants_in walk tag) number i
+
+-- how its own fields are judged
+abbrev pub JudgesOwn : CellWalk → TagAt → (index : ℕ) → Option NotHeld → Type 0
+JudgesOwn walk tag i found =
+    let own : Parts = own_fields (placed_in (types_in walk.nodes.now) (get_or tag.variants.now i (0, 0)).1) in
+    Judges (HoldCellsOfParts walk.order own (cells_at walk.cells.now tag.at tag.size)) (IsWrongIn walk.order walk.cells.now (Some i) own tag.at) found
 
 -- what was made of a tag
 pub tag_found : (order : Endian) (encoding : TagEncoding ℕ) (variants : TaggedVariants) (w : List Cell) (at offset n : ℕ) (why : Why) (f : NotHeld) → f.way.items ≡ Tag ∷ [] →

@@ -10,3 +10,4 @@ pub mod Tags
 pub mod Answers
 -- why cells don't hold a type
 pub mod NotHeld
+pub mod WrongParts

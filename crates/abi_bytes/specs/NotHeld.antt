@@ -1,5 +1,5 @@
 -- Why cells don't hold a type: a part of it that they don't hold, and the way to it.
-use Rattle.std.specs.Prelude.{◌≡◌, ◌≢◌, ◌⊎◌, ℕ, zero, suc, ◌+◌, ◌*◌, ◌<◌, List, [], ◌∷◌, Option, None, Some, MatchOption, length, map, slice_get, ⊤}
+use Rattle.std.specs.Prelude.{◌≡◌, ◌≢◌, ◌⊎◌, ℕ, zero, suc, ◌+◌, ◌*◌, ◌<◌, List, [], ◌∷◌, None, Some, length, map, slice_get, ⊤}
 use Rattle.automata.specs.Cell.{Cell}
 use Rattle.abi_base.specs.declared.endian.Endian.{Endian}
 use Rattle.abi_scalar.specs.Scalar.{IsNumberOf}
@@ -11,8 +11,8 @@ use Rattle.abi_tree.specs.Placed.{Placed, scalar, pair, never, elements, vector,
 use Rattle.abi_tree.specs.Tag.{Names}
 use Rattle.abi_bytes.specs.Answers.{byte_in}
 use Rattle.abi_bytes.specs.Filling.{AreSet}
-use Rattle.abi_bytes.specs.GoesInto.{HoldStored, Stored}
-use Rattle.abi_bytes.specs.Holding.{HoldCells, HoldCellsOfVariant, HoldTag, cells_at}
+use Rattle.abi_bytes.specs.GoesInto.{Stored}
+use Rattle.abi_bytes.specs.Holding.{HoldCells, cells_at}
 use Rattle.abi_bytes.specs.declared.not_held.NotHeld.{NotHeld}
 use Rattle.abi_bytes.specs.declared.not_held.Step.{Step}
 use Rattle.abi_bytes.specs.declared.not_held.Step.TheVariants.{Field, VariantField, Element, Lanes, Tag}
@@ -36,19 +36,10 @@ HasVariant nothing_tagged i = ⊥
 HasVariant (tagged_variant number layout mark parts variants) zero = ⊤
 HasVariant (tagged_variant number layout mark parts variants) (suc i) = HasVariant variants i
 
--- the step to a field: to one of a variant, where that is given
-abbrev pub field_step : (variant : Option ℕ) → (index : ℕ) → Step
-field_step None i = Field i
-field_step (Some v) i = VariantField v i
-
 module _ (order : Endian) where
   -- the number that cells make which are all set
   abbrev pub number_in : List Cell → ℕ
   number_in w = number_of order (map byte_in w)
-
-  -- the tag of n cells at the offset names a variant whose parts are held
-  abbrev pub HoldBeside : TagEncoding ℕ → TaggedVariants → (offset n : ℕ) → List Cell → Type 0
-  HoldBeside encoding variants offset n u = (i : ℕ) × HoldTag order encoding offset n variants i u × HoldCellsOfVariant order variants i u
 
   -- no cells hold the type
   abbrev pub HasNoCells : Placed → Type 0
@@ -107,34 +98,6 @@ module _ (order : Endian) where
       IsWrongVariantField nothing_tagged at v i way wrong = ⊥
       IsWrongVariantField (tagged_variant number layout mark parts variants) at zero i way wrong = IsWrongField parts at i way wrong
       IsWrongVariantField (tagged_variant number layout mark parts variants) at (suc v) i way wrong = IsWrongVariantField variants at v i way wrong
-
-    -- ---- as it is found
-
-    -- the way begins with a field, by which it isn't held
-    abbrev pub IsWrongIn : (variant : Option ℕ) → Parts → (at : ℕ) → (way : List Step) → WrongPart → Type 0
-    IsWrongIn variant parts at way wrong = (i : ℕ) × (rest : List Step) × (way ≡ field_step variant i ∷ rest) × IsWrongField parts at i rest wrong
-
-    -- the way begins with an element, by which it isn't held
-    abbrev pub IsWrongElement : Placed → (at count : ℕ) → (way : List Step) → WrongPart → Type 0
-    IsWrongElement element at count way wrong = (i : ℕ) × (rest : List Step) × (way ≡ Element i ∷ rest) × (i < count) × IsWrong element (at + i * size_of element) rest wrong
-
-    -- the way ends at the tag
-    abbrev pub IsWrongTag : TagEncoding ℕ → TaggedVariants → (at n : ℕ) → (way : List Step) → WrongPart → Type 0
-    IsWrongTag encoding variants at n way wrong = (way ≡ Tag ∷ []) × IsPartAt at n wrong × IsWhyTag encoding variants at n wrong.why
-
-    -- the way begins with a field of the variant that the tag names, by which it isn't held
-    abbrev pub IsWrongNamed : TagEncoding ℕ → TaggedVariants → (at offset n : ℕ) → (way : List Step) → WrongPart → Type 0
-    IsWrongNamed encoding variants at offset n way wrong =
-        (v : ℕ) × (i : ℕ) × (rest : List Step) × (way ≡ VariantField v i ∷ rest) × NamesAt encoding variants (at + offset) n v × IsWrongVariantField variants at v i rest wrong
-
-    -- so it is by the tag, or by what it names
-    abbrev pub IsWrongBeside : TagEncoding ℕ → TaggedVariants → (at offset n : ℕ) → (way : List Step) → WrongPart → Type 0
-    IsWrongBeside encoding variants at offset n way wrong =
-        IsWrongTag encoding variants (at + offset) n way wrong ⊎ IsWrongNamed encoding variants at offset n way wrong
-
--- where nothing is found P holds; else it doesn't, and what is found is so
-abbrev pub Judges : (P : Type 0) → (List Step → WrongPart → Type 0) → Option NotHeld → Type 0
-Judges P Q found = MatchOption found P (λ f. (P → ⊥) × Q f.way.items f.part)
 
 -- why cells don't hold a type: they are more or fewer than it is large, or a part isn't held
 abbrev pub IsWhyNotHeld : Stored → List Cell → NotHeld → Type 0

@@ -9,7 +9,8 @@ ghost use Rattle.abi_tree.specs.Room.{has_room, have_room, tagged_variants_have_
 ghost use Rattle.abi_tree.specs.Well.{all_at};
 ghost use Rattle.abi_tree.specs.Widths.{is_narrow};
 ghost use Rattle.abi_bytes.specs.Holding.{AreEach, HoldCells, HoldCellsOfParts, HoldScalar, cells_at};
-ghost use Rattle.abi_bytes.specs.NotHeld.{HoldBeside, IsWhyNumber, IsWrong, IsWrongBeside, IsWrongElement, IsWrongIn, Judges, MakeAt, field_step};
+ghost use Rattle.abi_bytes.specs.NotHeld.{IsWhyNumber, IsWrong, MakeAt};
+ghost use Rattle.abi_bytes.specs.WrongParts.{ArePartsIn, IsTagIn, IsWrongElement, IsWrongIn, Judges, JudgesParts, JudgesState, JudgesTag, JudgesType, field_step};
 ghost use Rattle.abi_bytes.specs.declared.not_held.Step.TheVariants.{Tag};
 
 use crate::cell_numbers::number_at;
@@ -123,10 +124,7 @@ pub(crate) fn node_wrong(
     requires there { node < length walk.nodes.now }
     requires room { has_room (placed_at walk.nodes.now node) ≡ true }
     requires fits { at + size_of (placed_at walk.nodes.now node) ≤ length walk.cells.now }
-    ensures { IfOk result (Judges
-        (HoldCells walk.entry.order (placed_at walk.entry.nodes.now node)
-        (cells_at walk.entry.cells.now at (size_of (placed_at walk.entry.nodes.now node))))
-        (IsWrong walk.entry.order walk.entry.cells.now (placed_at walk.entry.nodes.now node) at)) }
+    ensures { IfOk result (JudgesType walk.entry (placed_at walk.entry.nodes.now node) at) }
 {
     let here = walk.nodes.node(node);
     let layout = here.layout;
@@ -219,13 +217,8 @@ fn pair_wrong(
     requires room { have_room layout.now.size (parts_at (listed_offsets layout.now.fields)
         (all_at walk.nodes.now (numbers.0 ∷ numbers.1 ∷ []))) ≡ true }
     requires fits { at + layout.now.size ≤ length walk.cells.now }
-    ensures { IfOk result (Judges
-        (HoldCells walk.entry.order (pair layout.now (parts_at (listed_offsets layout.now.fields)
-        (all_at walk.entry.nodes.now (numbers.0 ∷ numbers.1 ∷ []))))
-        (cells_at walk.entry.cells.now at layout.now.size))
-        (IsWrong walk.entry.order walk.entry.cells.now (pair layout.now
-        (parts_at (listed_offsets layout.now.fields)
-        (all_at walk.entry.nodes.now (numbers.0 ∷ numbers.1 ∷ [])))) at)) }
+    ensures { IfOk result (JudgesType walk.entry (pair layout.now (parts_at
+        (listed_offsets layout.now.fields) (all_at walk.entry.nodes.now (numbers.0 ∷ numbers.1 ∷ [])))) at) }
 {
     let (first, second) = numbers;
     let offsets = offsets(layout);
@@ -307,17 +300,8 @@ fn parts_wrong(
     parts: PartsAt<'_>,
 ) -> Result<Option<NotHeld>, AllocError>
     requires there { node < length walk.nodes.now }
-    requires before { All (λ child. child < node) parts.children.now }
-    requires room { have_room parts.size
-        (parts_at parts.offsets.now (all_at walk.nodes.now parts.children.now)) ≡ true }
-    requires fits { parts.at + parts.size ≤ length walk.cells.now }
-    ensures { IfOk result (Judges
-        (HoldCellsOfParts walk.entry.order
-        (parts_at parts.entry.offsets.now (all_at walk.entry.nodes.now parts.entry.children.now))
-        (cells_at walk.entry.cells.now parts.entry.at parts.entry.size))
-        (IsWrongIn walk.entry.order walk.entry.cells.now parts.entry.variant
-        (parts_at parts.entry.offsets.now (all_at walk.entry.nodes.now parts.entry.children.now))
-        parts.entry.at)) }
+    requires parts { ArePartsIn walk node parts }
+    ensures { IfOk result (JudgesParts walk.entry parts.entry) }
 {
     let PartsAt {
         at,
@@ -385,20 +369,9 @@ fn named_wrong(
     number: u128,
 ) -> Result<Option<NotHeld>, AllocError>
     requires there { node < length walk.nodes.now }
-    requires before { All (λ v. v.1 < node) tag.variants.now }
-    requires width { tag.width ≤ 16 }
-    requires inside { tag.offset + tag.width ≤ tag.size }
-    requires room { tagged_variants_have_room tag.size
-        (tagged_variants_in (types_in walk.nodes.now) tag.variants.now) ≡ true }
-    requires fits { tag.at + tag.size ≤ length walk.cells.now }
+    requires tag { IsTagIn walk node tag }
     requires made { MakeAt walk.order walk.cells.now (tag.at + tag.offset) tag.width number }
-    ensures { IfOk result (Judges
-        (HoldBeside walk.entry.order tag.entry.encoding.now
-        (tagged_variants_in (types_in walk.entry.nodes.now) tag.entry.variants.now) tag.entry.offset
-        tag.entry.width (cells_at walk.entry.cells.now tag.entry.at tag.entry.size))
-        (IsWrongBeside walk.entry.order walk.entry.cells.now tag.entry.encoding.now
-        (tagged_variants_in (types_in walk.entry.nodes.now) tag.entry.variants.now) tag.entry.at
-        tag.entry.offset tag.entry.width)) }
+    ensures { IfOk result (JudgesTag walk.entry tag.entry) }
 {
     let width = Size::from_bytes(tag.width);
     let mut found = None;
@@ -424,19 +397,8 @@ fn variants_wrong(
     tag: TagAt<'_>,
 ) -> Result<Option<NotHeld>, AllocError>
     requires there { node < length walk.nodes.now }
-    requires before { All (λ v. v.1 < node) tag.variants.now }
-    requires width { tag.width ≤ 16 }
-    requires inside { tag.offset + tag.width ≤ tag.size }
-    requires room { tagged_variants_have_room tag.size
-        (tagged_variants_in (types_in walk.nodes.now) tag.variants.now) ≡ true }
-    requires fits { tag.at + tag.size ≤ length walk.cells.now }
-    ensures { IfOk result (Judges
-        (HoldBeside walk.entry.order tag.entry.encoding.now
-        (tagged_variants_in (types_in walk.entry.nodes.now) tag.entry.variants.now) tag.entry.offset
-        tag.entry.width (cells_at walk.entry.cells.now tag.entry.at tag.entry.size))
-        (IsWrongBeside walk.entry.order walk.entry.cells.now tag.entry.encoding.now
-        (tagged_variants_in (types_in walk.entry.nodes.now) tag.entry.variants.now) tag.entry.at
-        tag.entry.offset tag.entry.width)) }
+    requires tag { IsTagIn walk node tag }
+    ensures { IfOk result (JudgesTag walk.entry tag.entry) }
 {
     let start = tag.at + tag.offset as usize;
     match number_at(walk.order, walk.cells, start, tag.width as usize) {
@@ -457,29 +419,10 @@ fn states_wrong(
     tag: TagAt<'_>,
 ) -> Result<Option<NotHeld>, AllocError>
     requires there { node < length walk.nodes.now }
-    requires fields { All (λ child. child < node) prefix.children.now }
-    requires fields_room { have_room prefix.size
-        (parts_at prefix.offsets.now (all_at walk.nodes.now prefix.children.now)) ≡ true }
-    requires before { All (λ v. v.1 < node) tag.variants.now }
-    requires width { tag.width ≤ 16 }
-    requires inside { tag.offset + tag.width ≤ tag.size }
-    requires room { tagged_variants_have_room tag.size
-        (tagged_variants_in (types_in walk.nodes.now) tag.variants.now) ≡ true }
-    requires fits { tag.at + tag.size ≤ length walk.cells.now }
+    requires prefix { ArePartsIn walk node prefix }
+    requires tag { IsTagIn walk node tag }
     requires one { (prefix.at ≡ tag.at) × (prefix.size ≡ tag.size) × (prefix.variant ≡ None) }
-    ensures { IfOk result (Judges
-        (HoldCellsOfParts walk.entry.order
-        (parts_at prefix.entry.offsets.now (all_at walk.entry.nodes.now prefix.entry.children.now))
-        (cells_at walk.entry.cells.now tag.entry.at tag.entry.size)
-        × HoldBeside walk.entry.order tag.entry.encoding.now
-        (tagged_variants_in (types_in walk.entry.nodes.now) tag.entry.variants.now) tag.entry.offset
-        tag.entry.width (cells_at walk.entry.cells.now tag.entry.at tag.entry.size))
-        (λ way wrong. IsWrongIn walk.entry.order walk.entry.cells.now None
-        (parts_at prefix.entry.offsets.now (all_at walk.entry.nodes.now prefix.entry.children.now))
-        tag.entry.at way wrong
-        ⊎ IsWrongBeside walk.entry.order walk.entry.cells.now tag.entry.encoding.now
-        (tagged_variants_in (types_in walk.entry.nodes.now) tag.entry.variants.now) tag.entry.at
-        tag.entry.offset tag.entry.width way wrong)) }
+    ensures { IfOk result (JudgesState walk.entry prefix.entry tag.entry) }
 {
     match parts_wrong(walk, node, prefix)? {
         Some(found) => Ok(Some(found)),

@@ -228,70 +228,63 @@ fn run_with(runs: &[(u64, u64)], place: u64) -> Option<(u64, u64)> {
     None
 }
 
-/// The bytes in cells, and 0 where nothing is initialised.
-fn bytes_in(alloc: Global, cells: &[Option<u8>]) -> Result<Vec<u8>, AllocError> {
-    let mut bytes = Vec::new(alloc);
-    for cell in cells {
-        bytes.push(cell.unwrap_or(0))?;
-    }
-    Ok(bytes)
+/// Cells that hold a type.
+#[derive(Clone, Copy)]
+struct HeldCells<'a> {
+    alloc: Global,
+    ty: ShownType<'a>,
+    cells: &'a [Option<u8>],
 }
 
-/// The variant, or state, of the value that cells hold: of the bytes in them, since a byte in place of nothing takes nothing
-/// away. None where the type has no variants.
-fn variant_in(
-    alloc: Global,
-    laid: &Laid,
-    cells: &[Option<u8>],
-) -> Result<Option<usize>, AllocError> {
-    let bytes = bytes_in(alloc, cells)?;
-    match read_value(alloc, laid, &bytes)? {
-        Some(Value::Variant(index, _)) => Ok(Some(index)),
-        _ => Ok(None),
+impl HeldCells<'_> {
+    /// The bytes in them, and 0 where nothing is initialised, which hold the type too.
+    fn bytes(self) -> Result<Vec<u8>, AllocError> {
+        let mut bytes = Vec::new(self.alloc);
+        for cell in self.cells {
+            bytes.push(cell.unwrap_or(0))?;
+        }
+        Ok(bytes)
     }
-}
 
-/// Writes that the variant of these cells leaves a byte, where it does.
-fn write_unused(
-    alloc: Global,
-    out: &mut String,
-    ty: ShownType<'_>,
-    cells: &[Option<u8>],
-    place: u64,
-) -> Result<(), AllocError> {
-    let Some(variant) = variant_in(alloc, ty.laid, cells)? else {
-        return Ok(());
-    };
-    let (unused, _visits) = ty.laid.variant_padding(alloc)?;
-    let Some(runs) = unused.as_slice().as_raw().get(variant) else {
-        return Ok(());
-    };
-    if let Some((start, end)) = run_with(runs.as_slice(), place) {
-        let name = ty.variant_name(Some(0), variant);
-        write!(
-            out,
-            "variant {name} unused {start}..{end} is never written\n"
-        )?;
+    /// The variant of the value in them; None where the type has no variants.
+    fn variant(self) -> Result<Option<usize>, AllocError> {
+        let bytes = self.bytes()?;
+        match read_value(self.alloc, self.ty.laid, &bytes)? {
+            Some(Value::Variant(index, _)) => Ok(Some(index)),
+            _ => Ok(None),
+        }
     }
-    Ok(())
-}
 
-/// Writes why a byte isn't written by the type that the cells hold: it is padding, or its variant leaves it. Nothing where neither
-/// is so, as in a union.
-fn write_unwritten(
-    alloc: Global,
-    out: &mut String,
-    ty: ShownType<'_>,
-    cells: &[Option<u8>],
-    place: u64,
-) -> Result<(), AllocError> {
-    if ty.laid.layout().size.bytes() > MOST_LISTED {
-        return Ok(());
+    /// Writes that the variant in them leaves a byte, where it does.
+    fn write_unused(self, out: &mut String, place: u64) -> Result<(), AllocError> {
+        let Some(variant) = self.variant()? else {
+            return Ok(());
+        };
+        let (unused, _visits) = self.ty.laid.variant_padding(self.alloc)?;
+        let Some(runs) = unused.as_slice().as_raw().get(variant) else {
+            return Ok(());
+        };
+        if let Some((start, end)) = run_with(runs.as_slice(), place) {
+            let name = self.ty.variant_name(Some(0), variant);
+            write!(
+                out,
+                "variant {name} unused {start}..{end} is never written\n"
+            )?;
+        }
+        Ok(())
     }
-    let (padding, _visits) = ty.laid.padding(alloc)?;
-    match run_with(padding.as_slice(), place) {
-        Some((start, end)) => write!(out, "padding {start}..{end} is never written\n"),
-        None => write_unused(alloc, out, ty, cells, place),
+
+    /// Writes why the type writes no byte there: it is padding, or the variant leaves it. Nothing where neither is so, as in a
+    /// union, and of types whose padding isn't listed.
+    fn write_unwritten(self, out: &mut String, place: u64) -> Result<(), AllocError> {
+        if self.ty.laid.layout().size.bytes() > MOST_LISTED {
+            return Ok(());
+        }
+        let (padding, _visits) = self.ty.laid.padding(self.alloc)?;
+        match run_with(padding.as_slice(), place) {
+            Some((start, end)) => Ok(write!(out, "padding {start}..{end} is never written\n")?),
+            None => self.write_unused(out, place),
+        }
     }
 }
 
@@ -311,8 +304,12 @@ pub(crate) fn write_reasons(
     write_why(out, part)?;
     match part.why {
         Why::Unset(cell) => {
-            let place = part.start.saturating_add(cell);
-            write_unwritten(alloc, out, first, cells, place)
+            let held = HeldCells {
+                alloc,
+                ty: first,
+                cells,
+            };
+            held.write_unwritten(out, part.start.saturating_add(cell))
         }
         _ => Ok(()),
     }

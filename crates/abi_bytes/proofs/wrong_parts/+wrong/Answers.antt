@@ -18,7 +18,8 @@ use Rattle.abi_tree.proofs.Meaning.WidthLemmas.{narrow_at, state_tag_width_at, t
 use Rattle.abi_tree.proofs.Places.DataPlacesLemmas.{elements_node, field_at, fields_node, pair_node, single_node, states_node, tagged_node, tagged_variant_room, vector_node}
 use Rattle.abi_bytes.specs.Formulas.{HoldAt, HoldBetween}
 use Rattle.abi_bytes.specs.Holding.{HoldCells, HoldCellsOfParts, HoldCellsOfVariant, cells_at}
-use Rattle.abi_bytes.specs.NotHeld.{HasVariant, IsWhyTag, IsWrong, IsWrongField, IsWrongIn, Judges}
+use Rattle.abi_bytes.specs.NotHeld.{IsWrong}
+use Rattle.abi_bytes.specs.WrongParts.{Judges, variants_in}
 use Rattle.abi_bytes.specs.declared.not_held.NotHeld.{NotHeld}
 use Rattle.abi_bytes.specs.declared.not_held.Step.{Step}
 use Rattle.abi_bytes.specs.declared.not_held.Why.TheVariants.{NoVariant, Unset}
@@ -26,8 +27,8 @@ use Rattle.abi_bytes.specs.declared.not_held.WrongPart.{WrongPart}
 use Rattle.abi_bytes.proofs.PartLemmas.{parts_by_index}
 use Rattle.abi_bytes.proofs.VariantLemmas.{variant_at, variant_there}
 use Rattle.abi_bytes.proofs.WrongKindLemmas.{beside_like, elements_judged, fields_judged, lanes-inside, never_judged, node_judged, parts_like, scalar_judged, scalar_wrong, single_judged, size-fits, size-node, states-inside, states_judged, states_like, tagged_judged, union_judged, vector_judged}
-use Rattle.abi_bytes.proofs.WrongLemmas.{element_wrong, elements_held, field_unheld, into_part, judged_none, tag_unset, wrong_field}
-use Rattle.abi_bytes.proofs.WrongNamedLemmas.{AreJudged, beside_held, beside_unheld, judged_more, judged_wrong, none_named, tag_found}
+use Rattle.abi_bytes.proofs.WrongLemmas.{element_wrong, elements_held, field_here, fields_more, fields_wrong, found_at, tag_unset, type_none}
+use Rattle.abi_bytes.proofs.WrongNamedLemmas.{AreJudged, IsNamedBy, JudgesOwn, beside_held, beside_unheld, judged_more, judged_wrong, none_named, tag_found}
 use Rattle.abi_bytes.proofs.wrong_parts.+wrong.Goals.{elements_wrong-then-size-eq0, elements_wrong-else-size-eq0, named_wrong-then-is_named+in_ok-wrong+in-Some, named_wrong-else-is_named}
 use Rattle.abi_bytes.proofs.wrong_parts.+wrong.Goals as goal
 
@@ -60,7 +61,7 @@ node_wrong-parts_wrong-requires t c =
     let size = size-node c.args.walk.nodes.now c.args.node _ c.requires.there c.node-here.ensures in
     let room : have_room c.bytes-size.result (parts_at c.offsets.result.now (all_at c.args.walk.nodes.now c.deref.result.now)) ≡ true =
     rw (c.bytes-size.ensures, c.offsets.ensures, c.deref.ensures.value) facts.2 in
-    (omega (arith, c.decreases), (c.requires.there, (rw c.deref.ensures.value facts.0, (room, omega (arith, size, c.bytes-size.ensures, c.requires.fits)))))
+    (omega (arith, c.decreases), (c.requires.there, record { before = rw c.deref.ensures.value facts.0; room = room; fits = omega (arith, size, c.bytes-size.ensures, c.requires.fits) }))
 
 pub node_wrong-vector_wrong-requires : goal.node_wrong-vector_wrong-requires
 node_wrong-vector_wrong-requires t c =
@@ -75,7 +76,7 @@ node_wrong-parts_wrong-requires-in-Single t c =
     let size = size-node c.args.walk.nodes.now c.args.node _ c.requires.there c.node-here.ensures in
     let room : have_room c.bytes-size.result (parts_at c.offsets-in-Single.result.now (all_at c.args.walk.nodes.now c.deref-in-Single.result.now)) ≡ true =
     rw (c.bytes-size.ensures, c.offsets-in-Single.ensures, c.deref-in-Single.ensures.value) facts.2 in
-    (omega (arith, c.decreases), (c.requires.there, (rw c.deref-in-Single.ensures.value facts.0, (room, omega (arith, size, c.bytes-size.ensures, c.requires.fits)))))
+    (omega (arith, c.decreases), (c.requires.there, record { before = rw c.deref-in-Single.ensures.value facts.0; room = room; fits = omega (arith, size, c.bytes-size.ensures, c.requires.fits) }))
 
 pub node_wrong-layout-requires : goal.node_wrong-layout-requires
 node_wrong-layout-requires t c =
@@ -93,10 +94,13 @@ node_wrong-variants_wrong-requires t c =
       omega (arith, c.decreases),
       (
         c.requires.there,
-        (
-          rw c.deref-in-Tagged.ensures.value facts.1,
-          (omega (arith, wide, width), (omega (arith, wide, c.tag_offset.ensures, c.bytes-size.ensures, facts.3), (room, omega (arith, size, c.bytes-size.ensures, c.requires.fits)))),
-        ),
+        record {
+          before = rw c.deref-in-Tagged.ensures.value facts.1;
+          narrow = omega (arith, wide, width);
+          inside = omega (arith, wide, c.tag_offset.ensures, c.bytes-size.ensures, facts.3);
+          room = room;
+          fits = omega (arith, size, c.bytes-size.ensures, c.requires.fits);
+        },
       ),
     )
 
@@ -120,22 +124,17 @@ node_wrong-states_wrong-requires t c =
     rw (c.bytes-size.ensures, c.offsets-in-States.ensures, c.deref-in-States.ensures.value) inside.0 in
     let room : tagged_variants_have_room c.bytes-size.result (tagged_variants_in (types_in ns) c.deref-in-States-2.result.now) ≡ true =
     rw (c.bytes-size.ensures, c.deref-in-States-2.ensures.value) inside.1 in
+    let fits : c.args.at + c.bytes-size.result ≤ length c.args.walk.cells.now = omega (arith, size, c.bytes-size.ensures, c.requires.fits) in
     let before : All (λ child. child < c.args.node) c.deref-in-States.result.now = rw c.deref-in-States.ensures.value facts.0 in
     let all_before : All (λ (v : ℕ × ℕ). v.1 < c.args.node) c.deref-in-States-2.result.now = rw c.deref-in-States-2.ensures.value facts.2 in (
       omega (arith, c.decreases),
       (
         c.requires.there,
         (
-          before,
+          record { before = before; room = fields_room; fits = fits },
           (
-            fields_room,
-            (
-              all_before,
-              (
-                omega (arith, wide, width),
-                (omega (arith, wide, offset, c.bytes-size.ensures, inside.2), (room, (omega (arith, size, c.bytes-size.ensures, c.requires.fits), (refl, refl, refl)))),
-              ),
-            ),
+            record { before = all_before; narrow = omega (arith, wide, width); inside = omega (arith, wide, offset, c.bytes-size.ensures, inside.2); room = room; fits = fits },
+            (refl, refl, refl),
           ),
         ),
       ),
@@ -264,82 +263,31 @@ elements_wrong-returns t c =
 
 pub parts_wrong-overflow_add-start : goal.parts_wrong-overflow_add-start
 parts_wrong-overflow_add-start t c =
-    let ns = c.args.walk.nodes.now in
-    let i : ℕ = c.loop-i.i in
-    let os : List ℕ = c.args.parts.offsets.now in
-    let cs : List ℕ = c.args.parts.children.now in
-    let lt : i < length os = omega (arith, c.loop-i-test.true, c.min-count.ensures) in
-    let below : i < length cs = omega (arith, c.loop-i-test.true, c.min-count.ensures) in
-    let at = field_at ns os cs i lt below c.args.parts.size c.args.node c.requires.before c.requires.room in
-    let offset : c.bytes.result ≡ get_or os i 0 = c.bytes.ensures ∙ c.index-offsets-i.is ∙ get_or_default os i c.index-offsets-i.result 0 lt in
-    omega (arith, offset, at.1, c.requires.fits)
+    let here = field_here c.args.walk.nodes.now c.args.parts.offsets.now c.args.parts.children.now c.min-count.result c.loop-i.i c.bytes.result _ c.args.parts.size c.args.node c.min-count.ensures c.loop-i-test.true (c.bytes.ensures ∙ c.index-offsets-i.is) c.requires.parts.before c.requires.parts.room in
+    omega (arith, here.2, here.4, c.requires.parts.fits)
 
 pub parts_wrong-node_wrong-requires : goal.parts_wrong-node_wrong-requires
 parts_wrong-node_wrong-requires t c =
-    let ns = c.args.walk.nodes.now in
-    let i : ℕ = c.loop-i.i in
-    let os : List ℕ = c.args.parts.offsets.now in
-    let cs : List ℕ = c.args.parts.children.now in
-    let lt : i < length os = omega (arith, c.loop-i-test.true, c.min-count.ensures) in
-    let below : i < length cs = omega (arith, c.loop-i-test.true, c.min-count.ensures) in
-    let at = field_at ns os cs i lt below c.args.parts.size c.args.node c.requires.before c.requires.room in
-    let offset : c.bytes.result ≡ get_or os i 0 = c.bytes.ensures ∙ c.index-offsets-i.is ∙ get_or_default os i c.index-offsets-i.result 0 lt in
-    (omega (arith, at.0, c.decreases), (omega (arith, at.0, c.requires.there), (at.2, omega (arith, offset, at.1, c.requires.fits))))
+    let here = field_here c.args.walk.nodes.now c.args.parts.offsets.now c.args.parts.children.now c.min-count.result c.loop-i.i c.bytes.result _ c.args.parts.size c.args.node c.min-count.ensures c.loop-i-test.true (c.bytes.ensures ∙ c.index-offsets-i.is) c.requires.parts.before c.requires.parts.room in
+    (omega (arith, here.3, c.decreases), (omega (arith, here.3, c.requires.there), (here.5, omega (arith, here.2, here.4, c.requires.parts.fits))))
 
 pub parts_wrong-returns-in-Some : goal.parts_wrong-returns-in-Some
 parts_wrong-returns-in-Some t c =
-    let ns = c.args.walk.nodes.now in
-    let i : ℕ = c.loop-i.i in
     let os : List ℕ = c.args.parts.offsets.now in
     let cs : List ℕ = c.args.parts.children.now in
-    let lt : i < length os = omega (arith, c.loop-i-test.true, c.min-count.ensures) in
-    let below : i < length cs = omega (arith, c.loop-i-test.true, c.min-count.ensures) in
-    let at = field_at ns os cs i lt below c.args.parts.size c.args.node c.requires.before c.requires.room in
-    let offset : c.bytes.result ≡ get_or os i 0 = c.bytes.ensures ∙ c.index-offsets-i.is ∙ get_or_default os i c.index-offsets-i.result 0 lt in
-    let order = c.args.walk.order in
-    let w : List Cell = c.args.walk.cells.now in
-    let start : ℕ → ℕ = λ o. c.args.parts.at + o in
-    let p : Placed = placed_at ns (get_or cs i 0) in
-    let holds : Type 0 = HoldCells order p (cells_at w (start (get_or os i 0)) (size_of p)) in
-    let found : Judges holds (IsWrong order w p (start (get_or os i 0))) c.in_ok-found.field-0 =
-    subst (λ o. Judges (HoldCells order p (cells_at w (start o) (size_of p))) (IsWrong order w p (start o)) c.in_ok-found.field-0) offset c.in_ok-found.ensures in
-    let items : List Step = c.in-Some.found.way.items in
-    let wrong : Judges holds (IsWrong order w p (start (get_or os i 0))) (Some c.in-Some.found) = subst (Judges holds (IsWrong order w p (start (get_or os i 0)))) c.in-Some.is found in (
-      field_unheld order w ns os cs c.args.parts.at c.args.parts.size i lt below at.1 wrong.0,
-      (
-        i,
-        items,
-        c.in_ok-behind.ensures.way ∙ ap (λ s. s ∷ items) c.field_step.ensures,
-        subst (IsWrongField order w (parts_at os (all_at ns cs)) c.args.parts.at i items) (sym c.in_ok-behind.ensures.part)
-            (wrong_field order w ns os cs c.args.parts.at i items c.in-Some.found.part lt below wrong.1),
-      ),
-    )
+    let here = field_here c.args.walk.nodes.now os cs c.min-count.result c.loop-i.i c.bytes.result _ c.args.parts.size c.args.node c.min-count.ensures c.loop-i-test.true (c.bytes.ensures ∙ c.index-offsets-i.is) c.requires.parts.before c.requires.parts.room in
+    let found = found_at c.args.walk (placed_at c.args.walk.nodes.now (get_or cs c.loop-i.i 0)) c.args.parts.at c.bytes.result (get_or os c.loop-i.i 0) c.in_ok-found.field-0 (Some c.in-Some.found) here.2 c.in-Some.is c.in_ok-found.ensures in
+    fields_wrong c.args.walk c.args.parts c.loop-i.i here.4 c.in-Some.found c.in_ok-behind.field-0 c.field_step.result here.0 here.1 c.field_step.ensures c.in_ok-behind.ensures.way c.in_ok-behind.ensures.part found
 
 pub parts_wrong-loop-i-preserved : goal.parts_wrong-loop-i-preserved
 parts_wrong-loop-i-preserved t c =
-    let ns = c.args.walk.nodes.now in
-    let i : ℕ = c.loop-i.i in
     let os : List ℕ = c.args.parts.offsets.now in
     let cs : List ℕ = c.args.parts.children.now in
-    let lt : i < length os = omega (arith, c.loop-i-test.true, c.min-count.ensures) in
-    let below : i < length cs = omega (arith, c.loop-i-test.true, c.min-count.ensures) in
-    let at = field_at ns os cs i lt below c.args.parts.size c.args.node c.requires.before c.requires.room in
-    let offset : c.bytes.result ≡ get_or os i 0 = c.bytes.ensures ∙ c.index-offsets-i.is ∙ get_or_default os i c.index-offsets-i.result 0 lt in
-    let order = c.args.walk.order in
-    let w : List Cell = c.args.walk.cells.now in
-    let start : ℕ → ℕ = λ o. c.args.parts.at + o in
-    let p : Placed = placed_at ns (get_or cs i 0) in
-    let holds : Type 0 = HoldCells order p (cells_at w (start (get_or os i 0)) (size_of p)) in
-    let found : Judges holds (IsWrong order w p (start (get_or os i 0))) c.in_ok-found.field-0 =
-    subst (λ o. Judges (HoldCells order p (cells_at w (start o) (size_of p))) (IsWrong order w p (start o)) c.in_ok-found.field-0) offset c.in_ok-found.ensures in
-    let held : holds = judged_none holds (IsWrong order w p (start (get_or os i 0))) c.in_ok-found.field-0 c.in_default.not-Some found in
-    let here : HoldAt order ns (get_or os i 0) (get_or cs i 0) (cells_at w c.args.parts.at c.args.parts.size) =
-    into_part w c.args.parts.at c.args.parts.size (get_or os i 0) (size_of p) (HoldCells order p) c.requires.fits at.1 held in
-    λ k from below_next.
-    ⊎_elim (λ before. c.loop-i.invariant k from before)
-    (λ past.
-    let same : i ≡ k = omega (arith, past, below_next) in
-    subst (λ j. HoldAt order ns (get_or os j 0) (get_or cs j 0) (cells_at w c.args.parts.at c.args.parts.size)) same here) (cases_lt k i)
+    let p : Placed = placed_at c.args.walk.nodes.now (get_or cs c.loop-i.i 0) in
+    let here = field_here c.args.walk.nodes.now os cs c.min-count.result c.loop-i.i c.bytes.result _ c.args.parts.size c.args.node c.min-count.ensures c.loop-i-test.true (c.bytes.ensures ∙ c.index-offsets-i.is) c.requires.parts.before c.requires.parts.room in
+    let found = found_at c.args.walk p c.args.parts.at c.bytes.result (get_or os c.loop-i.i 0) c.in_ok-found.field-0 c.in_ok-found.field-0 here.2 refl c.in_ok-found.ensures in
+    fields_more c.args.walk c.args.parts c.loop-i.i here.4 c.requires.parts.fits c.loop-i.invariant
+    (type_none c.args.walk p (c.args.parts.at + get_or os c.loop-i.i 0) c.in_ok-found.field-0 c.in_default.not-Some found)
 
 pub parts_wrong-returns : goal.parts_wrong-returns
 parts_wrong-returns t c =
@@ -353,81 +301,45 @@ parts_wrong-returns t c =
 pub named_wrong-own_wrong-requires : goal.named_wrong-own_wrong-requires
 named_wrong-own_wrong-requires t c =
     let vs : List (ℕ × ℕ) = c.args.tag.variants.now in
-    let before : (get_or vs c.loop-i.i (0, 0)).1 < c.args.node = c.requires.before c.loop-i.i (0, 0) c.loop-i-test.true in (
+    let before : (get_or vs c.loop-i.i (0, 0)).1 < c.args.node = c.requires.tag.before c.loop-i.i (0, 0) c.loop-i-test.true in (
       omega (arith, before, c.decreases),
       (
         omega (arith, before, c.requires.there),
-        (tagged_variant_room c.args.tag.size (types_in c.args.walk.nodes.now) vs c.loop-i.i (0, 0) c.requires.room c.loop-i-test.true, c.requires.fits),
+        (tagged_variant_room c.args.tag.size (types_in c.args.walk.nodes.now) vs c.loop-i.i (0, 0) c.requires.tag.room c.loop-i-test.true, c.requires.tag.fits),
       ),
     )
 
 pub named_wrong-returns-in-None : goal.named_wrong-returns-in-None
 named_wrong-returns-in-None t c =
-    let ns = c.args.walk.nodes.now in
-    let order = c.args.walk.order in
-    let w : List Cell = c.args.walk.cells.now in
-    let vs : List (ℕ × ℕ) = c.args.tag.variants.now in
-    let variants : TaggedVariants = tagged_variants_in (types_in ns) vs in
-    let i : ℕ = c.loop-i.i in
-    let own : Parts = own_fields (placed_at ns (get_or vs i (0, 0)).1) in
-    let holds : Type 0 = HoldCellsOfParts order own (cells_at w c.args.tag.at c.args.tag.size) in
-    let names : Names c.args.tag.encoding.now c.args.tag.width variants c.args.number i =
-    subst (λ z. Names c.args.tag.encoding.now z variants c.args.number i) c.from_bytes-width.ensures c.if-is_named.ensures in
-    let held : holds = subst (Judges holds (IsWrongIn order w (Some i) own c.args.tag.at)) c.in-None.is c.in_ok-wrong.ensures in
-    beside_held c.args.walk.order c.args.tag.encoding.now (types_in c.args.walk.nodes.now) c.args.tag.variants.now c.args.walk.cells.now c.args.tag.at c.args.tag.size c.args.tag.offset c.args.tag.width c.args.number c.requires.made i (0, 0) c.requires.inside c.requires.fits c.loop-i-test.true names held
+    let names : IsNamedBy c.args.walk c.args.tag c.args.number c.args.tag.width c.loop-i.i = subst (λ z. IsNamedBy c.args.walk c.args.tag c.args.number z c.loop-i.i) c.from_bytes-width.ensures c.if-is_named.ensures in
+    let held : JudgesOwn c.args.walk c.args.tag c.loop-i.i None = subst (JudgesOwn c.args.walk c.args.tag c.loop-i.i) c.in-None.is c.in_ok-wrong.ensures in
+    beside_held c.args.walk.order c.args.tag.encoding.now (types_in c.args.walk.nodes.now) c.args.tag.variants.now c.args.walk.cells.now c.args.tag.at c.args.tag.size c.args.tag.offset c.args.tag.width c.args.number c.requires.made c.loop-i.i (0, 0) c.requires.tag.inside c.requires.tag.fits c.loop-i-test.true names held
 
 pub named_wrong-loop-i-preserved : goal.named_wrong-loop-i-preserved
 named_wrong-loop-i-preserved t c =
-    let ns = c.args.walk.nodes.now in
-    let order = c.args.walk.order in
-    let w : List Cell = c.args.walk.cells.now in
-    let vs : List (ℕ × ℕ) = c.args.tag.variants.now in
-    let variants : TaggedVariants = tagged_variants_in (types_in ns) vs in
-    let i : ℕ = c.loop-i.i in
-    let own : Parts = own_fields (placed_at ns (get_or vs i (0, 0)).1) in
-    let holds : Type 0 = HoldCellsOfParts order own (cells_at w c.args.tag.at c.args.tag.size) in
     elim c.if-is_named.branch [
       | named_wrong-then-is_named+in_ok-wrong+in-Some v ↦ (
-          let names : Names c.args.tag.encoding.now c.args.tag.width variants c.args.number i =
-          subst (λ z. Names c.args.tag.encoding.now z variants c.args.number i) c.from_bytes-width.ensures v.if-is_named.ensures in
-          let wrong : Judges holds (IsWrongIn order w (Some i) own c.args.tag.at) (Some v.in-Some.wrong) = subst (Judges holds (IsWrongIn order w (Some i) own c.args.tag.at)) v.in-Some.is v.in_ok-wrong.ensures in
-          judged_wrong c.args.walk.order c.args.tag.encoding.now (types_in c.args.walk.nodes.now) c.args.tag.variants.now c.args.walk.cells.now c.args.tag.at c.args.tag.size c.args.tag.offset c.args.tag.width c.args.number c.requires.made i (0, 0) c.loop-i.found c.if-is_named.found v.in-Some.wrong c.loop-i-test.true names v.found-is wrong c.loop-i.invariant
+          let names : IsNamedBy c.args.walk c.args.tag c.args.number c.args.tag.width c.loop-i.i = subst (λ z. IsNamedBy c.args.walk c.args.tag c.args.number z c.loop-i.i) c.from_bytes-width.ensures v.if-is_named.ensures in
+          let wrong : JudgesOwn c.args.walk c.args.tag c.loop-i.i (Some v.in-Some.wrong) = subst (JudgesOwn c.args.walk c.args.tag c.loop-i.i) v.in-Some.is v.in_ok-wrong.ensures in
+          judged_wrong c.args.walk.order c.args.tag.encoding.now (types_in c.args.walk.nodes.now) c.args.tag.variants.now c.args.walk.cells.now c.args.tag.at c.args.tag.size c.args.tag.offset c.args.tag.width c.args.number c.requires.made c.loop-i.i (0, 0) c.loop-i.found c.if-is_named.found v.in-Some.wrong c.loop-i-test.true names v.found-is wrong c.loop-i.invariant
           )
       | named_wrong-else-is_named v ↦ (
-          let other : Names c.args.tag.encoding.now c.args.tag.width variants c.args.number i → ⊥ =
-          subst (λ z. Names c.args.tag.encoding.now z variants c.args.number i → ⊥) c.from_bytes-width.ensures v.if-is_named.ensures in
-          judged_more c.args.walk.order c.args.tag.encoding.now (types_in c.args.walk.nodes.now) c.args.tag.variants.now c.args.walk.cells.now c.args.tag.at c.args.tag.size c.args.tag.offset c.args.tag.width c.args.number i c.loop-i.found c.if-is_named.found v.found-is other c.loop-i.invariant
+          let other : IsNamedBy c.args.walk c.args.tag c.args.number c.args.tag.width c.loop-i.i → ⊥ = subst (λ z. IsNamedBy c.args.walk c.args.tag c.args.number z c.loop-i.i → ⊥) c.from_bytes-width.ensures v.if-is_named.ensures in
+          judged_more c.args.walk.order c.args.tag.encoding.now (types_in c.args.walk.nodes.now) c.args.tag.variants.now c.args.walk.cells.now c.args.tag.at c.args.tag.size c.args.tag.offset c.args.tag.width c.args.number c.loop-i.i c.loop-i.found c.if-is_named.found v.found-is other c.loop-i.invariant
           )
     ]
 
 pub named_wrong-returns-in-Some-found : goal.named_wrong-returns-in-Some-found
 named_wrong-returns-in-Some-found t c =
-    let ns = c.args.walk.nodes.now in
-    let order = c.args.walk.order in
-    let w : List Cell = c.args.walk.cells.now in
-    let vs : List (ℕ × ℕ) = c.args.tag.variants.now in
-    let variants : TaggedVariants = tagged_variants_in (types_in ns) vs in
-    let i : ℕ = c.loop-i.i in
-    let own : Parts = own_fields (placed_at ns (get_or vs i (0, 0)).1) in
-    let holds : Type 0 = HoldCellsOfParts order own (cells_at w c.args.tag.at c.args.tag.size) in
-    let judged = subst (AreJudged c.args.walk.order c.args.tag.encoding.now (types_in c.args.walk.nodes.now) c.args.tag.variants.now c.args.walk.cells.now c.args.tag.at c.args.tag.size c.args.tag.offset c.args.tag.width c.args.number i) c.in-Some-found.is c.loop-i.invariant in
-    (beside_unheld c.args.walk.order c.args.tag.encoding.now (types_in c.args.walk.nodes.now) c.args.tag.variants.now c.args.walk.cells.now c.args.tag.at c.args.tag.size c.args.tag.offset c.args.tag.width c.args.number c.requires.made i c.loop-i.found c.requires.inside c.loop-i-test.false c.loop-i.invariant, inr judged.1)
+    let judged = subst (AreJudged c.args.walk.order c.args.tag.encoding.now (types_in c.args.walk.nodes.now) c.args.tag.variants.now c.args.walk.cells.now c.args.tag.at c.args.tag.size c.args.tag.offset c.args.tag.width c.args.number c.loop-i.i) c.in-Some-found.is c.loop-i.invariant in
+    (beside_unheld c.args.walk.order c.args.tag.encoding.now (types_in c.args.walk.nodes.now) c.args.tag.variants.now c.args.walk.cells.now c.args.tag.at c.args.tag.size c.args.tag.offset c.args.tag.width c.args.number c.requires.made c.loop-i.i c.loop-i.found c.requires.tag.inside c.loop-i-test.false c.loop-i.invariant, inr judged.1)
 
 pub named_wrong-returns-in_ok-tag_wrong-in-None-found : goal.named_wrong-returns-in_ok-tag_wrong-in-None-found
 named_wrong-returns-in_ok-tag_wrong-in-None-found t c =
-    let ns = c.args.walk.nodes.now in
-    let order = c.args.walk.order in
-    let w : List Cell = c.args.walk.cells.now in
-    let vs : List (ℕ × ℕ) = c.args.tag.variants.now in
-    let variants : TaggedVariants = tagged_variants_in (types_in ns) vs in
-    let i : ℕ = c.loop-i.i in
-    let own : Parts = own_fields (placed_at ns (get_or vs i (0, 0)).1) in
-    let holds : Type 0 = HoldCellsOfParts order own (cells_at w c.args.tag.at c.args.tag.size) in
-    let judged = subst (AreJudged c.args.walk.order c.args.tag.encoding.now (types_in c.args.walk.nodes.now) c.args.tag.variants.now c.args.walk.cells.now c.args.tag.at c.args.tag.size c.args.tag.offset c.args.tag.width c.args.number i) c.in-None-found.is c.loop-i.invariant in (
-      beside_unheld c.args.walk.order c.args.tag.encoding.now (types_in c.args.walk.nodes.now) c.args.tag.variants.now c.args.walk.cells.now c.args.tag.at c.args.tag.size c.args.tag.offset c.args.tag.width c.args.number c.requires.made i c.loop-i.found c.requires.inside c.loop-i-test.false c.loop-i.invariant,
-      tag_found order c.args.tag.encoding.now variants w c.args.tag.at c.args.tag.offset c.args.tag.width (NoVariant c.args.number) c.in_ok-tag_wrong-in-None-found.field-0
-          c.in_ok-tag_wrong-in-None-found.ensures.way c.in_ok-tag_wrong-in-None-found.ensures.part
-          (none_named c.args.walk.order c.args.tag.encoding.now (types_in c.args.walk.nodes.now) c.args.tag.variants.now c.args.walk.cells.now c.args.tag.at c.args.tag.size c.args.tag.offset c.args.tag.width c.args.number c.requires.made i c.loop-i-test.false judged.1),
+    let judged = subst (AreJudged c.args.walk.order c.args.tag.encoding.now (types_in c.args.walk.nodes.now) c.args.tag.variants.now c.args.walk.cells.now c.args.tag.at c.args.tag.size c.args.tag.offset c.args.tag.width c.args.number c.loop-i.i) c.in-None-found.is c.loop-i.invariant in (
+      beside_unheld c.args.walk.order c.args.tag.encoding.now (types_in c.args.walk.nodes.now) c.args.tag.variants.now c.args.walk.cells.now c.args.tag.at c.args.tag.size c.args.tag.offset c.args.tag.width c.args.number c.requires.made c.loop-i.i c.loop-i.found c.requires.tag.inside c.loop-i-test.false c.loop-i.invariant,
+      tag_found c.args.walk.order c.args.tag.encoding.now (variants_in c.args.walk c.args.tag) c.args.walk.cells.now c.args.tag.at c.args.tag.offset c.args.tag.width (NoVariant c.args.number) c.in_ok-tag_wrong-in-None-found.field-0
+          c.in_ok-tag_wrong-in-None-found.ensures.way c.in_ok-tag_wrong-in-None-found.ensures.part (none_named c.args.walk.order c.args.tag.encoding.now (types_in c.args.walk.nodes.now) c.args.tag.variants.now c.args.walk.cells.now c.args.tag.at c.args.tag.size c.args.tag.offset c.args.tag.width c.args.number c.requires.made c.loop-i.i c.loop-i-test.false judged.1),
     )
 
 pub variants_wrong-returns-in_ok-tag_wrong-in-Err : goal.variants_wrong-returns-in_ok-tag_wrong-in-Err
@@ -435,7 +347,7 @@ variants_wrong-returns-in_ok-tag_wrong-in-Err t c =
     let order = c.args.walk.order in
     let w : List Cell = c.args.walk.cells.now in
     let variants : TaggedVariants = tagged_variants_in (types_in c.args.walk.nodes.now) c.args.tag.variants.now in (
-      λ h. tag_unset order c.args.tag.encoding.now variants w c.args.tag.at c.args.tag.size c.args.tag.offset c.args.tag.width c.in-Err.place h.0 c.requires.inside c.in-Err.ensures.made h.1,
+      λ h. tag_unset order c.args.tag.encoding.now variants w c.args.tag.at c.args.tag.size c.args.tag.offset c.args.tag.width c.in-Err.place h.0 c.requires.tag.inside c.in-Err.ensures.made h.1,
       tag_found order c.args.tag.encoding.now variants w c.args.tag.at c.args.tag.offset c.args.tag.width (Unset c.in-Err.place) c.in_ok-tag_wrong-in-Err.field-0
           c.in_ok-tag_wrong-in-Err.ensures.way c.in_ok-tag_wrong-in-Err.ensures.part c.in-Err.ensures.made,
     )

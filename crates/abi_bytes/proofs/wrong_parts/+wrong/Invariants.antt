@@ -1,11 +1,11 @@
 use Rattle.std.proofs.Common.{◌≡◌, ◌+◌, ◌*◌, ◌<◌, ℕ}
 use Rattle.std.specs.Prelude.{MatchOption}
-use Rattle.abi_tree.specs.Nodes.{placed_at, tagged_variants_in, types_in}
+use Rattle.abi_tree.specs.Nodes.{placed_at}
 use Rattle.abi_tree.specs.Placed.{size_of}
 use Rattle.abi_tree.specs.Tag.{Names}
 use Rattle.abi_bytes.specs.Formulas.{HoldBetween}
 use Rattle.abi_bytes.specs.Holding.{HoldCells, HoldCellsOfVariant, cells_at}
-use Rattle.abi_bytes.specs.NotHeld.{IsWrongNamed}
+use Rattle.abi_bytes.specs.WrongParts.{IsWrongNamed, variants_in}
 use Rattle.abi_bytes.proofs.wrong_parts.+wrong.Given as goal
 
 abbrev pub decreases-named_wrong : goal.decreases-named_wrong
@@ -49,7 +49,7 @@ invariant-parts_wrong-loop-i l =
 -- no variant before the i-th is named and held; what was found is of one that is named
 abbrev pub invariant-named_wrong-loop-i : goal.invariant-named_wrong-loop-i
 invariant-named_wrong-loop-i l =
-    let variants = tagged_variants_in (types_in l.walk.nodes.now) l.tag.variants.now in
+    let variants = variants_in l.walk l.tag in
     ((j : ℕ) → j < l.i → Names l.tag.encoding.now l.tag.width variants l.number j →
     HoldCellsOfVariant l.walk.order variants j (cells_at l.walk.cells.now l.tag.at l.tag.size) → ⊥)
     × MatchOption l.found
