@@ -108,12 +108,21 @@ fn is_tag(step: Option<&Step>) -> bool {
     }
 }
 
-/// Writes which part it is: `field a.b`, `element [2].b`, `tag`, `field a tag`, or `number` where it is the type itself.
+/// What a type itself is called, where it isn't held for this reason.
+fn whole_of(why: Why) -> &'static str {
+    match why {
+        Why::NoValue => "type",
+        _ => "number",
+    }
+}
+
+/// Writes which part it is: `field a.b`, `element [2].b`, `tag`, `field a tag`, or `whole` where it is the type itself.
 fn write_part(
     alloc: Global,
     out: &mut String,
     ty: ShownType<'_>,
     way: &[Step],
+    whole: &str,
 ) -> Result<(), AllocError> {
     let mut path = String::new(alloc);
     let mut part = Some(0usize);
@@ -122,7 +131,7 @@ fn write_part(
     }
     let is_tag = is_tag(way.last());
     if path.is_empty() {
-        return out.push_str(if is_tag { "tag" } else { "number" });
+        return out.push_str(if is_tag { "tag" } else { whole });
     }
     let word = if path.as_str().starts_with("[") {
         "element"
@@ -300,7 +309,7 @@ pub(crate) fn write_reasons(
         return Ok(());
     };
     let NotHeld { way, part } = found;
-    write_part(alloc, out, second, &way)?;
+    write_part(alloc, out, second, &way, whole_of(part.why))?;
     write_why(out, part)?;
     match part.why {
         Why::Unset(cell) => {
