@@ -7,7 +7,7 @@ use abi_bytes::{NotHeld, Step, Why, WrongPart, why_not_held};
 use abi_rust::{NamedPart, PartFields};
 use abi_scalar::Scalar;
 use abi_tree::{Laid, Value, read_value};
-use rust_source::{FieldName, Names};
+use rust_source::{FieldName, Names, Symbol};
 use std::alloc::{AllocError, Global};
 
 /// A type, laid out, and the names of its parts.
@@ -24,16 +24,23 @@ impl<'a> ShownType<'a> {
         self.parts.get(part?)?.lists.get(variant)
     }
 
-    /// The name of a variant of the type; empty where it isn't known.
-    fn variant_name(self, part: Option<usize>, variant: usize) -> &'a str {
-        match self.fields(part, variant) {
-            Some(fields) => match fields.variant {
-                Some(name) => self.names.text(name),
-                None => "",
-            },
-            None => "",
+    /// Writes the name of a variant of a part, or its index where that isn't known.
+    fn write_variant(
+        self,
+        out: &mut String,
+        part: Option<usize>,
+        variant: usize,
+    ) -> Result<(), AllocError> {
+        match name_in(self.fields(part, variant)) {
+            Some(name) => out.push_str(self.names.text(name)),
+            None => write!(out, "{variant}"),
         }
     }
+}
+
+/// The name of the variant that fields are of.
+fn name_in(fields: Option<&PartFields>) -> Option<Symbol> {
+    fields?.variant
 }
 
 /// A field's name, and the number of its part; None where they aren't known.
@@ -79,7 +86,7 @@ fn write_step(
             if !path.is_empty() {
                 path.push_str(".")?;
             }
-            path.push_str(ty.variant_name(part, variant))?;
+            ty.write_variant(path, part, variant)?;
             let field = field_at(ty.fields(part, variant), index);
             write_field(path, ty.names, field, index)
         }
@@ -274,11 +281,9 @@ impl HeldCells<'_> {
             return Ok(());
         };
         if let Some((start, end)) = run_with(runs.as_slice(), place) {
-            let name = self.ty.variant_name(Some(0), variant);
-            write!(
-                out,
-                "variant {name} unused {start}..{end} is never written\n"
-            )?;
+            out.push_str("variant ")?;
+            self.ty.write_variant(out, Some(0), variant)?;
+            write!(out, " unused {start}..{end} is never written\n")?;
         }
         Ok(())
     }
