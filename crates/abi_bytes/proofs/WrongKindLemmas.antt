@@ -1,5 +1,5 @@
 -- Why cells don't hold a node, by what it consists of.
-use Rattle.std.proofs.Common.{None, Some, ◌≡◌, ◌⊎◌, ℕ, ◌+◌, ◌*◌, ◌<◌, ◌≤◌, List, [], ◌∷◌, length, get_or, true, arith, refl, sym, ap, ◌∙◌, subst, ⊎_elim}
+use Rattle.std.proofs.Common.{None, Some, ◌≡◌, ◌⊎◌, ℕ, ◌+◌, ◌*◌, ◌<◌, ◌≤◌, List, [], length, get_or, true, refl, sym, ap, ◌∙◌, subst, ⊎_elim}
 use Rattle.std.specs.Prelude.{◌&&◌, Option, Vec, nat_le}
 use Rattle.std.specs.declared.alloc.Global.{Global}
 use Rattle.std.proofs.lemmas.Bool.{and_parts, leb-true}
@@ -12,9 +12,9 @@ use Rattle.abi_scalar.specs.declared.variants.TagEncoding.{TagEncoding}
 use Rattle.abi_scalar.specs.declared.variants.TagEncoding.TheVariants.{Direct}
 use Rattle.abi_tree.specs.declared.mark.Mark.{Mark}
 use Rattle.abi_tree.specs.declared.node.Node.{Node}
-use Rattle.abi_tree.specs.declared.node.Shape.TheVariants.{Scalar as Number, Pair, Never, Elements, Fields, Union, Vector, Single, Tagged, States}
+use Rattle.abi_tree.specs.declared.node.Shape.TheVariants.{Scalar as Number, Never, Elements, Fields, Union, Vector, Single, Tagged, States}
 use Rattle.abi_tree.specs.Nodes.{encoding_of, parts_at, parts_at_0, placed_at, state_tag_offset, states_in, tag_offset, tagged_variants_in, types_in, variant_left}
-use Rattle.abi_tree.specs.Placed.{Placed, Parts, TaggedVariants, scalar, pair, never, elements, vector, fields, union, single, tagged, states, size_of}
+use Rattle.abi_tree.specs.Placed.{Placed, Parts, TaggedVariants, scalar, never, elements, vector, fields, union, single, tagged, size_of}
 use Rattle.abi_tree.specs.Room.{has_room, have_room, tagged_variants_have_room}
 use Rattle.abi_tree.specs.Well.{all_at, are_nodes}
 use Rattle.abi_tree.proofs.Meaning.NodesLemmas.{layout_of-placed_at, placed_at-node}
@@ -23,7 +23,6 @@ use Rattle.abi_bytes.specs.Holding.{AreEach, HoldCells, HoldCellsOfParts, HoldSc
 use Rattle.abi_bytes.specs.NotHeld.{IsWhyNumber, IsWrong}
 use Rattle.abi_bytes.specs.WrongParts.{HoldBeside, IsWrongBeside, IsWrongElement, IsWrongIn, Judges}
 use Rattle.abi_bytes.specs.declared.not_held.NotHeld.{NotHeld}
-use Rattle.abi_bytes.specs.declared.not_held.Step.{Step}
 use Rattle.abi_bytes.specs.declared.not_held.Why.{Why}
 use Rattle.abi_bytes.specs.declared.not_held.Why.TheVariants.{NoValue}
 use Rattle.abi_bytes.specs.declared.not_held.WrongPart.{WrongPart}

@@ -1,5 +1,5 @@
 -- Why cells don't hold a type: parts at their places among the cells of the whole.
-use Rattle.std.proofs.Common.{Some, None, ◌≡◌, ◌⊎◌, ℕ, zero, suc, ◌+◌, ◌-◌, ◌*◌, ◌<◌, ◌≤◌, List, [], ◌∷◌, All, length, map, min, take, drop, get_or, arith, refl, sym, ap, ◌∙◌, subst, inl, inr, ⊎_elim, length-take, length-drop}
+use Rattle.std.proofs.Common.{Some, None, ◌≡◌, ◌⊎◌, ℕ, zero, suc, ◌+◌, ◌-◌, ◌*◌, ◌<◌, ◌≤◌, List, [], ◌∷◌, All, length, map, min, take, drop, get_or, arith, refl, sym, ap, ◌∙◌, subst, inr, ⊎_elim, length-take, length-drop}
 use Rattle.std.specs.Prelude.{IfSome, Option, is_some, true}
 use Rattle.std.proofs.lemmas.Bool.{cases_lt, false≢true}
 use Rattle.std.proofs.Math.Nat.{mul-le-mul_left, suc-mul}

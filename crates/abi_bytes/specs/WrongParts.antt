@@ -7,7 +7,6 @@ use Rattle.abi_tree.specs.Nodes.{parts_at, tagged_variants_in, types_in}
 use Rattle.abi_tree.specs.Placed.{Parts, Placed, TaggedVariants, size_of}
 use Rattle.abi_tree.specs.Room.{have_room, tagged_variants_have_room}
 use Rattle.abi_tree.specs.Well.{all_at}
-use Rattle.abi_tree.specs.declared.node.Node.{Node}
 use Rattle.abi_bytes.specs.Holding.{HoldCells, HoldCellsOfParts, HoldCellsOfVariant, HoldTag, cells_at}
 use Rattle.abi_bytes.specs.NotHeld.{IsPartAt, IsWhyTag, IsWrong, IsWrongField, IsWrongVariantField, NamesAt}
 use Rattle.abi_bytes.specs.declared.cell_walk.CellWalk.{CellWalk}

@@ -1,32 +1,21 @@
-use Rattle.std.proofs.Common.{None, Some, ◌≡◌, ◌⊎◌, ℕ, ◌+◌, ◌*◌, ◌<◌, ◌≤◌, List, [], ◌∷◌, length, get_or, true, All, arith, refl, sym, ap, ◌∙◌, subst, inl, inr, ⊎_elim}
-use Rattle.std.specs.Prelude.{Option}
-use Rattle.std.proofs.lemmas.Bool.{cases_lt}
-use Rattle.std.proofs.lemmas.List.{get_or_default}
+use Rattle.std.proofs.Common.{None, Some, ◌≡◌, ◌⊎◌, ℕ, ◌+◌, ◌*◌, ◌<◌, ◌≤◌, List, length, get_or, true, All, arith, refl, sym, ap, ◌∙◌, subst, inl, inr}
 use Rattle.std.proofs.lemmas.Result.{IfOk-weaker}
 use Rattle.automata.specs.Cell.{Cell}
 use Rattle.abi_scalar.specs.Layout.{Layout}
 use Rattle.abi_scalar.specs.Shape.{listed_offsets}
-use Rattle.abi_scalar.specs.declared.variants.TagEncoding.{TagEncoding}
-use Rattle.abi_scalar.specs.declared.variants.TagEncoding.TheVariants.{Direct}
-use Rattle.abi_tree.specs.Nodes.{encoding_of, own_fields, parts_at, placed_at, state_tag_offset, states_in, tag_offset, tagged_variants_in, types_in}
-use Rattle.abi_tree.specs.Placed.{Placed, Parts, TaggedVariants, size_of}
-use Rattle.abi_tree.specs.Room.{has_room, have_room, tagged_variants_have_room}
-use Rattle.abi_tree.specs.Tag.{Names}
+use Rattle.abi_tree.specs.Nodes.{encoding_of, parts_at, placed_at, state_tag_offset, tag_offset, tagged_variants_in, types_in}
+use Rattle.abi_tree.specs.Placed.{Placed, TaggedVariants, size_of}
+use Rattle.abi_tree.specs.Room.{have_room, tagged_variants_have_room}
 use Rattle.abi_tree.specs.Well.{all_at}
 use Rattle.abi_tree.specs.Widths.{is_narrow}
 use Rattle.abi_tree.proofs.Meaning.WidthLemmas.{narrow_at, state_tag_width_at, tag_width_at}
-use Rattle.abi_tree.proofs.Places.DataPlacesLemmas.{elements_node, field_at, fields_node, pair_node, single_node, states_node, tagged_node, tagged_variant_room, vector_node}
-use Rattle.abi_bytes.specs.Formulas.{HoldAt, HoldBetween}
-use Rattle.abi_bytes.specs.Holding.{HoldCells, HoldCellsOfParts, HoldCellsOfVariant, cells_at}
+use Rattle.abi_tree.proofs.Places.DataPlacesLemmas.{elements_node, fields_node, pair_node, single_node, states_node, tagged_node, tagged_variant_room, vector_node}
+use Rattle.abi_bytes.specs.Holding.{HoldCells, cells_at}
 use Rattle.abi_bytes.specs.NotHeld.{IsWrong}
 use Rattle.abi_bytes.specs.WrongParts.{Judges, variants_in}
-use Rattle.abi_bytes.specs.declared.not_held.NotHeld.{NotHeld}
-use Rattle.abi_bytes.specs.declared.not_held.Step.{Step}
 use Rattle.abi_bytes.specs.declared.not_held.Why.TheVariants.{NoVariant, Unset}
-use Rattle.abi_bytes.specs.declared.not_held.WrongPart.{WrongPart}
 use Rattle.abi_bytes.proofs.PartLemmas.{parts_by_index}
-use Rattle.abi_bytes.proofs.VariantLemmas.{variant_at, variant_there}
-use Rattle.abi_bytes.proofs.WrongKindLemmas.{beside_like, elements_judged, fields_judged, lanes-inside, never_judged, node_judged, parts_like, scalar_judged, scalar_wrong, single_judged, size-fits, size-node, states-inside, states_judged, states_like, tagged_judged, union_judged, vector_judged}
+use Rattle.abi_bytes.proofs.WrongKindLemmas.{beside_like, elements_judged, fields_judged, lanes-inside, never_judged, node_judged, parts_like, scalar_judged, scalar_wrong, single_judged, size-node, states-inside, states_judged, states_like, tagged_judged, union_judged, vector_judged}
 use Rattle.abi_bytes.proofs.WrongLemmas.{element_wrong, elements_held, field_here, fields_more, fields_wrong, found_at, tag_unset, type_none}
 use Rattle.abi_bytes.proofs.WrongNamedLemmas.{AreJudged, IsNamedBy, JudgesOwn, beside_held, beside_unheld, judged_more, judged_wrong, none_named, tag_found}
 use Rattle.abi_bytes.proofs.wrong_parts.+wrong.Goals.{elements_wrong-then-size-eq0, elements_wrong-else-size-eq0, named_wrong-then-is_named+in_ok-wrong+in-Some, named_wrong-else-is_named}

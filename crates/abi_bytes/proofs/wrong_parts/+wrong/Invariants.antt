@@ -1,4 +1,4 @@
-use Rattle.std.proofs.Common.{◌≡◌, ◌+◌, ◌*◌, ◌<◌, ℕ}
+use Rattle.std.proofs.Common.{◌+◌, ◌*◌, ◌<◌, ℕ}
 use Rattle.std.specs.Prelude.{MatchOption}
 use Rattle.abi_tree.specs.Nodes.{placed_at}
 use Rattle.abi_tree.specs.Placed.{size_of}

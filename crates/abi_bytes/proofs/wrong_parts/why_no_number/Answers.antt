@@ -1,7 +1,6 @@
-use Rattle.std.proofs.Common.{◌≡◌, ◌≤◌, sym, ◌∙◌}
-use Rattle.std.specs.Prelude.{true}
+use Rattle.std.proofs.Common.{sym, ◌∙◌}
 use Rattle.std.proofs.lemmas.Bool.{false≢true}
-use Rattle.abi_scalar.specs.Range.{AreWithin, IsIn}
+use Rattle.abi_scalar.specs.Range.{IsIn}
 use Rattle.abi_scalar.specs.Scalar.{IsNumberOf}
 use Rattle.std.proofs.Common.{subst}
 use Rattle.abi_bytes.proofs.NodeLemmas.{narrow_within}
