@@ -26,7 +26,8 @@ use Rattle.abi_bytes.specs.Filling.{AreSet}
 use Rattle.abi_bytes.specs.GoesInto.{Stored}
 use Rattle.abi_bytes.specs.Formulas.{HoldAt, HoldBetween}
 use Rattle.abi_bytes.specs.Holding.{AreAt, AreEach, HoldCells, HoldCellsOfParts, HoldScalar, HoldTag, MakeNumber, cells_at}
-use Rattle.abi_bytes.specs.NotHeld.{IsFirstUnset, IsWhyNotHeld, IsWrong, IsWrongField, MakeAt, number_in}
+use Rattle.abi_bytes.specs.NotHeld.{IsFirstUnset, IsWhyNotHeld, IsWhyNumber, IsWrong, IsWrongField, MakeAt, number_in}
+use Rattle.abi_bytes.specs.declared.not_held.Why.TheVariants.{OutOfRange, Unset}
 use Rattle.abi_bytes.specs.WrongParts.{Judges, JudgesParts, JudgesType, field_step, fields_in}
 use Rattle.abi_bytes.specs.declared.cell_walk.CellWalk.{CellWalk}
 use Rattle.abi_bytes.specs.declared.wrong_parts.PartsAt.{PartsAt}
@@ -126,6 +127,12 @@ module _ (order : Endian) (s : Scalar) (value : Primitive) (range : WrappingRang
 
   pub scalar_unset : (k : ℕ) → IsFirstUnset w at n k → IsHeld s → ⊥
   scalar_unset k first h = unset_number order (IsIn n range) w at n k first (subst IsHeld is h)
+
+  pub why_outside : (number : ℕ) (of : Scalar) → of ≡ s → MakeAt order w at n number → (IsIn n range number → ⊥) → IsWhyNumber order w s at n (OutOfRange number of)
+  why_outside number of same made outside = subst (λ x. IsWhyNumber order w x at n (OutOfRange number of)) (sym is) (same ∙ is, made, outside)
+
+  pub why_unset : (k : ℕ) → IsFirstUnset w at n k → IsWhyNumber order w s at n (Unset k)
+  why_unset k first = subst (λ x. IsWhyNumber order w x at n (Unset k)) (sym is) first
 
 -- ---- elements, by their index
 

@@ -2,8 +2,9 @@
 use Rattle.std.specs.Prelude.{◌≡◌, ◌≢◌, ◌⊎◌, ℕ, zero, suc, ◌+◌, ◌*◌, ◌<◌, List, [], ◌∷◌, None, Some, length, map, slice_get, ⊤}
 use Rattle.automata.specs.Cell.{Cell}
 use Rattle.abi_base.specs.declared.endian.Endian.{Endian}
-use Rattle.abi_scalar.specs.Scalar.{IsNumberOf}
+use Rattle.abi_scalar.specs.Range.{IsIn}
 use Rattle.abi_scalar.specs.declared.scalar.Scalar.{Scalar}
+use Rattle.abi_scalar.specs.declared.scalar.Scalar.TheVariants.{Initialized}
 use Rattle.abi_scalar.specs.declared.variants.TagEncoding.{TagEncoding}
 use Rattle.abi_scalar.specs.declared.variants.TagEncoding.TheVariants.{Direct}
 use Rattle.abi_tree.specs.Bytes.{number_of}
@@ -50,10 +51,10 @@ module _ (order : Endian) where
     abbrev pub MakeAt : (at n number : ℕ) → Type 0
     MakeAt at n number = AreSet (cells_at w at n) × (number ≡ number_in (cells_at w at n))
 
-    -- one of a scalar's cells isn't set, or they make a number that isn't one of its own
+    -- one of the cells of a scalar, which may not be uninitialised, isn't set, or they make a number outside of its range
     abbrev pub IsWhyNumber : Scalar → (at n : ℕ) → Why → Type 0
-    IsWhyNumber s at n (Unset k) = IsFirstUnset w at n k
-    IsWhyNumber s at n (OutOfRange number of) = (of ≡ s) × MakeAt at n number × (IsNumberOf n s number → ⊥)
+    IsWhyNumber (Initialized value range) at n (Unset k) = IsFirstUnset w at n k
+    IsWhyNumber (Initialized value range) at n (OutOfRange number of) = (of ≡ Initialized value range) × MakeAt at n number × (IsIn n range number → ⊥)
     IsWhyNumber s at n why = ⊥
 
     -- one of a tag's cells isn't set, or they make a number that names none of the variants

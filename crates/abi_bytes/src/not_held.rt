@@ -60,8 +60,8 @@ pub struct NotHeld {
     pub part: WrongPart,
 }
 
-/// Why cells, bytes or nothing where none is initialised, don't hold a type: a part that they don't hold, the first in the order
-/// of fields and elements, with the way to it and its place. `None` where they hold it. `AllocError` where memory is refused.
+/// Why cells, bytes or nothing where none is initialised, don't hold a type: a part of it that they don't hold, with the way to it,
+/// its place, and the reason. `None` where they hold it. `AllocError` where memory is refused.
 pub fn why_not_held(
     alloc: Global,
     laid: &Laid,
