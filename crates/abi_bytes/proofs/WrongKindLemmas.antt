@@ -83,7 +83,7 @@ module _ (order : Endian) (w : List Cell) (at : ℕ) where
     JudgesStates os cs vs offset n size found =
         Judges
         (HoldCellsOfParts order (parts_at os (all_at ns cs)) (cells_at w at size) × HoldBeside order Direct (tagged_variants_in (types_in ns) vs) offset n (cells_at w at size))
-        (λ way wrong. IsWrongIn order w None (parts_at os (all_at ns cs)) at way wrong ⊎ IsWrongBeside order w Direct (tagged_variants_in (types_in ns) vs) at offset n way wrong)
+        (λ way wrong. IsWrongIn order w None (parts_at os (all_at ns cs)) at way wrong ⊎ (HoldCellsOfParts order (parts_at os (all_at ns cs)) (cells_at w at size) × IsWrongBeside order w Direct (tagged_variants_in (types_in ns) vs) at offset n way wrong))
         found
 
     pub states_like : (os us cs ds : List ℕ) (vs xs : List (ℕ × ℕ)) (o p n m s z : ℕ) (found : Option NotHeld) → os ≡ us → cs ≡ ds → vs ≡ xs → o ≡ p → n ≡ m → s ≡ z →
@@ -156,7 +156,7 @@ module _ (order : Endian) (w : List Cell) (at : ℕ) where
         node_judged p facts.1 found
         (judged_like (each (size_of q * count)) (HoldCells order p own_cells) (IsWrongElement order w q at count) (IsWrong order w p at) found
         (λ x. (long, subst each (sym facts.2) x)) (λ x. subst each facts.2 x.1)
-        (λ way wrong y. subst (λ v. IsWrong order w p at v wrong) (sym y.2) (y.3, y.4)) h)
+        (λ way wrong y. subst (λ v. IsWrong order w p at v wrong) (sym y.2) (y.3, y.4, y.5)) h)
 
     pub vector_judged : (lanes : ℕ) → n.shape ≡ Vector lanes → (z : ℕ) → z ≡ n.layout.size → (found : Option NotHeld) →
         ((layout : Layout) → layout.size ≡ z → Judges (HoldCells order (vector layout (placed_at ns lanes)) (cells_at w at z)) (IsWrong order w (vector layout (placed_at ns lanes)) at) found) → IsJudged found
@@ -201,7 +201,7 @@ module _ (order : Endian) (w : List Cell) (at : ℕ) where
         (HoldCellsOfParts order (listed prefix.items) own_cells
         × HoldBeside order Direct (tagged_variants_in (types_in ns) all.items) (state_tag_offset n.layout (length prefix.items)) (size_of (placed_at ns tag)) own_cells)
         (λ way wrong. IsWrongIn order w None (listed prefix.items) at way wrong
-        ⊎ IsWrongBeside order w Direct (tagged_variants_in (types_in ns) all.items) at (state_tag_offset n.layout (length prefix.items)) (size_of (placed_at ns tag)) way wrong) found → IsJudged found
+        ⊎ (HoldCellsOfParts order (listed prefix.items) own_cells × IsWrongBeside order w Direct (tagged_variants_in (types_in ns) all.items) at (state_tag_offset n.layout (length prefix.items)) (size_of (placed_at ns tag)) way wrong)) found → IsJudged found
     states_judged prefix tag all e found h =
         let vs : TaggedVariants = tagged_variants_in (types_in ns) all.items in
         let o : ℕ = state_tag_offset n.layout (length prefix.items) in
@@ -209,12 +209,12 @@ module _ (order : Endian) (w : List Cell) (at : ℕ) where
         let p : Placed = states_in (types_in ns) n.layout prefix.items tag all.items in
         node_judged p (states_node ns well i n lt is room prefix tag all e).3 found
         (judged_like (HoldCellsOfParts order (listed prefix.items) own_cells × HoldBeside order Direct vs o z own_cells) (HoldCells order p own_cells)
-        (λ way wrong. IsWrongIn order w None (listed prefix.items) at way wrong ⊎ IsWrongBeside order w Direct vs at o z way wrong) (IsWrong order w p at) found
+        (λ way wrong. IsWrongIn order w None (listed prefix.items) at way wrong ⊎ (HoldCellsOfParts order (listed prefix.items) own_cells × IsWrongBeside order w Direct vs at o z way wrong)) (IsWrong order w p at) found
         (λ x. (long, x.0, x.1.0, x.1.1, x.1.2)) (λ x. (x.1, (x.2, x.3, x.4)))
         (λ way wrong y.
         ⊎_elim
         (λ t. subst (λ u. IsWrong order w p at u wrong) (sym t.2) t.3)
         (λ b.
         ⊎_elim
-        (λ t. subst (λ u. IsWrong order w p at u wrong) (sym t.0) (refl, t.1, t.2))
-        (λ t. subst (λ u. IsWrong order w p at u wrong) (sym t.3) (t.4, t.5)) b) y) h)
+        (λ t. subst (λ u. IsWrong order w p at u wrong) (sym t.0) (b.0, refl, t.1, t.2))
+        (λ t. subst (λ u. IsWrong order w p at u wrong) (sym t.3) (b.0, t.4, t.5)) b.1) y) h)

@@ -26,7 +26,7 @@ use Rattle.abi_bytes.specs.Filling.{AreSet}
 use Rattle.abi_bytes.specs.GoesInto.{Stored}
 use Rattle.abi_bytes.specs.Formulas.{HoldAt, HoldBetween}
 use Rattle.abi_bytes.specs.Holding.{AreAt, AreEach, HoldCells, HoldCellsOfParts, HoldScalar, HoldTag, MakeNumber, cells_at}
-use Rattle.abi_bytes.specs.NotHeld.{IsFirstUnset, IsWhyNotHeld, IsWhyNumber, IsWrong, IsWrongField, MakeAt, number_in}
+use Rattle.abi_bytes.specs.NotHeld.{IsFirstUnset, IsHeldAt, IsWhyNotHeld, IsWhyNumber, IsWrong, IsWrongField, MakeAt, number_in}
 use Rattle.abi_bytes.specs.declared.not_held.Why.TheVariants.{OutOfRange, Unset}
 use Rattle.abi_bytes.specs.WrongParts.{Judges, JudgesParts, JudgesType, field_step, fields_in}
 use Rattle.abi_bytes.specs.declared.cell_walk.CellWalk.{CellWalk}
@@ -215,11 +215,12 @@ field_here ns os cs count i r d size node many lt is before room =
     (there, below, is ∙ get_or_default os i d 0 there, at.0, at.1, at.2)
 
 pub wrong_field : (order : Endian) (w : List Cell) (ns : List Node) (os cs : List ℕ) (at i : ℕ) (way : List Step) (wrong : WrongPart) → i < length os → i < length cs →
-    IsWrong order w (placed_at ns (get_or cs i 0)) (at + get_or os i 0) way wrong → IsWrongField order w (parts_at os (all_at ns cs)) at i way wrong
-wrong_field order w ns [] cs at i way wrong lt below h = absurd (omega arith)
-wrong_field order w ns (o ∷ os) [] at i way wrong lt below h = absurd (omega arith)
-wrong_field order w ns (o ∷ os) (c ∷ cs) at zero way wrong lt below h = h
-wrong_field order w ns (o ∷ os) (c ∷ cs) at (suc i) way wrong lt below h = wrong_field order w ns os cs at i way wrong (omega (arith, lt)) (omega (arith, below)) h
+    ((k : ℕ) → k < i → IsHeldAt order w (placed_at ns (get_or cs k 0)) (at + get_or os k 0)) → IsWrong order w (placed_at ns (get_or cs i 0)) (at + get_or os i 0) way wrong → IsWrongField order w (parts_at os (all_at ns cs)) at i way wrong
+wrong_field order w ns [] cs at i way wrong lt below before h = absurd (omega arith)
+wrong_field order w ns (o ∷ os) [] at i way wrong lt below before h = absurd (omega arith)
+wrong_field order w ns (o ∷ os) (c ∷ cs) at zero way wrong lt below before h = h
+wrong_field order w ns (o ∷ os) (c ∷ cs) at (suc i) way wrong lt below before h =
+    (before 0 (omega arith), wrong_field order w ns os cs at i way wrong (omega (arith, lt)) (omega (arith, below)) (λ k less. before (suc k) (omega (arith, less))) h)
 
 pub field_unheld : (order : Endian) (w : List Cell) (ns : List Node) (os cs : List ℕ) (at size i : ℕ) → i < length os → i < length cs →
     get_or os i 0 + size_of (placed_at ns (get_or cs i 0)) ≤ size →
@@ -242,15 +243,19 @@ module _ (walk : CellWalk) (parts : PartsAt) (i : ℕ) (inside : get_or parts.of
 
   -- the i-th field isn't held, and neither are they all
   pub fields_wrong : (f g : NotHeld) (step : Step) → i < length parts.offsets.now → i < length parts.children.now → step ≡ field_step parts.variant i → g.way.items ≡ step ∷ f.way.items → g.part ≡ f.part →
-      JudgesType walk field_type field_place (Some f) → JudgesParts walk parts (Some g)
-  fields_wrong f g step lt below named way part h = (
+      parts.at + parts.size ≤ length walk.cells.now → HeldBefore i → JudgesType walk field_type field_place (Some f) → JudgesParts walk parts (Some g)
+  fields_wrong f g step lt below named way part fits before h = (
     field_unheld walk.order walk.cells.now walk.nodes.now parts.offsets.now parts.children.now parts.at parts.size i lt below inside h.0,
     (
       i,
       f.way.items,
       way ∙ ap (λ s. s ∷ f.way.items) named,
       subst (IsWrongField walk.order walk.cells.now (fields_in walk parts) parts.at i f.way.items) (sym part)
-          (wrong_field walk.order walk.cells.now walk.nodes.now parts.offsets.now parts.children.now parts.at i f.way.items f.part lt below h.1),
+          (wrong_field walk.order walk.cells.now walk.nodes.now parts.offsets.now parts.children.now parts.at i f.way.items f.part lt below
+          (λ k less.
+          let at = before k (omega arith) less in
+          out_of_part walk.cells.now parts.at parts.size (get_or parts.offsets.now k 0) (size_of (placed_at walk.nodes.now (get_or parts.children.now k 0))) (HoldCells walk.order (placed_at walk.nodes.now (get_or parts.children.now k 0)))
+          (omega (arith, at.0, length-at walk.cells.now parts.at parts.size fits)) at) h.1),
     ),
   )
 

@@ -1,4 +1,4 @@
--- Why cells don't hold a type: a part of it that they don't hold, and the way to it.
+-- Why cells don't hold a type: the first part of it that they don't hold, and the way to it.
 use Rattle.std.specs.Prelude.{◌≡◌, ◌≢◌, ◌⊎◌, ℕ, zero, suc, ◌+◌, ◌*◌, ◌<◌, List, [], ◌∷◌, None, Some, length, map, slice_get, ⊤}
 use Rattle.automata.specs.Cell.{Cell}
 use Rattle.abi_base.specs.declared.endian.Endian.{Endian}
@@ -13,7 +13,7 @@ use Rattle.abi_tree.specs.Tag.{Names}
 use Rattle.abi_bytes.specs.Answers.{byte_in}
 use Rattle.abi_bytes.specs.Filling.{AreSet}
 use Rattle.abi_bytes.specs.GoesInto.{Stored}
-use Rattle.abi_bytes.specs.Holding.{HoldCells, cells_at}
+use Rattle.abi_bytes.specs.Holding.{HoldCells, HoldCellsOfParts, cells_at}
 use Rattle.abi_bytes.specs.declared.not_held.NotHeld.{NotHeld}
 use Rattle.abi_bytes.specs.declared.not_held.Step.{Step}
 use Rattle.abi_bytes.specs.declared.not_held.Step.TheVariants.{Field, VariantField, Element, Lanes, Tag}
@@ -67,12 +67,21 @@ module _ (order : Endian) where
     abbrev pub NamesAt : TagEncoding ℕ → TaggedVariants → (at n index : ℕ) → Type 0
     NamesAt encoding variants at n i = (number : ℕ) × MakeAt at n number × Names encoding n variants number i
 
+    -- the type that lies at a place is held
+    abbrev pub IsHeldAt : Placed → (at : ℕ) → Type 0
+    IsHeldAt placed at = HoldCells order placed (cells_at w at (size_of placed))
+
+    -- so are the first n elements of those that lie one after another from a place on
+    abbrev pub AreHeld : Placed → (at n : ℕ) → Type 0
+    AreHeld element at n = (k : ℕ) → k < n → IsHeldAt element (at + k * size_of element)
+
     abbrev mutual
-      -- of the type that lies at a place, the part on this way isn't held
+      -- of the type that lies at a place, the part on this way isn't held, and those before it are
       pub IsWrong : Placed → (at : ℕ) → (way : List Step) → WrongPart → Type 0
       IsWrong (scalar layout s) at [] wrong = IsPartAt at layout.size wrong × IsWhyNumber s at layout.size wrong.why
       IsWrong (pair layout parts) at (Field i ∷ way) wrong = IsWrongField parts at i way wrong
-      IsWrong (elements layout count element) at (Element i ∷ way) wrong = (i < count) × IsWrong element (at + i * size_of element) way wrong
+      IsWrong (elements layout count element) at (Element i ∷ way) wrong =
+          (i < count) × AreHeld element at i × IsWrong element (at + i * size_of element) way wrong
       IsWrong (vector layout lanes) at (Lanes ∷ way) wrong = IsWrong lanes at way wrong
       IsWrong (fields layout mark parts) at (Field i ∷ way) wrong = IsWrongField parts at i way wrong
       IsWrong (single layout mark index parts) at (VariantField v i ∷ way) wrong = (v ≡ index) × IsWrongField parts at i way wrong
@@ -82,9 +91,9 @@ module _ (order : Endian) where
           NamesAt encoding variants (at + offset) (size_of tag) v × IsWrongVariantField variants at v i way wrong
       IsWrong (states layout prefix offset tag variants) at (Field i ∷ way) wrong = IsWrongField prefix at i way wrong
       IsWrong (states layout prefix offset tag variants) at (Tag ∷ way) wrong =
-          (way ≡ []) × IsPartAt (at + offset) (size_of tag) wrong × IsWhyTag Direct variants (at + offset) (size_of tag) wrong.why
+          HoldCellsOfParts order prefix (cells_at w at layout.size) × (way ≡ []) × IsPartAt (at + offset) (size_of tag) wrong × IsWhyTag Direct variants (at + offset) (size_of tag) wrong.why
       IsWrong (states layout prefix offset tag variants) at (VariantField v i ∷ way) wrong =
-          NamesAt Direct variants (at + offset) (size_of tag) v × IsWrongVariantField variants at v i way wrong
+          HoldCellsOfParts order prefix (cells_at w at layout.size) × NamesAt Direct variants (at + offset) (size_of tag) v × IsWrongVariantField variants at v i way wrong
       IsWrong placed at [] wrong = IsPartAt at (size_of placed) wrong × (wrong.why ≡ NoValue) × HasNoCells placed
       IsWrong placed at way wrong = ⊥
 
@@ -92,7 +101,7 @@ module _ (order : Endian) where
       pub IsWrongField : Parts → (at index : ℕ) → (way : List Step) → WrongPart → Type 0
       IsWrongField no_parts at i way wrong = ⊥
       IsWrongField (part offset placed parts) at zero way wrong = IsWrong placed (at + offset) way wrong
-      IsWrongField (part offset placed parts) at (suc i) way wrong = IsWrongField parts at i way wrong
+      IsWrongField (part offset placed parts) at (suc i) way wrong = IsHeldAt placed (at + offset) × IsWrongField parts at i way wrong
 
       -- so it is by a field of the variant with this index
       pub IsWrongVariantField : TaggedVariants → (at variant index : ℕ) → (way : List Step) → WrongPart → Type 0

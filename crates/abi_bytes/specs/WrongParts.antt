@@ -8,7 +8,7 @@ use Rattle.abi_tree.specs.Placed.{Parts, Placed, TaggedVariants, size_of}
 use Rattle.abi_tree.specs.Room.{have_room, tagged_variants_have_room}
 use Rattle.abi_tree.specs.Well.{all_at}
 use Rattle.abi_bytes.specs.Holding.{HoldCells, HoldCellsOfParts, HoldCellsOfVariant, HoldTag, cells_at}
-use Rattle.abi_bytes.specs.NotHeld.{IsPartAt, IsWhyTag, IsWrong, IsWrongField, IsWrongVariantField, NamesAt}
+use Rattle.abi_bytes.specs.NotHeld.{AreHeld, IsPartAt, IsWhyTag, IsWrong, IsWrongField, IsWrongVariantField, NamesAt}
 use Rattle.abi_bytes.specs.declared.cell_walk.CellWalk.{CellWalk}
 use Rattle.abi_bytes.specs.declared.not_held.NotHeld.{NotHeld}
 use Rattle.abi_bytes.specs.declared.not_held.Step.{Step}
@@ -34,7 +34,7 @@ module _ (order : Endian) where
 
     -- the way begins with an element, by which it isn't held
     abbrev pub IsWrongElement : Placed → (at count : ℕ) → (way : List Step) → WrongPart → Type 0
-    IsWrongElement element at count way wrong = (i : ℕ) × (rest : List Step) × (way ≡ Element i ∷ rest) × (i < count) × IsWrong order w element (at + i * size_of element) rest wrong
+    IsWrongElement element at count way wrong = (i : ℕ) × (rest : List Step) × (way ≡ Element i ∷ rest) × (i < count) × AreHeld order w element at i × IsWrong order w element (at + i * size_of element) rest wrong
 
     -- the way ends at the tag
     abbrev pub IsWrongTag : TagEncoding ℕ → TaggedVariants → (at n : ℕ) → (way : List Step) → WrongPart → Type 0
@@ -102,4 +102,5 @@ JudgesState walk prefix tag found =
     (HoldCellsOfParts walk.order (fields_in walk prefix) (cells_at walk.cells.now tag.at tag.size)
     × HoldBeside walk.order tag.encoding.now (variants_in walk tag) tag.offset tag.width (cells_at walk.cells.now tag.at tag.size))
     (λ way wrong. IsWrongIn walk.order walk.cells.now None (fields_in walk prefix) tag.at way wrong
-    ⊎ IsWrongBeside walk.order walk.cells.now tag.encoding.now (variants_in walk tag) tag.at tag.offset tag.width way wrong) found
+    ⊎ (HoldCellsOfParts walk.order (fields_in walk prefix) (cells_at walk.cells.now tag.at tag.size)
+    × IsWrongBeside walk.order walk.cells.now tag.encoding.now (variants_in walk tag) tag.at tag.offset tag.width way wrong)) found

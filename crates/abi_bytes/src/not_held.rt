@@ -1,4 +1,4 @@
-//! Why cells don't hold a type: a part of it that they don't hold, and the way to it.
+//! Why cells don't hold a type: the first part of it that they don't hold, and the way to it.
 
 ghost use Rattle.std.specs.Prelude.{◌≡◌, IfOk, IfSome, None};
 ghost use Rattle.abi_bytes.specs.GoesInto.{HoldStored, stored_of};
@@ -60,8 +60,9 @@ pub struct NotHeld {
     pub part: WrongPart,
 }
 
-/// Why cells, bytes or nothing where none is initialised, don't hold a type: a part of it that they don't hold, with the way to it,
-/// its place, and the reason. `None` where they hold it. `AllocError` where memory is refused.
+/// Why cells, bytes or nothing where none is initialised, don't hold a type: the first part of it, in the order of fields and
+/// elements, that they don't hold, with the way to it, its place, and the reason. Of an enum it is a field of the variant that
+/// the tag names, or the tag. `None` where they hold the type. `AllocError` where memory is refused.
 pub fn why_not_held(
     alloc: Global,
     laid: &Laid,
