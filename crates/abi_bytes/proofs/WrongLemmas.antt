@@ -32,7 +32,7 @@ use Rattle.abi_bytes.specs.WrongParts.{Judges, JudgesParts, JudgesType, field_st
 use Rattle.abi_bytes.specs.declared.cell_walk.CellWalk.{CellWalk}
 use Rattle.abi_bytes.specs.declared.wrong_parts.PartsAt.{PartsAt}
 use Rattle.abi_bytes.specs.declared.not_held.NotHeld.{NotHeld}
-use Rattle.abi_bytes.specs.declared.not_held.Step.{Step}
+use Rattle.abi_bytes.specs.declared.not_held.PartStep.{PartStep}
 use Rattle.abi_bytes.specs.declared.not_held.WrongPart.{WrongPart}
 use Rattle.abi_bytes.proofs.CellsLemmas.{some}
 use Rattle.abi_bytes.proofs.PartLemmas.{parts_by_index}
@@ -184,8 +184,8 @@ module _ (Q : List Cell → Type 0) (w : List Cell) (at n count i : ℕ) where
 
 -- ---- what is judged
 
-pub judged_like : (P R : Type 0) (Q S : List Step → WrongPart → Type 0) (found : Option NotHeld) → (P → R) → (R → P) →
-    ((way : List Step) (wrong : WrongPart) → Q way wrong → S way wrong) → Judges P Q found → Judges R S found
+pub judged_like : (P R : Type 0) (Q S : List PartStep → WrongPart → Type 0) (found : Option NotHeld) → (P → R) → (R → P) →
+    ((way : List PartStep) (wrong : WrongPart) → Q way wrong → S way wrong) → Judges P Q found → Judges R S found
 judged_like P R Q S None to from say h = to h
 judged_like P R Q S (Some f) to from say h = (λ r. h.0 (from r), say f.way.items f.part h.1)
 
@@ -214,7 +214,7 @@ field_here ns os cs count i r d size node many lt is before room =
     let at = field_at ns os cs i there below size node before room in
     (there, below, is ∙ get_or_default os i d 0 there, at.0, at.1, at.2)
 
-pub wrong_field : (order : Endian) (w : List Cell) (ns : List Node) (os cs : List ℕ) (at i : ℕ) (way : List Step) (wrong : WrongPart) → i < length os → i < length cs →
+pub wrong_field : (order : Endian) (w : List Cell) (ns : List Node) (os cs : List ℕ) (at i : ℕ) (way : List PartStep) (wrong : WrongPart) → i < length os → i < length cs →
     ((k : ℕ) → k < i → IsHeldAt order w (placed_at ns (get_or cs k 0)) (at + get_or os k 0)) → IsWrong order w (placed_at ns (get_or cs i 0)) (at + get_or os i 0) way wrong → IsWrongField order w (parts_at os (all_at ns cs)) at i way wrong
 wrong_field order w ns [] cs at i way wrong lt below before h = absurd (omega arith)
 wrong_field order w ns (o ∷ os) [] at i way wrong lt below before h = absurd (omega arith)
@@ -242,7 +242,7 @@ module _ (walk : CellWalk) (parts : PartsAt) (i : ℕ) (inside : get_or parts.of
   HeldBefore k = HoldBetween walk.order walk.nodes.now parts.offsets.now parts.children.now 0 k (cells_at walk.cells.now parts.at parts.size)
 
   -- the i-th field isn't held, and neither are they all
-  pub fields_wrong : (f g : NotHeld) (step : Step) → i < length parts.offsets.now → i < length parts.children.now → step ≡ field_step parts.variant i → g.way.items ≡ step ∷ f.way.items → g.part ≡ f.part →
+  pub fields_wrong : (f g : NotHeld) (step : PartStep) → i < length parts.offsets.now → i < length parts.children.now → step ≡ field_step parts.variant i → g.way.items ≡ step ∷ f.way.items → g.part ≡ f.part →
       parts.at + parts.size ≤ length walk.cells.now → HeldBefore i → JudgesType walk field_type field_place (Some f) → JudgesParts walk parts (Some g)
   fields_wrong f g step lt below named way part fits before h = (
     field_unheld walk.order walk.cells.now walk.nodes.now parts.offsets.now parts.children.now parts.at parts.size i lt below inside h.0,

@@ -14,8 +14,8 @@ use Rattle.abi_bytes.specs.WrongParts.{HoldBeside, IsWrongBeside, IsWrongIn, IsW
 use Rattle.abi_bytes.specs.declared.cell_walk.CellWalk.{CellWalk}
 use Rattle.abi_bytes.specs.declared.wrong_parts.TagAt.{TagAt}
 use Rattle.abi_bytes.specs.declared.not_held.NotHeld.{NotHeld}
-use Rattle.abi_bytes.specs.declared.not_held.Step.{Step}
-use Rattle.abi_bytes.specs.declared.not_held.Step.TheVariants.{Tag}
+use Rattle.abi_bytes.specs.declared.not_held.PartStep.{PartStep}
+use Rattle.abi_bytes.specs.declared.not_held.PartStep.TheVariants.{Tag}
 use Rattle.abi_bytes.specs.declared.not_held.Why.{Why}
 use Rattle.abi_bytes.specs.declared.not_held.Why.TheVariants.{NoVariant}
 use Rattle.abi_bytes.specs.declared.not_held.WrongPart.{WrongPart}
@@ -28,7 +28,7 @@ HasVariant-there done [] i h = absurd h
 HasVariant-there done (v ∷ vs) zero h = omega arith
 HasVariant-there done (v ∷ vs) (suc i) h = omega (arith, HasVariant-there done vs i h)
 
-wrong_variant : (order : Endian) (w : List Cell) (done : List Placed) (vs : List (ℕ × ℕ)) (i : ℕ) (d : ℕ × ℕ) (at k : ℕ) (way : List Step) (wrong : WrongPart) → i < length vs →
+wrong_variant : (order : Endian) (w : List Cell) (done : List Placed) (vs : List (ℕ × ℕ)) (i : ℕ) (d : ℕ × ℕ) (at k : ℕ) (way : List PartStep) (wrong : WrongPart) → i < length vs →
     IsWrongField order w (own_fields (placed_in done (get_or vs i d).1)) at k way wrong → IsWrongVariantField order w (tagged_variants_in done vs) at i k way wrong
 wrong_variant order w done [] i d at k way wrong lt h = absurd (omega arith)
 wrong_variant order w done (v ∷ vs) zero d at k way wrong lt h = h

@@ -15,8 +15,8 @@ use Rattle.abi_bytes.specs.Filling.{AreSet}
 use Rattle.abi_bytes.specs.GoesInto.{Stored}
 use Rattle.abi_bytes.specs.Holding.{HoldCells, HoldCellsOfParts, cells_at}
 use Rattle.abi_bytes.specs.declared.not_held.NotHeld.{NotHeld}
-use Rattle.abi_bytes.specs.declared.not_held.Step.{Step}
-use Rattle.abi_bytes.specs.declared.not_held.Step.TheVariants.{Field, VariantField, Element, Lanes, Tag}
+use Rattle.abi_bytes.specs.declared.not_held.PartStep.{PartStep}
+use Rattle.abi_bytes.specs.declared.not_held.PartStep.TheVariants.{Field, VariantField, Element, Lanes, Tag}
 use Rattle.abi_bytes.specs.declared.not_held.Why.{Why}
 use Rattle.abi_bytes.specs.declared.not_held.Why.TheVariants.{Unset, OutOfRange, NoVariant, NoValue, OtherSize}
 use Rattle.abi_bytes.specs.declared.not_held.WrongPart.{WrongPart}
@@ -77,7 +77,7 @@ module _ (order : Endian) where
 
     abbrev mutual
       -- of the type that lies at a place, the part on this way isn't held, and those before it are
-      pub IsWrong : Placed → (at : ℕ) → (way : List Step) → WrongPart → Type 0
+      pub IsWrong : Placed → (at : ℕ) → (way : List PartStep) → WrongPart → Type 0
       IsWrong (scalar layout s) at [] wrong = IsPartAt at layout.size wrong × IsWhyNumber s at layout.size wrong.why
       IsWrong (pair layout parts) at (Field i ∷ way) wrong = IsWrongField parts at i way wrong
       IsWrong (elements layout count element) at (Element i ∷ way) wrong =
@@ -98,13 +98,13 @@ module _ (order : Endian) where
       IsWrong placed at way wrong = ⊥
 
       -- so it is by the field with this index
-      pub IsWrongField : Parts → (at index : ℕ) → (way : List Step) → WrongPart → Type 0
+      pub IsWrongField : Parts → (at index : ℕ) → (way : List PartStep) → WrongPart → Type 0
       IsWrongField no_parts at i way wrong = ⊥
       IsWrongField (part offset placed parts) at zero way wrong = IsWrong placed (at + offset) way wrong
       IsWrongField (part offset placed parts) at (suc i) way wrong = IsHeldAt placed (at + offset) × IsWrongField parts at i way wrong
 
       -- so it is by a field of the variant with this index
-      pub IsWrongVariantField : TaggedVariants → (at variant index : ℕ) → (way : List Step) → WrongPart → Type 0
+      pub IsWrongVariantField : TaggedVariants → (at variant index : ℕ) → (way : List PartStep) → WrongPart → Type 0
       IsWrongVariantField nothing_tagged at v i way wrong = ⊥
       IsWrongVariantField (tagged_variant number layout mark parts variants) at zero i way wrong = IsWrongField parts at i way wrong
       IsWrongVariantField (tagged_variant number layout mark parts variants) at (suc v) i way wrong = IsWrongVariantField variants at v i way wrong

@@ -11,14 +11,14 @@ use Rattle.abi_bytes.specs.Holding.{HoldCells, HoldCellsOfParts, HoldCellsOfVari
 use Rattle.abi_bytes.specs.NotHeld.{AreHeld, IsPartAt, IsWhyTag, IsWrong, IsWrongField, IsWrongVariantField, NamesAt}
 use Rattle.abi_bytes.specs.declared.cell_walk.CellWalk.{CellWalk}
 use Rattle.abi_bytes.specs.declared.not_held.NotHeld.{NotHeld}
-use Rattle.abi_bytes.specs.declared.not_held.Step.{Step}
-use Rattle.abi_bytes.specs.declared.not_held.Step.TheVariants.{Field, VariantField, Element, Tag}
+use Rattle.abi_bytes.specs.declared.not_held.PartStep.{PartStep}
+use Rattle.abi_bytes.specs.declared.not_held.PartStep.TheVariants.{Field, VariantField, Element, Tag}
 use Rattle.abi_bytes.specs.declared.not_held.WrongPart.{WrongPart}
 use Rattle.abi_bytes.specs.declared.wrong_parts.PartsAt.{PartsAt}
 use Rattle.abi_bytes.specs.declared.wrong_parts.TagAt.{TagAt}
 
 -- the step to a field: to one of a variant, where that is given
-abbrev pub field_step : (variant : Option ℕ) → (index : ℕ) → Step
+abbrev pub field_step : (variant : Option ℕ) → (index : ℕ) → PartStep
 field_step None i = Field i
 field_step (Some v) i = VariantField v i
 
@@ -29,29 +29,29 @@ module _ (order : Endian) where
 
   module _ (w : List Cell) where
     -- the way begins with a field, by which it isn't held
-    abbrev pub IsWrongIn : (variant : Option ℕ) → Parts → (at : ℕ) → (way : List Step) → WrongPart → Type 0
-    IsWrongIn variant parts at way wrong = (i : ℕ) × (rest : List Step) × (way ≡ field_step variant i ∷ rest) × IsWrongField order w parts at i rest wrong
+    abbrev pub IsWrongIn : (variant : Option ℕ) → Parts → (at : ℕ) → (way : List PartStep) → WrongPart → Type 0
+    IsWrongIn variant parts at way wrong = (i : ℕ) × (rest : List PartStep) × (way ≡ field_step variant i ∷ rest) × IsWrongField order w parts at i rest wrong
 
     -- the way begins with an element, by which it isn't held
-    abbrev pub IsWrongElement : Placed → (at count : ℕ) → (way : List Step) → WrongPart → Type 0
-    IsWrongElement element at count way wrong = (i : ℕ) × (rest : List Step) × (way ≡ Element i ∷ rest) × (i < count) × AreHeld order w element at i × IsWrong order w element (at + i * size_of element) rest wrong
+    abbrev pub IsWrongElement : Placed → (at count : ℕ) → (way : List PartStep) → WrongPart → Type 0
+    IsWrongElement element at count way wrong = (i : ℕ) × (rest : List PartStep) × (way ≡ Element i ∷ rest) × (i < count) × AreHeld order w element at i × IsWrong order w element (at + i * size_of element) rest wrong
 
     -- the way ends at the tag
-    abbrev pub IsWrongTag : TagEncoding ℕ → TaggedVariants → (at n : ℕ) → (way : List Step) → WrongPart → Type 0
+    abbrev pub IsWrongTag : TagEncoding ℕ → TaggedVariants → (at n : ℕ) → (way : List PartStep) → WrongPart → Type 0
     IsWrongTag encoding variants at n way wrong = (way ≡ Tag ∷ []) × IsPartAt at n wrong × IsWhyTag order w encoding variants at n wrong.why
 
     -- the way begins with a field of the variant that the tag names, by which it isn't held
-    abbrev pub IsWrongNamed : TagEncoding ℕ → TaggedVariants → (at offset n : ℕ) → (way : List Step) → WrongPart → Type 0
+    abbrev pub IsWrongNamed : TagEncoding ℕ → TaggedVariants → (at offset n : ℕ) → (way : List PartStep) → WrongPart → Type 0
     IsWrongNamed encoding variants at offset n way wrong =
-        (v : ℕ) × (i : ℕ) × (rest : List Step) × (way ≡ VariantField v i ∷ rest) × NamesAt order w encoding variants (at + offset) n v × IsWrongVariantField order w variants at v i rest wrong
+        (v : ℕ) × (i : ℕ) × (rest : List PartStep) × (way ≡ VariantField v i ∷ rest) × NamesAt order w encoding variants (at + offset) n v × IsWrongVariantField order w variants at v i rest wrong
 
     -- so it is by the tag, or by what it names
-    abbrev pub IsWrongBeside : TagEncoding ℕ → TaggedVariants → (at offset n : ℕ) → (way : List Step) → WrongPart → Type 0
+    abbrev pub IsWrongBeside : TagEncoding ℕ → TaggedVariants → (at offset n : ℕ) → (way : List PartStep) → WrongPart → Type 0
     IsWrongBeside encoding variants at offset n way wrong =
         IsWrongTag encoding variants (at + offset) n way wrong ⊎ IsWrongNamed encoding variants at offset n way wrong
 
 -- where nothing is found P holds; else it doesn't, and what is found is so
-abbrev pub Judges : (P : Type 0) → (List Step → WrongPart → Type 0) → Option NotHeld → Type 0
+abbrev pub Judges : (P : Type 0) → (List PartStep → WrongPart → Type 0) → Option NotHeld → Type 0
 Judges P Q found = MatchOption found P (λ f. (P → ⊥) × Q f.way.items f.part)
 
 -- ---- what the walk is at

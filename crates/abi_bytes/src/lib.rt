@@ -24,4 +24,4 @@ pub use answers::{
     transmute,
 };
 pub use laws::{bytes_and_types, cells_and_values, types_into_types};
-pub use not_held::{NotHeld, Step, Why, WrongPart, why_not_held};
+pub use not_held::{NotHeld, PartStep, Why, WrongPart, why_not_held};

@@ -12,7 +12,7 @@ use std::alloc::{AllocError, Global};
 
 /// A step from a type to a part of it.
 #[derive(Clone, Copy)]
-pub enum Step {
+pub enum PartStep {
     /// To the field with this index, in source order; of a coroutine to a prefix field.
     Field(usize),
     /// Of the variant, or state, with the first index to the field with the second.
@@ -55,7 +55,7 @@ pub struct WrongPart {
 #[derive(Drop)]
 pub struct NotHeld {
     /// The way from the type to the part: none where that is the type itself.
-    pub way: Vec<Step>,
+    pub way: Vec<PartStep>,
     /// The part that they don't hold.
     pub part: WrongPart,
 }

@@ -11,12 +11,12 @@ ghost use Rattle.abi_tree.specs.Widths.{is_narrow};
 ghost use Rattle.abi_bytes.specs.Holding.{AreEach, HoldCells, HoldCellsOfParts, HoldScalar, cells_at};
 ghost use Rattle.abi_bytes.specs.NotHeld.{IsWhyNumber, IsWrong, MakeAt};
 ghost use Rattle.abi_bytes.specs.WrongParts.{ArePartsIn, IsTagIn, IsWrongElement, IsWrongIn, Judges, JudgesParts, JudgesState, JudgesTag, JudgesType, field_step};
-ghost use Rattle.abi_bytes.specs.declared.not_held.Step.TheVariants.{Tag};
+ghost use Rattle.abi_bytes.specs.declared.not_held.PartStep.TheVariants.{Tag};
 
 use crate::cell_numbers::number_at;
 use crate::cell_walk::CellWalk;
 use crate::nodes::{are_two_numbers, is_list};
-use crate::not_held::{NotHeld, Step, Why, WrongPart};
+use crate::not_held::{NotHeld, PartStep, Why, WrongPart};
 use abi_base::Size;
 use abi_index::{FieldIdx, Idx, VariantIdx};
 use abi_scalar::{LayoutData, Scalar, TagEncoding, Variants};
@@ -46,12 +46,12 @@ struct TagAt<'a> {
 }
 
 /// The step to a field: to one of a variant, where that is given.
-fn field_step(variant: Option<usize>, index: usize) -> Step
+fn field_step(variant: Option<usize>, index: usize) -> PartStep
     ensures { result ≡ field_step variant index }
 {
     match variant {
-        None => Step::Field(index),
-        Some(variant) => Step::VariantField(variant, index),
+        None => PartStep::Field(index),
+        Some(variant) => PartStep::VariantField(variant, index),
     }
 }
 
@@ -65,8 +65,8 @@ fn index_left(layout: &LayoutData<FieldIdx, VariantIdx>) -> usize
     }
 }
 
-/// That cells don't hold the part behind a step, from which the way is found.
-fn behind(step: Step, found: NotHeld) -> Result<NotHeld, AllocError>
+/// Puts a step before the way to a part that cells don't hold.
+fn put_step(step: PartStep, found: NotHeld) -> Result<NotHeld, AllocError>
     ensures way { IfOk result (λ f. f.way.items ≡ step ∷ found.way.items) }
     ensures part { IfOk result (λ f. f.part ≡ found.part) }
 {
@@ -258,7 +258,7 @@ fn vector_wrong(
         return Ok(Some(wrong_here(walk.alloc, at, size, Why::NoValue)));
     }
     match node_wrong(walk, lanes, at)? {
-        Some(found) => Ok(Some(behind(Step::Lanes, found)?)),
+        Some(found) => Ok(Some(put_step(PartStep::Lanes, found)?)),
         None => Ok(None),
     }
 }
@@ -286,7 +286,7 @@ fn elements_wrong(
     for i in 0..turns {
         let start = at + (i * size) as usize;
         if let Some(found) = node_wrong(walk, element, start)? {
-            return Ok(Some(behind(Step::Element(i), found)?));
+            return Ok(Some(put_step(PartStep::Element(i), found)?));
         }
     }
     Ok(None)
@@ -314,7 +314,7 @@ fn parts_wrong(
     for i in 0..count {
         let start = at + offsets[i].bytes() as usize;
         if let Some(found) = node_wrong(walk, children[i], start)? {
-            return Ok(Some(behind(field_step(variant, i), found)?));
+            return Ok(Some(put_step(field_step(variant, i), found)?));
         }
     }
     Ok(None)
@@ -329,7 +329,7 @@ fn tag_wrong(alloc: Global, tag: TagAt<'_>, why: Why) -> Result<NotHeld, AllocEr
 {
     let start = tag.at + tag.offset as usize;
     let found = wrong_here(alloc, start, tag.width, why);
-    behind(Step::Tag, found)
+    put_step(PartStep::Tag, found)
 }
 
 /// The field that isn't held of the variant, with this index and this node, beside a tag.

@@ -3,7 +3,7 @@
 use crate::json::MOST_LISTED;
 use crate::labels::write_field_name;
 use abi_base::{Integer, Primitive};
-use abi_bytes::{NotHeld, Step, Why, WrongPart, why_not_held};
+use abi_bytes::{NotHeld, PartStep, Why, WrongPart, why_not_held};
 use abi_rust::{NamedPart, PartFields};
 use abi_scalar::Scalar;
 use abi_tree::{Laid, Value, read_value};
@@ -75,14 +75,14 @@ fn write_step(
     path: &mut String,
     ty: ShownType<'_>,
     part: Option<usize>,
-    step: Step,
+    step: PartStep,
 ) -> Result<Option<usize>, AllocError> {
     match step {
-        Step::Field(index) => {
+        PartStep::Field(index) => {
             let field = field_at(ty.fields(part, 0), index);
             write_field(path, ty.names, field, index)
         }
-        Step::VariantField(variant, index) => {
+        PartStep::VariantField(variant, index) => {
             if !path.is_empty() {
                 path.push_str(".")?;
             }
@@ -90,12 +90,12 @@ fn write_step(
             let field = field_at(ty.fields(part, variant), index);
             write_field(path, ty.names, field, index)
         }
-        Step::Element(index) => {
+        PartStep::Element(index) => {
             write!(path, "[{index}]")?;
             Ok(part_of(field_at(ty.fields(part, 0), 0)))
         }
-        Step::Lanes => Ok(part_of(field_at(ty.fields(part, 0), 0))),
-        Step::Tag => Ok(part),
+        PartStep::Lanes => Ok(part_of(field_at(ty.fields(part, 0), 0))),
+        PartStep::Tag => Ok(part),
     }
 }
 
@@ -108,9 +108,9 @@ fn part_of(field: Option<(FieldName, usize)>) -> Option<usize> {
 }
 
 /// Whether a step is to a tag.
-fn is_tag(step: Option<&Step>) -> bool {
+fn is_tag(step: Option<&PartStep>) -> bool {
     match step {
-        Some(Step::Tag) => true,
+        Some(PartStep::Tag) => true,
         _ => false,
     }
 }
@@ -128,7 +128,7 @@ fn write_part(
     alloc: Global,
     out: &mut String,
     ty: ShownType<'_>,
-    way: &[Step],
+    way: &[PartStep],
     whole: &str,
 ) -> Result<(), AllocError> {
     let mut path = String::new(alloc);

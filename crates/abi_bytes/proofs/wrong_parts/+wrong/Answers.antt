@@ -233,7 +233,7 @@ elements_wrong-returns-in-Some t c =
     let wrong : Judges (HoldCells order p (cells_at w (start (size_of p)) (size_of p))) (IsWrong order w p (start (size_of p))) (Some c.in-Some.found) =
     subst (Judges (HoldCells order p (cells_at w (start (size_of p)) (size_of p))) (IsWrong order w p (start (size_of p)))) c.in-Some.is found in (
       element_wrong (HoldCells order p) w c.args.at (size_of p) c.args.count i below wrong.0,
-      (i, c.in-Some.found.way.items, c.in_ok-behind.ensures.way, below, c.loop-i.invariant, subst (IsWrong order w p (start (size_of p)) c.in-Some.found.way.items) (sym c.in_ok-behind.ensures.part) wrong.1),
+      (i, c.in-Some.found.way.items, c.in_ok-put_step.ensures.way, below, c.loop-i.invariant, subst (IsWrong order w p (start (size_of p)) c.in-Some.found.way.items) (sym c.in_ok-put_step.ensures.part) wrong.1),
     )
 
 pub elements_wrong-returns : goal.elements_wrong-returns
@@ -266,7 +266,7 @@ parts_wrong-returns-in-Some t c =
     let cs : List ℕ = c.args.parts.children.now in
     let here = field_here c.args.walk.nodes.now os cs c.min-count.result c.loop-i.i c.bytes.result _ c.args.parts.size c.args.node c.min-count.ensures c.loop-i-test.true (c.bytes.ensures ∙ c.index-offsets-i.is) c.requires.parts.before c.requires.parts.room in
     let found = found_at c.args.walk (placed_at c.args.walk.nodes.now (get_or cs c.loop-i.i 0)) c.args.parts.at c.bytes.result (get_or os c.loop-i.i 0) c.in_ok-found.field-0 (Some c.in-Some.found) here.2 c.in-Some.is c.in_ok-found.ensures in
-    fields_wrong c.args.walk c.args.parts c.loop-i.i here.4 c.in-Some.found c.in_ok-behind.field-0 c.field_step.result here.0 here.1 c.field_step.ensures c.in_ok-behind.ensures.way c.in_ok-behind.ensures.part c.requires.parts.fits c.loop-i.invariant found
+    fields_wrong c.args.walk c.args.parts c.loop-i.i here.4 c.in-Some.found c.in_ok-put_step.field-0 c.field_step.result here.0 here.1 c.field_step.ensures c.in_ok-put_step.ensures.way c.in_ok-put_step.ensures.part c.requires.parts.fits c.loop-i.invariant found
 
 pub parts_wrong-loop-i-preserved : goal.parts_wrong-loop-i-preserved
 parts_wrong-loop-i-preserved t c =
