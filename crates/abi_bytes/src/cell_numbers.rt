@@ -1,9 +1,8 @@
 //! Numbers that cells make.
 
-ghost use Rattle.std.specs.Prelude.{◌≡◌, ◌+◌, ◌<◌, ◌≤◌, MatchOption, MatchResult, length, map};
+ghost use Rattle.std.specs.Prelude.{◌≡◌, ◌+◌, ◌<◌, ◌≤◌, MatchOption, MatchResult, length};
 ghost use Rattle.abi_base.specs.declared.endian.Endian.TheVariants.{Big, Little};
 ghost use Rattle.abi_scalar.specs.Range.{numbers_of};
-ghost use Rattle.abi_bytes.specs.Answers.{byte_in};
 ghost use Rattle.abi_bytes.specs.Filling.{AreSet};
 ghost use Rattle.abi_bytes.specs.Holding.{cells_at};
 ghost use Rattle.abi_bytes.specs.NotHeld.{IsFirstUnset, MakeAt, number_in};

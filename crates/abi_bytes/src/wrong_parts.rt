@@ -1,11 +1,11 @@
 //! Parts of a type that cells don't hold: the first of each node, in the order of its fields and elements.
 
-ghost use Rattle.std.specs.Prelude.{◌≡◌, ◌∷◌, ◌+◌, ◌*◌, ◌^◌, ◌<◌, ◌≤◌, ◌⊎◌, All, IfOk, MatchOption, None, Some, [], length, true};
+ghost use Rattle.std.specs.Prelude.{◌≡◌, ◌∷◌, ◌+◌, ◌*◌, ◌^◌, ◌<◌, ◌≤◌, All, IfOk, MatchOption, None, Some, [], length, true};
 ghost use Rattle.abi_scalar.specs.Shape.{listed_offsets};
 ghost use Rattle.abi_scalar.specs.Layout.{Layout};
-ghost use Rattle.abi_tree.specs.Nodes.{own_fields, parts_at, placed_at, tagged_variants_in, types_in, variant_left};
+ghost use Rattle.abi_tree.specs.Nodes.{own_fields, parts_at, placed_at, variant_left};
 ghost use Rattle.abi_tree.specs.Placed.{pair, size_of, vector};
-ghost use Rattle.abi_tree.specs.Room.{has_room, have_room, tagged_variants_have_room};
+ghost use Rattle.abi_tree.specs.Room.{has_room, have_room};
 ghost use Rattle.abi_tree.specs.Well.{all_at};
 ghost use Rattle.abi_tree.specs.Widths.{is_narrow};
 ghost use Rattle.abi_bytes.specs.Holding.{AreEach, HoldCells, HoldCellsOfParts, HoldScalar, cells_at};
