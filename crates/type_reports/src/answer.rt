@@ -3,7 +3,7 @@
 ghost use Rattle.std.specs.Prelude.{◌≤◌};
 ghost use Rattle.abi_text.specs.LaidOut.{IsLaidOut};
 
-use crate::bytes::{ByteAnswers, is_yes, write_transmuted};
+use crate::bytes::{ByteAnswers, is_yes, shown_cells, write_goes, write_pointers};
 use crate::crate_files::{CrateFiles, Search, SourceFile};
 use crate::entries::{EntriesAsked, TypeEntry, put_entries};
 use crate::facts::TypeFacts;
@@ -19,6 +19,7 @@ use crate::package_crates::{PackageCrate, PackageSet, crates_under};
 use crate::parts::parts_value;
 use crate::place::{Spot, write_fault};
 use crate::pretty::{DeclaredType, write_pretty};
+use crate::reasons::{ShownType, write_reasons};
 use crate::savings::{LargestVariant, LayContext, largest_variant, savings_of};
 use crate::savings_text::{PartNames, put_savings, write_savings};
 use crate::waste::waste_of;
@@ -265,6 +266,11 @@ fn text_at<'a>(
         }),
         Spot::Nowhere => None,
     }
+}
+
+/// The type that was named in this place.
+fn asked_type<'a>(options: &ReportOptions<'a>, before: usize) -> &'a str {
+    options.types.get(before).copied().unwrap_or("")
 }
 
 /// Writes a fault, with the line in which it lies. An error comes where a growth of memory was refused.
@@ -1062,7 +1068,7 @@ impl FileReport {
         sources: &mut Sources,
         before: usize,
     ) -> Result<Laid, SourceFailure> {
-        let name = cx.options.types.get(before).copied().unwrap_or("");
+        let name = asked_type(cx.options, before);
         let own = Spot::Asked(before, 0);
         let report = match sources.type_written(self.alloc, cx.dl, name) {
             Ok(Some(report)) => report,
@@ -1087,11 +1093,39 @@ impl FileReport {
         let first = self.written_type(cx, sources, 0)?;
         let second = self.written_type(cx, sources, 1)?;
         let answer = transmute(self.alloc, &first, &second)?;
-        write_transmuted(&mut self.text, &answer)?;
         if !is_yes(&answer) {
             self.outcome = self.outcome.worse_of(Outcome::Denied);
         }
-        Ok(())
+        write_goes(&mut self.text, &answer.goes)?;
+        self.add_reasons(cx, sources, (&first, &second), shown_cells(&answer))?;
+        Ok(write_pointers(&mut self.text, &answer)?)
+    }
+
+    /// Reports why cells, where there are some, that hold the first type that was named don't hold the second.
+    fn add_reasons(
+        &mut self,
+        cx: ReportContext<'_>,
+        sources: &mut Sources,
+        types: (&Laid, &Laid),
+        cells: Option<&[Option<u8>]>,
+    ) -> Result<(), AllocError> {
+        let Some(cells) = cells else {
+            return Ok(());
+        };
+        let (first, second) = types;
+        let of_first = sources.parts_written(self.alloc, cx.dl, asked_type(cx.options, 0))?;
+        let of_second = sources.parts_written(self.alloc, cx.dl, asked_type(cx.options, 1))?;
+        let first = ShownType {
+            names: sources.names(),
+            laid: first,
+            parts: &of_first,
+        };
+        let second = ShownType {
+            names: sources.names(),
+            laid: second,
+            parts: &of_second,
+        };
+        write_reasons(self.alloc, &mut self.text, first, second, cells)
     }
 
     /// Reports why items and the files of modules aren't read; where one is to stop all, fails by it.
