@@ -10,3 +10,6 @@ pub mod NodeLemmas
 pub mod KindLemmas
 pub mod TypeLemmas
 pub mod AnswerLemmas
+pub mod WrongLemmas
+pub mod WrongKindLemmas
+pub mod WrongNamedLemmas

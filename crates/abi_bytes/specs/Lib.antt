@@ -8,3 +8,6 @@ pub mod Formulas
 pub mod Tags
 -- what answers say
 pub mod Answers
+-- why cells don't hold a type
+pub mod NotHeld
+pub mod WrongParts

@@ -185,7 +185,7 @@ pub fn is_from_zeros(alloc: Global, laid: &Laid) -> Result<FromZeros, AllocError
 }
 
 /// The byte in a cell, and 0 where nothing is initialised.
-fn byte_in(cell: Option<u8>) -> u8
+pub(crate) fn byte_in(cell: Option<u8>) -> u8
     ensures { result ≡ byte_in cell }
 {
     match cell {

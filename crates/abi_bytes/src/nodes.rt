@@ -33,7 +33,7 @@ fn is_number(nodes: &Nodes, node: usize) -> bool
 }
 
 /// Whether a node's values are lists.
-fn is_list(nodes: &Nodes, node: usize) -> bool
+pub(crate) fn is_list(nodes: &Nodes, node: usize) -> bool
     requires there { node < length nodes.now }
     requires well { are_nodes 0 nodes.now ≡ true }
     ensures { MatchBool result (IsList (placed_at nodes.now node)) (IsList (placed_at nodes.now node) → ⊥) }
@@ -50,7 +50,7 @@ fn is_list(nodes: &Nodes, node: usize) -> bool
 }
 
 /// Whether two nodes at the first two of these offsets are numbers.
-fn are_two_numbers(nodes: &Nodes, offsets: &[Size], first: usize, second: usize) -> bool
+pub(crate) fn are_two_numbers(nodes: &Nodes, offsets: &[Size], first: usize, second: usize) -> bool
     requires first { first < length nodes.now }
     requires second { second < length nodes.now }
     requires well { are_nodes 0 nodes.now ≡ true }

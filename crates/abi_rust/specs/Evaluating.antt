@@ -12,7 +12,7 @@ use Rattle.rust_source.specs.declared.place.Symbol.{Symbol}
 use Rattle.rust_source.specs.declared.syntax.Argument.{Argument, out-Argument}
 use Rattle.rust_source.specs.declared.syntax.Argument.TheOpen as layer
 use Rattle.rust_source.specs.declared.syntax.Binary.{Binary}
-use Rattle.rust_source.specs.declared.syntax.Expr.{Expr, out-Expr, Integer as IntegerExpr, Char as CharExpr, Bool as BoolExpr, Text as TextExpr, Path as PathExpr, Call', Unary', Binary', Cast', If', Unevaluated as UnevaluatedExpr}
+use Rattle.rust_source.specs.declared.syntax.Expr.{Expr, out-Expr, Integer as IntegerExpr, Char as CharExpr, Bool as BoolExpr, Text as TextExpr, Path as PathExpr, Call', Unary', Binary', Cast', If', Let', Unevaluated as UnevaluatedExpr}
 use Rattle.rust_source.specs.declared.syntax.IntegerKind.{IntegerKind}
 use Rattle.rust_source.specs.declared.syntax.IntegerKind.TheVariants.{I32, Isize, U8, U32, Usize}
 use Rattle.rust_source.specs.declared.syntax.Path.{Path, out-Path}
@@ -40,7 +40,7 @@ use Rattle.abi_rust.specs.declared.budget.Context.{Context}
 use Rattle.abi_rust.specs.declared.words.Word.TheVariants as word
 use Rattle.abi_rust.specs.EnumGlobs.{item_found}
 use Rattle.abi_rust.specs.Int.{greatest_number, least_number}
-use Rattle.abi_rust.specs.Kinds.{FunctionRead, constant_named, constant_place, function_called, given_named, integer_call, is_shift, item_at, kind_of_names, kind_of_expr, kind_written, names_method, operand_kind, outside, owner_named, parameter_named, parameter_type, result_kind, single_name}
+use Rattle.abi_rust.specs.Kinds.{FunctionRead, constant_named, constant_place, function_called, given_named, integer_call, is_shift, item_at, kind_of_names, choice_kind, is_open, kind_of_expr, kind_written, local_at, local_kind, names_method, operand_kind, outside, owner_named, parameter_named, parameter_type, result_kind, single_name}
 use Rattle.abi_rust.specs.Known.{known_at}
 use Rattle.abi_rust.specs.Meaning.{Meaning, then_meant, fault_at, too_deep}
 use Rattle.abi_rust.specs.Methods.{end_of, kind_beside, made_of_both, made_of_one}
@@ -168,6 +168,12 @@ limit_named cx kind name =
     else (if is_word words name word.Min then Some (number kind (least_number s k))
     else (if is_word words name word.Bits then Some (number U32 (pos k)) else None))
 
+-- the first or the last character, by its name
+abbrev pub limit_of_char : Context → Symbol → Option ValueRead
+limit_of_char cx name =
+    if is_word cx.scope.now.words name word.Max then Some (code 1114111)
+    else (if is_word cx.scope.now.words name word.Min then Some (code 0) else None)
+
 -- the branch that a condition of this value chooses
 abbrev pub branch_of : ValueRead → (yes no : Expr) → Expr
 branch_of (truth true) l r = l
@@ -212,6 +218,7 @@ module _ (cx : Context) where
 
   abbrev pub limit_of : Symbol → Option Kind → Option ValueRead
   limit_of name (Some (KindInteger kind)) = limit_named cx kind name
+  limit_of name (Some CharKind) = limit_of_char cx name
   limit_of name _ = None
 
   abbrev pub limit_or : Place → FaultKind → Option ValueRead → Meaning ValueRead
@@ -239,7 +246,7 @@ module _ (cx : Context) where
       (if nat_eq count 0 then fault_at (out-Segment s).at (UnknownConstant name)
       else limit_or (out-Segment s).at (unknown_of w.inside p count name) (limit_of name (kind_of_names cx.items.now cx.scope.now w p count)))
 
-  -- `T::MAX`, `T::MIN` or `T::BITS` of an integer type
+  -- `T::MAX`, `T::MIN` or `T::BITS` of an integer type, and the first two of `char`
   unfoldable pub limit : Where → Path → Meaning ValueRead
   limit w p = limit_by w p (length (out-Path p).segments.items - 1) (last_name p)
 
@@ -330,9 +337,9 @@ module _ (cx : Context) where
   value_in (Some (of_value v)) = Some v
   value_in _ = None
 
-  -- the value that the parameter is given that a path names
+  -- the value that a path names that stands nowhere else: that of a `let`, or what a parameter is given
   abbrev pub value_given : Where → Path → Option ValueRead
-  value_given w p = value_in (option_and_then (given_named cx.items.now cx.scope.now w) (single_name p))
+  value_given w p = option_or (local_at w p) (value_in (option_and_then (given_named cx.items.now cx.scope.now w) (single_name p)))
 
   -- the enum and the number of the variant that an operand of a cast names
   abbrev pub cast_variant : Where → Expr → Option (Item × ℕ)
@@ -518,7 +525,7 @@ module _ (cx : Context) where
     -- what the body of a function is worth whose parameters are given these
     abbrev pub body_value : FunctionRead → Place → (kind : Option Kind) → List GenericArgRead → Meaning ValueRead
     body_value f at None given = fault_at at (Unevaluated Expression)
-    body_value f at (Some kind) given = E (record { inside = f.item.«module»; item = Some f.number; given = given }) f.body (Some kind)
+    body_value f at (Some kind) given = E (record { inside = f.item.«module»; item = Some f.number; given = given; locals = [] }) f.body (Some kind)
 
     -- what a function gives that is called with these
     abbrev pub function_value : Where → FunctionRead → List Expr → Place → Meaning ValueRead
@@ -545,6 +552,32 @@ module _ (cx : Context) where
     called_value w p es at (Some called) = method_value w at called.method called.kind es
     called_value w p es at None = other_called w p es at (function_called cx.items.now cx.scope.now w p)
 
+    -- the value of the branch that a condition of this value chooses: of their type, which nothing in both may leave open
+    abbrev pub branch_value : Where → ValueRead → (yes no : Expr) → (kind : Option Kind) → Meaning ValueRead
+    branch_value w v l r kind =
+        let chosen = branch_of v l r in
+        if is_some kind || (is_open l && is_open r) then E w chosen kind
+        else fault_at (place_of_expr chosen) (Unevaluated Expression)
+
+    -- the value of a choice
+    abbrev pub choice_value : Where → (condition yes no : Expr) → (wanted : Option Kind) → Meaning ValueRead
+    choice_value w c l r wanted =
+        then_meant (λ v. branch_value w v l r (choice_kind cx.items.now cx.scope.now w l r wanted)) (E w c (Some BoolKind))
+
+    -- the value of a `let`, of the type that it has, or of the own one that a call's value has
+    abbrev pub bound_value : Where → Expr → (kind : Option Kind) → Meaning ValueRead
+    bound_value w e kind = if is_some kind || is_call e then E w e kind else fault_at (place_of_expr e) (Unevaluated Expression)
+
+    -- what follows a `let` of this value
+    abbrev pub rest_value : Where → Symbol → Expr → (wanted : Option Kind) → ValueRead → Meaning ValueRead
+    rest_value w name rest wanted v =
+        E (record { inside = w.inside; item = w.item; given = w.given; locals = record { name = name.0; value = v } ∷ w.locals }) rest wanted
+
+    -- the value of a `let` with what follows it
+    abbrev pub let_value : Where → Symbol → Written → (value rest : Expr) → (wanted : Option Kind) → Meaning ValueRead
+    let_value w name t e rest wanted =
+        then_meant (rest_value w name rest wanted) (bound_value w e (local_kind cx.items.now cx.scope.now w name t e rest wanted))
+
     -- what a call is given
     abbrev pub arguments_given : Expr → List Expr
     arguments_given e = elim (out-Expr e) as (λ _. List Expr) [ layer.Call p all at ↦ all.items | _ ↦ [] ]
@@ -560,7 +593,8 @@ module _ (cx : Context) where
     value_by w wanted (Unary' u p e at) = unary_value w u e wanted
     value_by w wanted (Binary' b p l q r at) = binary_value w b l r wanted
     value_by w wanted (Cast' p e q t at) = cast_value w e t at
-    value_by w wanted (If' p c q l o r at) = then_meant (λ v. E w (branch_of v l r) wanted) (E w c (Some BoolKind))
+    value_by w wanted (If' p c q l o r at) = choice_value w c l r wanted
+    value_by w wanted (Let' name p t q e o rest at) = let_value w name t e rest wanted
     value_by w wanted (TextExpr bytes at) = fault_at at (Unevaluated Expression)
     value_by w wanted (UnevaluatedExpr what at) = fault_at at (Unevaluated what)
 

@@ -1,5 +1,5 @@
 -- The type of a constant expression, found without its value.
-use Rattle.std.specs.Prelude.{ℕ, zero, suc, ◌-◌, ◌||◌, nat_eq, nat_lt, not, is_some, Bool, true, false, List, [], ◌∷◌, length, slice_get, Option, Some, None, if◌then◌else◌}
+use Rattle.std.specs.Prelude.{ℕ, zero, suc, ◌-◌, ◌&&◌, ◌||◌, nat_eq, nat_lt, not, is_some, Bool, true, false, List, [], ◌∷◌, length, slice_get, Option, Some, None, if◌then◌else◌}
 use Rattle.std.specs.Option.{option_and_then, option_or}
 use Rattle.rust_source.specs.declared.item.Item.{Item}
 use Rattle.rust_source.specs.declared.item.ItemKind.{ItemKind}
@@ -12,7 +12,7 @@ use Rattle.rust_source.specs.declared.place.Symbol.{Symbol}
 use Rattle.rust_source.specs.declared.place.TheConstants.Symbol.{SELF_TYPE, UNDERSCORE}
 use Rattle.rust_source.specs.declared.syntax.Binary.{Binary}
 use Rattle.rust_source.specs.declared.syntax.Binary.TheVariants as operator
-use Rattle.rust_source.specs.declared.syntax.Expr.{Expr, Integer as IntegerExpr, Char as CharExpr, Bool as BoolExpr, Text, Path as PathExpr, Call', Unary', Binary', Cast', If', Unevaluated}
+use Rattle.rust_source.specs.declared.syntax.Expr.{Expr, Integer as IntegerExpr, Char as CharExpr, Bool as BoolExpr, Text, Path as PathExpr, Call', Unary', Binary', Cast', If', Let', Unevaluated}
 use Rattle.rust_source.specs.declared.syntax.IntegerKind.{IntegerKind}
 use Rattle.rust_source.specs.declared.syntax.IntegerKind.TheVariants.{U32, Usize}
 use Rattle.rust_source.specs.declared.syntax.Path.{Path, out-Path}
@@ -35,7 +35,8 @@ use Rattle.abi_rust.specs.Methods.{kind_made, suffix_kind}
 use Rattle.abi_rust.specs.Names.{found, found_of, visibility_of_item}
 use Rattle.abi_rust.specs.Places.{last_name}
 use Rattle.abi_rust.specs.Scope.{own_constant, owner_of}
-use Rattle.abi_rust.specs.Types.{GenericArgRead, Where, of_type, primitive}
+use Rattle.abi_rust.specs.Types.{GenericArgRead, LocalRead, Where, of_type, primitive}
+use Rattle.abi_rust.specs.Values.{ValueRead, kind_read}
 use Rattle.abi_rust.specs.Visible.{is_visible}
 use Rattle.abi_rust.specs.Words.{is_word, is_same_name, method_named}
 
@@ -45,7 +46,7 @@ most_aliases = 64
 
 -- a module outside of items
 abbrev pub outside : (inside : ℕ) → Where
-outside m = record { inside = m; item = None; given = [] }
+outside m = record { inside = m; item = None; given = []; locals = [] }
 
 -- something stands in angle brackets behind a name
 abbrev pub is_given : Segment → Bool
@@ -78,6 +79,20 @@ is_parameter_of it _ = false
 abbrev pub name_alone : (count : ℕ) → List Segment → Option Symbol
 name_alone (suc zero) (s ∷ ss) = Some (out-Segment s).name
 name_alone _ _ = None
+
+-- the value of the last `let` of this name
+abbrev pub local_named : List LocalRead → (name : ℕ) → Option ValueRead
+local_named [] name = None
+local_named (l ∷ ls) name = if nat_eq l.name name then Some l.value else local_named ls name
+
+-- the value of the `let` that a path names
+abbrev pub local_at : Where → Path → Option ValueRead
+local_at w p = option_and_then (λ (name : Symbol). local_named w.locals name.0) (single_name p)
+
+-- a path is this name alone
+abbrev pub is_local : Symbol → Option Symbol → Bool
+is_local name None = false
+is_local name (Some other) = is_same_name name other
 
 -- the type of constants that a primitive type is
 abbrev pub kind_of_primitive : Primitive → Option Kind
@@ -144,7 +159,15 @@ operands_kind b left right = if is_shift b then left else option_or left right
 
 -- a constant's type and value are found in its module, and in the type whose own it is
 abbrev pub constant_place : Scope → (constant : ℕ) → Item → Where
-constant_place s n it = record { inside = it.«module»; item = owner_of s n; given = [] }
+constant_place s n it = record { inside = it.«module»; item = owner_of s n; given = []; locals = [] }
+
+-- nothing in an expression tells its type
+abbrev pub is_open : Expr → Bool
+is_open (IntegerExpr n suffix at) = not (is_some suffix)
+is_open (Unary' u p e at) = is_open e
+is_open (Binary' b p l q r at) = is_open l && is_open r
+is_open (If' p c q l o r at) = is_open l && is_open r
+is_open e = false
 
 module _ (items : Items) (scope : Scope) where
   -- the item of this number
@@ -319,9 +342,18 @@ module _ (items : Items) (scope : Scope) where
   path_kind_in w p (Some index) = parameter_type w.item index
   path_kind_in w p None = path_kind_by w p (constant_named w p)
 
-  -- the type of the constant that a path names: a parameter, a constant or a limit
+  abbrev pub path_kind_of : Where → Path → Option ValueRead → Option Kind
+  path_kind_of w p (Some v) = Some (kind_read v)
+  path_kind_of w p None = path_kind_in w p (option_and_then (parameter_named w.item) (single_name p))
+
+  -- the type of the constant that a path names: a `let`, a parameter, a constant or a limit
   unfoldable pub path_kind : Where → Path → Option Kind
-  path_kind w p = path_kind_in w p (option_and_then (parameter_named w.item) (single_name p))
+  path_kind w p = path_kind_of w p (local_at w p)
+
+  -- a `let` of this name hides another one, or a parameter; what a `match` compares is named by nothing else
+  abbrev pub hides : Where → Symbol → Bool
+  hides w name =
+      if is_same_name name UNDERSCORE then false else is_some (local_named w.locals name.0) || is_some (parameter_named w.item name)
 
   -- the call of a method of integers on what is in the path's type, where that is one
   abbrev pub call_on : Method → Option Kind → Option IntegerCall
@@ -354,9 +386,33 @@ module _ (items : Items) (scope : Scope) where
   kind_of_expr w (Binary' b p l q r at) = if is_test b then Some BoolKind else operands_kind b (kind_of_expr w l) (kind_of_expr w r)
   kind_of_expr w (Cast' p e q t at) = kind_written w t
   kind_of_expr w (If' p c q l o r at) = option_or (kind_of_expr w l) (kind_of_expr w r)
+  kind_of_expr w (Let' name p t q e o rest at) = if hides w name then None else kind_of_expr w rest
   kind_of_expr w (Unevaluated u at) = None
+
+  -- the type of a choice: the one that is wanted, or that of a branch
+  abbrev pub choice_kind : Where → (yes no : Expr) → (wanted : Option Kind) → Option Kind
+  choice_kind w l r wanted = option_or wanted (option_or (kind_of_expr w l) (kind_of_expr w r))
 
   -- the type that an operator's first operand has to have: the one that is wanted, but of a test the operands'
   abbrev pub operand_kind : Where → Binary → (left right : Expr) → (wanted : Option Kind) → Option Kind
   operand_kind w b l r wanted =
       option_or (if is_test b then None else wanted) (operands_kind b (kind_of_expr w l) (kind_of_expr w r))
+
+  -- the type of which an expression uses the value of a `let` whose type isn't known: that of its first use where one is known
+  abbrev pub kind_used : Where → Symbol → Expr → (wanted : Option Kind) → Option Kind
+  kind_used w name (PathExpr p) wanted = if is_local name (single_name p) then wanted else None
+  kind_used w name (Unary' u p e at) wanted = kind_used w name e wanted
+  kind_used w name (Binary' b p l q r at) wanted =
+      let kind = operand_kind w b l r wanted in
+      if is_some kind then option_or (kind_used w name l kind) (if is_shift b then None else kind_used w name r kind) else None
+  kind_used w name (If' p c q l o r at) wanted =
+      option_or (kind_used w name c (Some BoolKind)) (option_or (kind_used w name l wanted) (kind_used w name r wanted))
+  kind_used w name (Let' other p t q e o rest at) wanted =
+      let kind = kind_written w t in
+      option_or (if is_some kind then kind_used w name e kind else None)
+      (if is_same_name other name || hides w other then None else kind_used w name rest wanted)
+  kind_used w name _ wanted = None
+
+  -- the type of the value of a `let`: the one that is written, or the value's own, or the one of which what follows uses it
+  abbrev pub local_kind : Where → Symbol → Written → (value rest : Expr) → (wanted : Option Kind) → Option Kind
+  local_kind w name t e rest wanted = option_or (kind_written w t) (option_or (kind_of_expr w e) (kind_used w name rest wanted))

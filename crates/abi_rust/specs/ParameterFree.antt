@@ -1,7 +1,7 @@
 -- Whether constants that are written in types are calculated from parameters.
 use Rattle.std.specs.Prelude.{ℕ, ◌&&◌, ◌||◌, not, nat_eq, nat_lt, is_some, Bool, true, false, List, [], ◌∷◌, length, Option, Some, None, Ok, if◌then◌else◌}
 use Rattle.std.specs.Option.{option_and_then}
-use Rattle.rust_source.specs.Syntax.{ArgumentRead, ArgumentsRead, ExprRead, ExprsRead, PathRead, SegmentRead, SegmentsRead, TypeRead, TypesRead, array, binary, binding, bool, call, cast, char, choice, constant, dyn, expr_of, function, integer, more_arguments, more_exprs, more_segments, more_types, named, never, no_arguments, no_exprs, no_segments, no_types, of_const, of_type, other_expr, other_type, path, pointer, reference, segment, slice, text, tuple, unary}
+use Rattle.rust_source.specs.Syntax.{ArgumentRead, ArgumentsRead, ExprRead, ExprsRead, PathRead, SegmentRead, SegmentsRead, TypeRead, TypesRead, array, binary, binding, bool, call, cast, char, choice, constant, dyn, expr_of, function, integer, local, more_arguments, more_exprs, more_segments, more_types, named, never, no_arguments, no_exprs, no_segments, no_types, of_const, of_type, other_expr, other_type, path, pointer, reference, segment, slice, text, tuple, unary}
 use Rattle.rust_source.specs.declared.item.Item.{Item}
 use Rattle.rust_source.specs.declared.item.Parameter.{Parameter}
 use Rattle.rust_source.specs.declared.item.ParameterKind.{ParameterKind}
@@ -95,6 +95,7 @@ module _ (cx : Context) (w : Where) where
     expr_uses (binary b l r at) = expr_uses l || expr_uses r
     expr_uses (cast e t at) = expr_uses e || type_uses t
     expr_uses (choice c l r at) = expr_uses c || (expr_uses l || expr_uses r)
+    expr_uses (local name t e rest at) = type_uses t || (expr_uses e || expr_uses rest)
     expr_uses (other_expr u at) = false
 
     pub exprs_use : ExprsRead → Bool

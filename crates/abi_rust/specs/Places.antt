@@ -1,7 +1,7 @@
 -- Where expressions and paths stand.
 use Rattle.std.specs.Prelude.{◌-◌, length, slice_get, Option, Some, None}
 use Rattle.rust_source.specs.declared.place.Place.{Place}
-use Rattle.rust_source.specs.declared.syntax.Expr.{Expr, Integer, Char, Bool, Text, Path as PathExpr, Call', Unary', Binary', Cast', If', Unevaluated}
+use Rattle.rust_source.specs.declared.syntax.Expr.{Expr, Integer, Char, Bool, Text, Path as PathExpr, Call', Unary', Binary', Cast', If', Let', Unevaluated}
 use Rattle.rust_source.specs.declared.syntax.Path.{Path, out-Path}
 use Rattle.rust_source.specs.declared.syntax.Segment.{Segment, out-Segment}
 
@@ -30,4 +30,5 @@ place_of_expr (Unary' u p e at) = at
 place_of_expr (Binary' b p l q r at) = at
 place_of_expr (Cast' p e q t at) = at
 place_of_expr (If' p c q l o r at) = at
+place_of_expr (Let' name p t q e o rest at) = at
 place_of_expr (Unevaluated u at) = at

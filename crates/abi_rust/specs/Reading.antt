@@ -1,11 +1,12 @@
 -- What is read: the standard library's source, and then files.
 use Rattle.std.specs.Prelude.{◌≡◌, ◌⊎◌, ℕ, ◌+◌, ◌-◌, ◌^◌, ◌++◌, Bool, true, false, List, [], ◌∷◌, length, min, None, Some, Result, Ok, Err, if◌then◌else◌}
 use Rattle.rust_source.specs.Growth.{BeginsWith}
-use Rattle.rust_source.specs.Having.{Having}
+use Rattle.rust_source.specs.Having.{Having, with_known_macros}
 use Rattle.rust_source.specs.Items.{items_as_read, no_items}
 use Rattle.rust_source.specs.Names.{first_names, texts}
 use Rattle.rust_source.specs.Sources.{MeansItems}
 use Rattle.rust_source.specs.declared.fault.SourceFault.{SourceFault}
+use Rattle.rust_source.specs.declared.item.Macro.{Macro}
 use Rattle.rust_source.specs.declared.place.TheConstants.Symbol.{CRATE, UNDERSCORE}
 use Rattle.rust_source.specs.declared.reader.Source.{Source}
 use Rattle.rust_source.specs.declared.reader.modules.SourceRoot.{SourceRoot}
@@ -34,14 +35,18 @@ library_text = STD_SOURCES.now
 abbrev pub having : Sources → Having
 having s = (texts s.names, items_as_read s.items)
 
+-- no text is read yet, where these macros are known
+pub record HoldsNothing (known_macros : List Macro) (s : Sources) : Type 0 where
+  pub items : items_as_read s.items ≡ with_known_macros known_macros no_items
+  pub crates : s.crates.items ≡ []
+  pub files : s.files.items ≡ []
+  pub scope : s.scope ≡ None
+
 -- nothing is read yet: the names are those that each source may have, and those that have a meaning of their own
 pub record IsUnread (s : Sources) : Type 0 where
   pub names : texts s.names ≡ first_names ++ known_words
   pub words : s.words.first ≡ length first_names
-  pub items : items_as_read s.items ≡ no_items
-  pub crates : s.crates.items ≡ []
-  pub files : s.files.items ≡ []
-  pub scope : s.scope ≡ None
+  pub nothing : HoldsNothing [] s
 
 -- the place behind a text that begins at a place, and one more; none is above 2^32 - 1
 abbrev pub place_behind : (start : ℕ) → (text : List ℕ) → ℕ

@@ -65,7 +65,7 @@ is_wanted (Some kind) v = is_same_kind kind (kind_read v)
 
 -- the inside of an item, under what its parameters are given
 abbrev pub inside_item : ℕ → Item → List GenericArgRead → Where
-inside_item n it given = record { inside = it.«module»; item = Some n; given = given }
+inside_item n it given = record { inside = it.«module»; item = Some n; given = given; locals = [] }
 
 -- the same of an item with what its parameters are given
 abbrev pub inside_of : Instance → Where

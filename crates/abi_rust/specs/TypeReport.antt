@@ -1,5 +1,5 @@
 -- The type that is reported on, and the names of its parts.
-use Rattle.std.specs.Prelude.{ℕ, ◌-◌, nat_eq, Bool, true, List, map, Option, Some, None, Ok, if◌then◌else◌}
+use Rattle.std.specs.Prelude.{ℕ, ◌-◌, nat_eq, Bool, true, List, [], map, Option, Some, None, Ok, if◌then◌else◌}
 use Rattle.std.specs.Option.{option_map}
 use Rattle.abi_tree.specs.Tree.{Tree, tree_of}
 use Rattle.rust_source.specs.declared.item.Field.{Field}
@@ -100,7 +100,7 @@ shape_of cx s file _ = no_names
 
 -- where the call stands that asks for a size
 abbrev pub place_of_request : Request → Where
-place_of_request r = record { inside = r.«module»; item = r.item; given = all_given r.given.items }
+place_of_request r = record { inside = r.«module»; item = r.item; given = all_given r.given.items; locals = [] }
 
 -- what the program tells as the definitions see it
 abbrev pub report_read : TypeReport → Tree × ShapeRead

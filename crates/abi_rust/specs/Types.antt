@@ -8,6 +8,7 @@ use Rattle.abi_rust.specs.declared.ty.Primitive.{Primitive}
 use Rattle.abi_rust.specs.declared.ty.Ty.{Ty}
 use Rattle.abi_rust.specs.Values.{ValueRead, value_as_read}
 use Rattle.abi_rust.specs.declared.budget.Env.{Env}
+use Rattle.abi_rust.specs.declared.budget.Local.{Local}
 
 mutual
   -- a type
@@ -89,12 +90,23 @@ given_of = fold-GenericArg GenericArgRead TyRead layer_given layer_ty
 abbrev pub all_given : List GenericArg → List GenericArgRead
 all_given = map given_of
 
--- where a type or an expression stands: the module, the item whose parameters it may name, and what they are given
+-- a `let` of this name, and its value
+pub record LocalRead : Type 0 where
+  pub name : ℕ
+  pub value : ValueRead
+
+-- the program's `let` as the definitions see it
+abbrev pub local_read : Local → LocalRead
+local_read l = record { name = l.name.0; value = value_as_read l.value }
+
+-- where a type or an expression stands: the module, the item whose parameters it may name, what they are given, and the
+-- `let`s before it, the last first
 pub record Where : Type 0 where
   pub inside : ℕ
   pub item : Option ℕ
   pub given : List GenericArgRead
+  pub locals : List LocalRead
 
 -- the program's setting as the definitions see it
 abbrev pub where_of : Env → Where
-where_of s = record { inside = s.«module»; item = s.item; given = all_given s.given.now }
+where_of s = record { inside = s.«module»; item = s.item; given = all_given s.given.now; locals = map local_read s.locals.now }

@@ -13,7 +13,7 @@ use crate::scope::Scope;
 use crate::ty::{ConstValue, GenericArg, Ty, same_givens};
 use abi_base::TargetDataLayout;
 use indexmap::IndexMap;
-use rust_source::{Item, Items, Place, Type};
+use rust_source::{Item, Items, Place, Symbol, Type};
 use std::alloc::Global;
 
 /// How deep types and constants may need one another: 200 types at least, each of which is looked at twice, as a type and as
@@ -24,7 +24,7 @@ const MOST_DEEP: u32 = 402;
 /// twice, have a million, and are to be a fault at once.
 pub(crate) const MOST_PARTS: u32 = 1 << 19;
 
-/// How many of them the call of a function counts as.
+/// How many of them the call of a function, or a `let`, counts as.
 const PARTS_OF_A_CALL: u32 = 32;
 
 /// What all work rests on.
@@ -40,6 +40,13 @@ pub(crate) struct Context<'a, 'k> {
     pub(crate) known: &'k [KnownSize<'a>],
 }
 
+/// A `let` whose value is known.
+#[derive(Clone, Copy)]
+pub(crate) struct Local {
+    pub(crate) name: Symbol,
+    pub(crate) value: ConstValue,
+}
+
 /// Where a type or an expression stands, and how deep it may need others.
 #[derive(Clone, Copy)]
 pub(crate) struct Env<'g> {
@@ -49,6 +56,8 @@ pub(crate) struct Env<'g> {
     pub(crate) item: Option<u32>,
     /// What they are given.
     pub(crate) given: &'g [GenericArg],
+    /// The `let`s before it in the blocks around it, the last first.
+    pub(crate) locals: &'g [Local],
     /// How deep what stands here may need other types and constants.
     pub(crate) depth_left: u32,
 }
@@ -95,6 +104,7 @@ impl<'g> Instance<'_, 'g> {
             module: self.item.module,
             item: Some(self.number),
             given: self.given,
+            locals: &[],
             depth_left: most_deep(),
         }
     }
@@ -154,7 +164,7 @@ impl<'a> Budget<'a> {
         }
     }
 
-    /// Calls a function, which counts as many parts, since names are looked for in its body.
+    /// Calls a function, or goes on behind a `let`, which counts as many parts, since names are looked for in what follows.
     pub(crate) fn spend_call(&mut self) -> Result<(), Stop>
         ensures err { IfErr result (λ e. is_beside e ≡ true) }
         ensures values { self.new.values ≡ self.old.values }

@@ -8,7 +8,7 @@ ghost use Rattle.abi_rust.specs.Types.{where_of};
 ghost use Rattle.abi_rust.specs.Values.{value_as_read};
 
 use crate::budget::{Context, Env, most_deep};
-use crate::kind::{given_named, name_alone, parameter_named, single_name};
+use crate::kind::{given_named, local_named, name_alone, parameter_named, single_name};
 use crate::paths::{Resolution, Space, find, type_named, visibility_of_item};
 use crate::ty::{ConstValue, GenericArg};
 use crate::visible::is_visible;
@@ -67,11 +67,15 @@ pub(crate) fn owner_named(
     type_named(cx.items, cx.scope, env.module, path, count)
 }
 
-/// The value that the parameter of this name is given, if it is one.
+/// The value that a path names that stands nowhere else: that of a `let`, or what a parameter is given.
 pub(crate) fn value_given(cx: &Context<'_, '_>, env: Env<'_>, path: &Path) -> Option<ConstValue>
     ensures { option_map value_as_read result ≡ value_given cx.now (where_of env.entry) path.now }
 {
-    match given_named(cx, env, single_name(path)?) {
+    let name = single_name(path)?;
+    if let Some(value) = local_named(env.locals, name) {
+        return Some(value);
+    }
+    match given_named(cx, env, name) {
         Some(GenericArg::Value(value)) => Some(*value),
         _ => None,
     }
@@ -86,6 +90,7 @@ pub(crate) fn inside_constant(cx: &Context<'_, '_>, number: u32, item: &Item) ->
         module: item.module,
         item: cx.scope.owner(number),
         given: &[],
+        locals: &[],
         depth_left: most_deep(),
     }
 }

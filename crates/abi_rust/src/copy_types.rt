@@ -124,6 +124,7 @@ fn item_lacks<'a>(
         module: item.module,
         item: Some(number),
         given,
+        locals: &[],
         depth_left: most_deep(),
     };
     kind_lacks(cx, budget, inside, item, depth_left)

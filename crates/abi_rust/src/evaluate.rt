@@ -1,25 +1,25 @@
 //! Constants' values.
 
-ghost use Rattle.std.specs.Prelude.{◌≡◌, [], false, pos, IfOk, Ok, Some, nat_eq, length};
+ghost use Rattle.std.specs.Prelude.{◌≡◌, [], ◌∷◌, false, true, pos, IfErr, IfOk, Ok, Some, map, nat_eq, length};
 ghost use Rattle.std.specs.Option.{option_copied, option_map};
 ghost use Rattle.indexmap.specs.IndexMap.{get};
-ghost use Rattle.abi_rust.specs.Evaluating.{AreValues, argument_value, arguments_from, binary_value, branch_of, called_value, length_read, length_value, cast_value, cast_variant, constant_on, constant_value, counted_on, discriminant, discriminant_base, evaluator, function_value, has_own_type, is_call, end_value, both_value, method_value, one_value, operand_value, path_value, receiver_value, right_kind, second_value, typed, unary_value, value_by, value_with};
+ghost use Rattle.abi_rust.specs.Evaluating.{AreValues, argument_value, arguments_from, binary_value, bound_value, branch_of, choice_value, called_value, length_read, length_value, cast_value, cast_variant, constant_on, constant_value, counted_on, discriminant, discriminant_base, evaluator, function_value, has_own_type, is_call, let_value, end_value, both_value, method_value, one_value, operand_value, path_value, receiver_value, right_kind, second_value, typed, unary_value, value_by, value_with};
 ghost use Rattle.abi_rust.specs.Kinds.{constant_place, function_read, integer_call};
-ghost use Rattle.abi_rust.specs.Meaning.{Means};
+ghost use Rattle.abi_rust.specs.Meaning.{Means, is_beside};
 ghost use Rattle.abi_rust.specs.Scope.{same_key};
 ghost use Rattle.abi_rust.specs.Operators.{bits_of_integer, fitted, seen};
-ghost use Rattle.abi_rust.specs.Types.{all_given, where_of};
+ghost use Rattle.abi_rust.specs.Types.{all_given, local_read, where_of};
 ghost use Rattle.abi_rust.specs.Values.{IsOfKind, value_as_read};
 
-use crate::budget::{Budget, Context, Env, push_given};
+use crate::budget::{Budget, Context, Env, Local, push_given};
 use crate::calls::{Function, function_called, result_kind};
 use crate::constants::{constant_named, inside_constant, value_given};
 use crate::discriminants::{check_cast, discriminant_kind, variant_named, written_before};
 use crate::fault::{FaultKind, Stop, stop_at};
 use crate::int::{Int, Width};
 use crate::kind::{
-    BinaryExpr, integer_call, is_shift, kind_of, kind_of_parameter, kind_written, operand_kind,
-    outside,
+    BinaryExpr, ChoiceExpr, LetExpr, choice_kind, integer_call, is_shift, kind_of,
+    kind_of_parameter, kind_written, leaves_open, local_kind, operand_kind, outside,
 };
 use crate::lengths::{LengthExpr, bytes_asked, length_asked};
 use crate::limits::limit;
@@ -33,6 +33,7 @@ use crate::places::{at_place, place_of, place_of_path};
 use crate::sizes::call;
 use crate::ty::{ConstValue, GenericArg, Kind};
 use rust_source::{Expr, IntegerKind, Item, ItemKind, Path, Place, Type, Unary, Unevaluated};
+use std::alloc::Global;
 
 /// An operator before its operand.
 #[derive(Clone, Copy)]
@@ -181,12 +182,109 @@ fn evaluate_any<'a>(
             evaluate_cast(cx, budget, env, expr)
         }
         Expr::If(condition, yes, no, _) => {
-            let condition = evaluate(cx, budget, env, condition, Some(Kind::Bool))?;
-            evaluate(cx, budget, env, branch_of(condition, yes, no), wanted)
+            let expr = ChoiceExpr { condition, yes, no };
+            evaluate_choice(cx, budget, env, expr, wanted)
+        }
+        Expr::Let(name, ty, value, rest, _) => {
+            let expr = LetExpr {
+                name: *name,
+                ty,
+                value,
+                rest,
+            };
+            evaluate_let(cx, budget, env, expr, wanted)
         }
         Expr::Text(_, at) => Err(stop_at(*at, FaultKind::Unevaluated(Unevaluated::Expression))),
         Expr::Unevaluated(what, at) => Err(stop_at(*at, FaultKind::Unevaluated(*what))),
     }
+}
+
+/// The value of the branch that a condition chooses. It isn't evaluated where the branches have a type that isn't known.
+#[cycle(evaluating)]
+fn evaluate_choice<'a>(
+    cx: &Context<'a, '_>,
+    budget: &mut Budget<'a>,
+    env: Env<'_>,
+    expr: ChoiceExpr<'a>,
+    wanted: Option<Kind>,
+) -> Result<ConstValue, Stop>
+    requires { AreValues cx.now (get same_key budget.old.values) }
+    ensures value { Means value_as_read (choice_value cx.now (evaluator cx.now env.entry.depth_left) (where_of env.entry)
+        expr.entry.condition.now expr.entry.yes.now expr.entry.no.now wanted) result }
+    ensures kept { IfOk result (λ _. AreValues cx.now (get same_key budget.new.values)) }
+{
+    let kind = choice_kind(cx, env, expr, wanted);
+    let condition = evaluate(cx, budget, env, expr.condition, Some(Kind::Bool))?;
+    let chosen = branch_of(condition, expr.yes, expr.no);
+    if kind.is_some() || leaves_open(expr) {
+        return evaluate(cx, budget, env, chosen, kind);
+    }
+    Err(stop_at(
+        place_of(chosen),
+        FaultKind::Unevaluated(Unevaluated::Expression),
+    ))
+}
+
+/// The value of a `let`, of the type that it has, or of the own one that a call's value has.
+#[cycle(evaluating)]
+fn evaluate_bound<'a>(
+    cx: &Context<'a, '_>,
+    budget: &mut Budget<'a>,
+    env: Env<'_>,
+    expr: &'a Expr,
+    kind: Option<Kind>,
+) -> Result<ConstValue, Stop>
+    requires { AreValues cx.now (get same_key budget.old.values) }
+    ensures value { Means value_as_read (bound_value cx.now (evaluator cx.now env.entry.depth_left) (where_of env.entry) expr.now kind) result }
+    ensures kept { IfOk result (λ _. AreValues cx.now (get same_key budget.new.values)) }
+{
+    if kind.is_some() || is_call(expr) {
+        return evaluate(cx, budget, env, expr, kind);
+    }
+    Err(stop_at(
+        place_of(expr),
+        FaultKind::Unevaluated(Unevaluated::Expression),
+    ))
+}
+
+/// A `let` before those that stand before it.
+fn with_local(alloc: Global, local: Local, before: &[Local]) -> Result<Vec<Local>, Stop>
+    ensures ok { IfOk result (λ all. map local_read all.items ≡ local_read local ∷ map local_read before.now) }
+    ensures err { IfErr result (λ e. is_beside e ≡ true) }
+{
+    let mut all = Vec::new(alloc);
+    all.push(local)?;
+    all.extend_from_slice(before)?;
+    Ok(all)
+}
+
+/// The value of a `let` with what follows it.
+#[cycle(evaluating)]
+fn evaluate_let<'a>(
+    cx: &Context<'a, '_>,
+    budget: &mut Budget<'a>,
+    env: Env<'_>,
+    expr: LetExpr<'a>,
+    wanted: Option<Kind>,
+) -> Result<ConstValue, Stop>
+    requires { AreValues cx.now (get same_key budget.old.values) }
+    ensures value { Means value_as_read (let_value cx.now (evaluator cx.now env.entry.depth_left) (where_of env.entry)
+        expr.entry.name expr.entry.ty.now expr.entry.value.now expr.entry.rest.now wanted) result }
+    ensures kept { IfOk result (λ _. AreValues cx.now (get same_key budget.new.values)) }
+{
+    budget.spend_call()?;
+    let kind = local_kind(cx, env, expr, wanted);
+    let value = evaluate_bound(cx, budget, env, expr.value, kind)?;
+    let local = Local {
+        name: expr.name,
+        value,
+    };
+    let locals = with_local(cx.alloc, local, env.locals)?;
+    let inside = Env {
+        locals: locals.as_slice(),
+        ..env
+    };
+    evaluate(cx, budget, inside, expr.rest, wanted)
 }
 
 /// The value of a call: of a method of integers, of a function, of `len`, or of `size_of` or `align_of`.
@@ -262,6 +360,7 @@ fn evaluate_function<'a>(
         module: function.item.module,
         item: Some(function.number),
         given: given.as_slice(),
+        locals: &[],
         depth_left: env.depth_left,
     };
     evaluate(cx, budget, inside, function.body, Some(kind))

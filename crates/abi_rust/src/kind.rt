@@ -1,19 +1,20 @@
 //! The type of a constant expression, found without its value.
 
-ghost use Rattle.std.specs.Prelude.{◌≡◌, IfSome, slice_get};
+ghost use Rattle.std.specs.Prelude.{◌≡◌, ◌&&◌, IfSome, map, slice_get};
 ghost use Rattle.std.specs.Option.{option_and_then, option_copied, option_map};
 ghost use Rattle.rust_source.specs.declared.syntax.Path.{out-Path};
-ghost use Rattle.abi_rust.specs.Kinds.{constant_type, function_called, given_named, integer_call, is_given, is_parameter_of, is_shift, is_test, kind_of_called, kind_of_names, kind_found, kind_given, kind_of_expr, kind_of_primitive, kind_written, limit_type, name_alone, names_method, number_from, operand_kind, operands_kind, outside, parameter_named, parameter_type, parameters_of, path_kind, single_name};
+ghost use Rattle.abi_rust.specs.Kinds.{choice_kind, constant_type, function_called, given_named, hides, integer_call, is_local, is_given, is_open, is_parameter_of, is_shift, is_test, kind_of_called, kind_of_names, kind_found, kind_given, kind_of_expr, kind_of_primitive, kind_used, kind_written, limit_type, local_at, local_kind, local_named, name_alone, names_method, number_from, operand_kind, operands_kind, outside, parameter_named, parameter_type, parameters_of, path_kind, single_name};
 ghost use Rattle.abi_rust.specs.Places.{last_name};
 ghost use Rattle.abi_rust.specs.Resolving.{most_deep};
-ghost use Rattle.abi_rust.specs.Types.{given_of, where_of};
+ghost use Rattle.abi_rust.specs.Types.{given_of, local_read, where_of};
+ghost use Rattle.abi_rust.specs.Values.{value_as_read};
 
-use crate::budget::{Context, Env, most_deep};
+use crate::budget::{Context, Env, Local, most_deep};
 use crate::calls::{function_called, result_kind};
 use crate::constants::{constant_named, inside_constant};
 use crate::methods::{IntegerCall, kind_made};
 use crate::paths::{Resolution, find_prefix, found_by, item_at, most_aliases};
-use crate::ty::{GenericArg, Kind, Primitive, Ty};
+use crate::ty::{ConstValue, GenericArg, Kind, Primitive, Ty};
 use crate::words::Word;
 use rust_source::{
     Binary, Expr, IntegerKind, Item, ItemKind, Parameter, ParameterKind, Path, Segment, Symbol,
@@ -96,6 +97,35 @@ pub(crate) fn given_named<'g>(
         ≡ given_named cx.now.items.now cx.now.scope.now (where_of env.entry) name }
 {
     env.given.get(parameter_named(cx, env.item, name)?)
+}
+
+/// The value of the last `let` of this name.
+pub(crate) fn local_named(locals: &[Local], name: Symbol) -> Option<ConstValue>
+    ensures { option_map value_as_read result ≡ local_named (map local_read locals.now) name.0 }
+{
+    for local in locals {
+        if local.name == name {
+            return Some(local.value);
+        }
+    }
+    None
+}
+
+/// The value of the `let` that a path names.
+fn local_at(env: Env<'_>, path: &Path) -> Option<ConstValue>
+    ensures { option_map value_as_read result ≡ local_at (where_of env.entry) path.now }
+{
+    local_named(env.locals, single_name(path)?)
+}
+
+/// Whether a `let` of this name hides another one, or a parameter. What a `match` compares is named by nothing else.
+fn hides(cx: &Context<'_, '_>, env: Env<'_>, name: Symbol) -> bool
+    ensures { result ≡ hides cx.now.items.now cx.now.scope.now (where_of env.entry) name }
+{
+    if name == Symbol::UNDERSCORE {
+        return false;
+    }
+    local_named(env.locals, name).is_some() || parameter_named(cx, env.item, name).is_some()
 }
 
 /// The type of constants that a primitive type is.
@@ -208,6 +238,12 @@ pub(crate) fn kind_of(cx: &Context<'_, '_>, env: Env<'_>, expr: &Expr) -> Option
             }
             kind_of(cx, env, right)
         }
+        Expr::Let(name, _, _, rest, _) => {
+            if hides(cx, env, *name) {
+                return None;
+            }
+            kind_of(cx, env, rest)
+        }
         Expr::Unevaluated(_, _) => None,
     }
 }
@@ -258,6 +294,9 @@ fn kind_of_call(cx: &Context<'_, '_>, env: Env<'_>, path: &Path) -> Option<Kind>
 fn kind_of_path(cx: &Context<'_, '_>, env: Env<'_>, path: &Path) -> Option<Kind>
     ensures { result ≡ path_kind cx.now.items.now cx.now.scope.now (where_of env.entry) path.now }
 {
+    if let Some(value) = local_at(env, path) {
+        return Some(value.kind());
+    }
     if let Some(name) = single_name(path) {
         if let Some(index) = parameter_named(cx, env.item, name) {
             return kind_of_parameter(cx, env.item, index);
@@ -328,6 +367,7 @@ pub(crate) fn outside(module: u32) -> Env<'static>
         module,
         item: None,
         given: &[],
+        locals: &[],
         depth_left: most_deep(),
     }
 }
@@ -354,6 +394,54 @@ pub(crate) fn is_shift(operator: Binary) -> bool
     }
 }
 
+/// Whether nothing in an expression tells its type.
+fn is_open(expr: &Expr) -> bool
+    ensures { result ≡ is_open expr.now }
+{
+    match expr {
+        Expr::Integer(_, suffix, _) => suffix.is_none(),
+        Expr::Unary(_, operand, _) => is_open(operand),
+        Expr::Binary(_, left, right, _) => is_open(left) && is_open(right),
+        Expr::If(_, yes, no, _) => is_open(yes) && is_open(no),
+        _ => false,
+    }
+}
+
+/// A choice between two expressions.
+#[derive(Clone, Copy)]
+pub(crate) struct ChoiceExpr<'a> {
+    pub(crate) condition: &'a Expr,
+    pub(crate) yes: &'a Expr,
+    pub(crate) no: &'a Expr,
+}
+
+/// Whether nothing in both branches of a choice tells their type.
+pub(crate) fn leaves_open(expr: ChoiceExpr<'_>) -> bool
+    ensures { result ≡ (is_open expr.entry.yes.now && is_open expr.entry.no.now) }
+{
+    is_open(expr.yes) && is_open(expr.no)
+}
+
+/// The type of a choice: the one that is wanted, or that of a branch.
+pub(crate) fn choice_kind(
+    cx: &Context<'_, '_>,
+    env: Env<'_>,
+    expr: ChoiceExpr<'_>,
+    wanted: Option<Kind>,
+) -> Option<Kind>
+    ensures { result ≡ choice_kind cx.now.items.now cx.now.scope.now (where_of env.entry)
+        expr.entry.yes.now expr.entry.no.now wanted }
+{
+    if wanted.is_some() {
+        return wanted;
+    }
+    let kind = kind_of(cx, env, expr.yes);
+    if kind.is_some() {
+        return kind;
+    }
+    kind_of(cx, env, expr.no)
+}
+
 /// The type that an operator's first operand has to have, where one is known.
 pub(crate) fn operand_kind(
     cx: &Context<'_, '_>,
@@ -372,4 +460,101 @@ pub(crate) fn operand_kind(
         return kind;
     }
     kind_of(cx, env, expr.right)
+}
+
+/// Whether a path is this name alone.
+fn is_local(name: Symbol, path: &Path) -> bool
+    ensures { result ≡ is_local name (single_name path.now) }
+{
+    match single_name(path) {
+        Some(other) => name == other,
+        None => false,
+    }
+}
+
+/// The type of which an expression uses the value of a `let` whose type isn't known: that of its first use where one is known.
+fn kind_used(
+    cx: &Context<'_, '_>,
+    env: Env<'_>,
+    name: Symbol,
+    expr: &Expr,
+    wanted: Option<Kind>,
+) -> Option<Kind>
+    ensures { result ≡ kind_used cx.now.items.now cx.now.scope.now (where_of env.entry) name expr.now wanted }
+{
+    match expr {
+        Expr::Path(path) => { if is_local(name, path) { wanted } else { None } }
+        Expr::Unary(_, operand, _) => kind_used(cx, env, name, operand, wanted),
+        Expr::Binary(operator, left, right, _) => {
+            let expr = BinaryExpr {
+                operator: *operator,
+                left,
+                right,
+            };
+            let kind = operand_kind(cx, env, expr, wanted);
+            if kind.is_none() {
+                return None;
+            }
+            let used = kind_used(cx, env, name, left, kind);
+            if used.is_some() || is_shift(*operator) {
+                return used;
+            }
+            kind_used(cx, env, name, right, kind)
+        }
+        Expr::If(condition, yes, no, _) => {
+            let used = kind_used(cx, env, name, condition, Some(Kind::Bool));
+            if used.is_some() {
+                return used;
+            }
+            let used = kind_used(cx, env, name, yes, wanted);
+            if used.is_some() {
+                return used;
+            }
+            kind_used(cx, env, name, no, wanted)
+        }
+        Expr::Let(other, ty, value, rest, _) => {
+            let kind = kind_written(cx, env, ty);
+            if kind.is_some() {
+                let used = kind_used(cx, env, name, value, kind);
+                if used.is_some() {
+                    return used;
+                }
+            }
+            if *other == name || hides(cx, env, *other) {
+                return None;
+            }
+            kind_used(cx, env, name, rest, wanted)
+        }
+        _ => None,
+    }
+}
+
+/// A `let`: its name, the type that is written, its value, and what follows it.
+#[derive(Clone, Copy)]
+pub(crate) struct LetExpr<'a> {
+    pub(crate) name: Symbol,
+    pub(crate) ty: &'a Type,
+    pub(crate) value: &'a Expr,
+    pub(crate) rest: &'a Expr,
+}
+
+/// The type of the value of a `let`: the one that is written, or the value's own, or the one of which what follows uses it.
+pub(crate) fn local_kind(
+    cx: &Context<'_, '_>,
+    env: Env<'_>,
+    expr: LetExpr<'_>,
+    wanted: Option<Kind>,
+) -> Option<Kind>
+    ensures { result ≡ local_kind cx.now.items.now cx.now.scope.now (where_of env.entry)
+        expr.entry.name expr.entry.ty.now expr.entry.value.now expr.entry.rest.now wanted }
+{
+    let written = kind_written(cx, env, expr.ty);
+    if written.is_some() {
+        return written;
+    }
+    let own = kind_of(cx, env, expr.value);
+    if own.is_some() {
+        return own;
+    }
+    kind_used(cx, env, expr.name, expr.rest, wanted)
 }

@@ -1,9 +1,9 @@
-//! The limits of integer types, as constants name them.
+//! The limits of integer types and of `char`, as constants name them.
 
 ghost use Rattle.std.specs.Prelude.{◌≡◌};
 ghost use Rattle.std.specs.Option.{option_map};
 ghost use Rattle.rust_source.specs.declared.syntax.Segment.{out-Segment};
-ghost use Rattle.abi_rust.specs.Evaluating.{barred, limit, limit_named, limit_of, unknown_of};
+ghost use Rattle.abi_rust.specs.Evaluating.{barred, limit, limit_named, limit_of, limit_of_char, unknown_of};
 ghost use Rattle.abi_rust.specs.Kinds.{kind_of_names};
 ghost use Rattle.abi_rust.specs.Meaning.{Means};
 ghost use Rattle.abi_rust.specs.Types.{where_of};
@@ -18,7 +18,7 @@ use crate::ty::{ConstValue, Kind};
 use crate::words::Word;
 use rust_source::{IntegerKind, Path, Symbol, Unevaluated};
 
-/// `T::MAX`, `T::MIN` or `T::BITS` of an integer type.
+/// `T::MAX`, `T::MIN` or `T::BITS` of an integer type, and the first two of `char`.
 #[tactic(auto, unfolding(crate::specs::Evaluating::limit))]
 pub(crate) fn limit(cx: &Context<'_, '_>, env: Env<'_>, path: &Path) -> Result<ConstValue, Stop>
     ensures { Means value_as_read (limit cx.now (where_of env.entry) path.now) result }
@@ -50,12 +50,27 @@ fn barred(cx: &Context<'_, '_>, module: u32, path: &Path) -> Option<FaultKind>
     }
 }
 
-/// The limit of this name of a type, if it is an integer's.
+/// The first or the last character, by its name.
+fn limit_of_char(cx: &Context<'_, '_>, name: Symbol) -> Option<ConstValue>
+    ensures { option_map value_as_read result ≡ limit_of_char cx.now name }
+{
+    let words = cx.scope.words;
+    if words.is(name, Word::Max) {
+        return Some(ConstValue::Char(0x10_ffff));
+    }
+    if words.is(name, Word::Min) {
+        return Some(ConstValue::Char(0));
+    }
+    None
+}
+
+/// The limit of this name of a type, if it is an integer's or `char`'s.
 fn limit_of(cx: &Context<'_, '_>, kind: Option<Kind>, name: Symbol) -> Option<ConstValue>
     ensures { option_map value_as_read result ≡ limit_of cx.now name kind }
 {
     match kind {
         Some(Kind::Integer(kind)) => limit_named(cx, kind, name),
+        Some(Kind::Char) => limit_of_char(cx, name),
         _ => None,
     }
 }

@@ -109,6 +109,9 @@ fn expr_uses(cx: &Context<'_, '_>, env: Env<'_>, expr: &Expr) -> bool
         Expr::If(condition, yes, no, _) => {
             expr_uses(cx, env, condition) || (expr_uses(cx, env, yes) || expr_uses(cx, env, no))
         }
+        Expr::Let(_, ty, value, rest, _) => {
+            type_uses(cx, env, ty) || (expr_uses(cx, env, value) || expr_uses(cx, env, rest))
+        }
         _ => false,
     }
 }

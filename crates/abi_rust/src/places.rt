@@ -26,6 +26,7 @@ pub(crate) fn place_of(expr: &Expr) -> Place
         Expr::Binary(_, _, _, at) => *at,
         Expr::Cast(_, _, at) => *at,
         Expr::If(_, _, _, at) => *at,
+        Expr::Let(_, _, _, _, at) => *at,
         Expr::Unevaluated(_, at) => *at,
     }
 }

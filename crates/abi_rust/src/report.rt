@@ -332,6 +332,7 @@ fn size_of<'a>(
         module: request.module,
         item: request.item,
         given: request.given.as_slice(),
+        locals: &[],
         depth_left: most_deep(),
     };
     let ty = resolve(cx, budget, env, request.ty)?;

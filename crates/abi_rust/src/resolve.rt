@@ -361,6 +361,7 @@ fn item_under<'a>(
                 module: named.item.module,
                 item: Some(named.number),
                 given: given.as_slice(),
+                locals: &[],
                 depth_left,
             };
             resolve(cx, budget, inside, ty)
@@ -431,6 +432,7 @@ fn give_one<'a>(
                 module: named.item.module,
                 item: Some(named.number),
                 given: slot.before,
+                locals: &[],
                 depth_left: env.depth_left,
             };
             given_by_default(cx, budget, inside, slot.kind, named.last)

@@ -3,10 +3,12 @@
 ghost use Rattle.std.specs.Prelude.{◌≡◌, ◌-◌, ◌<◌, ◌^◌, ◌++◌, ◌∷◌, Err, IfErr, IfOk, Ok, OnOk, Some, [], length, nat_lt, slice_get, string_bytes};
 ghost use Rattle.std.specs.Option.{option_map};
 ghost use Rattle.rust_source.specs.Growth.{BeginsWith};
+ghost use Rattle.rust_source.specs.Items.{items_as_read};
+ghost use Rattle.rust_source.specs.MacroScope.{macros_of_crate};
 ghost use Rattle.rust_source.specs.Names.{text_of};
 ghost use Rattle.abi_rust.specs.Imports.{repeated_import};
 ghost use Rattle.abi_rust.specs.Measure.{IsMeasure, Measure};
-ghost use Rattle.abi_rust.specs.Reading.{FileRead, FileReads, HasScope, IsNamesFault, IsScopeOf, IsSourceOf, IsUnread, LibraryRead, ReadsText, Stops, file_kind, having, is_library, library_text, place_behind, root_of};
+ghost use Rattle.abi_rust.specs.Reading.{FileRead, FileReads, HasScope, HoldsNothing, IsNamesFault, IsScopeOf, IsSourceOf, IsUnread, LibraryRead, ReadsText, Stops, file_kind, having, is_library, library_text, place_behind, root_of};
 ghost use Rattle.abi_rust.specs.ScopeNames.{repeated_of};
 ghost use Rattle.abi_rust.specs.Sources.{ChecksNames, IsContextOver, Reports, ReportsWritten, names_checked, reported_fault, is_of_first_crate, fault_of_unread, is_reported, items_read, module_path, qualified_name, place_in_files, place_of_attribute, place_of_item, reported_place, pointer_bits};
 
@@ -23,8 +25,8 @@ use crate::words::Words;
 use crate::written_names::check_item;
 use abi_base::TargetDataLayout;
 use rust_source::{
-    CfgTarget, Item, ItemKind, Items, Module, Names, Outline, Place, Source, SourceRoot, Symbol,
-    read_items, read_type,
+    CfgTarget, Item, ItemKind, Items, Macro, Module, Names, Outline, Place, Source, SourceRoot,
+    Symbol, macros_of_crate, read_items, read_type,
 };
 use std::alloc::{AllocError, Global};
 
@@ -92,7 +94,36 @@ impl Sources {
         })
     }
 
-    /// Reads the standard library's types. It is called once, before files are added. After a fault there are no types.
+    /// Forgets all texts, but no name, so that the same files can be read once more, as after `new`; these macros of the first
+    /// crate are known then, as `macros_of_crate` tells them.
+    pub fn restart(&mut self, alloc: Global, known_macros: Vec<Macro>)
+        ensures nothing { HoldsNothing known_macros.items self.new }
+        ensures names { self.new.names ≡ self.old.names }
+        ensures words { self.new.words ≡ self.old.words }
+    {
+        self.items = Items::with_macros(alloc, known_macros);
+        self.crates = Vec::new(alloc);
+        self.files = Vec::new(alloc);
+        self.scope = None;
+    }
+
+    /// The macros of the first crate that wrap items and are known from outside of their own sources. An error comes where a
+    /// growth of memory was refused.
+    pub fn macros_of_crate(&self, alloc: Global) -> Result<Vec<Macro>, AllocError>
+        ensures { IfOk result (λ found. found.items ≡ macros_of_crate (items_as_read self.now.items) self.now.root) }
+    {
+        macros_of_crate(alloc, &self.items, self.root)
+    }
+
+    /// The macros that were known before the first text was read.
+    pub fn known_macros(&self) -> &[Macro]
+        ensures { result.now ≡ self.now.items.known_macros.items }
+    {
+        self.items.known_macros.as_slice()
+    }
+
+    /// Reads the standard library's types. It is called before files are added, once after `new` and once after `restart`. After
+    /// a fault there are no types.
     pub fn begin(&mut self, alloc: Global, target: &CfgTarget<'_>) -> Result<(), Fault>
         ensures ok { IfOk result (λ _. LibraryRead target.now self.old self.new (Ok self.new.std_root)) }
         ensures err { IfErr result (λ fault. (stop : Stop) × (fault ≡ reported_fault self.new stop) ×

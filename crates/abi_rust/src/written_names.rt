@@ -398,6 +398,7 @@ fn inside_item(number: u32, item: &Item) -> Env<'static>
         module: item.module,
         item: Some(number),
         given: &[],
+        locals: &[],
         depth_left: most_deep(),
     }
 }

@@ -10,7 +10,7 @@ use Rattle.rust_source.specs.Cursor.{comma_passed, fault, is_done, is_next, is_k
 use Rattle.rust_source.specs.Operators.{next_operator}
 use Rattle.rust_source.specs.Reading.{read_on}
 use Rattle.rust_source.specs.Syntax.{ArgumentRead, ExprRead, SegmentRead, TypeRead, cast, tuple, type_list}
-use Rattle.rust_source.specs.Terms.{Readers, Known, argument_more, arguments_from, arguments_on, cast_from, choice_read, choice_with, done, expr_from, expr_on, expr_read, expr_with, is_method_next, method_read, methods_from, readers, operand, parameter_type, parameter_types_from, path_from, path_on, fault_next, segment_read, tuple_behind, tuple_on, type_read, type_next, values_from}
+use Rattle.rust_source.specs.Terms.{Readers, Known, argument_more, arguments_from, arguments_on, arms_read, arms_with, block_read, block_with, cast_from, choice_read, choice_with, done, expr_from, expr_on, expr_read, expr_with, is_method_next, method_read, methods_from, readers, operand, parameter_type, parameter_types_from, path_from, path_on, patterns_read, patterns_with, fault_next, segment_read, tuple_behind, tuple_on, type_read, type_next, values_from}
 use Rattle.rust_source.proofs.Turns.{none_left, turns}
 
 pub type_less : (depth_left left : ℕ) (c : Cursor) (names : Known) → left + 1 ≡ depth_left → type_read depth_left c names ≡ type_next (readers left) c names
@@ -42,6 +42,36 @@ pub choice_none : (depth_left : ℕ) (at : Place) (c : Cursor) (names : Known) �
 unfolding readers
 choice_none zero at c names is = refl
 choice_none (suc depth_left) at c names is = absurd (omega arith)
+
+pub block_less : (depth_left left : ℕ) (c : Cursor) (names : Known) → left + 1 ≡ depth_left → block_read depth_left c names ≡ block_with (readers left) c names
+unfolding readers
+block_less zero left c names is = absurd (omega arith)
+block_less (suc depth_left) left c names is = let e : depth_left ≡ left = omega arith in ap (λ r. block_with (readers r) c names) e
+
+pub block_none : (depth_left : ℕ) (c : Cursor) (names : Known) → depth_left ≡ 0 → block_read depth_left c names ≡ (Err (fault c TooDeep), names)
+unfolding readers
+block_none zero c names is = refl
+block_none (suc depth_left) c names is = absurd (omega arith)
+
+pub patterns_less : (depth_left left : ℕ) (at : Place) (c : Cursor) (names : Known) → left + 1 ≡ depth_left → patterns_read depth_left at c names ≡ patterns_with (readers left) at c names
+unfolding readers
+patterns_less zero left at c names is = absurd (omega arith)
+patterns_less (suc depth_left) left at c names is = let e : depth_left ≡ left = omega arith in ap (λ r. patterns_with (readers r) at c names) e
+
+pub patterns_none : (depth_left : ℕ) (at : Place) (c : Cursor) (names : Known) → depth_left ≡ 0 → patterns_read depth_left at c names ≡ (Err (fault c TooDeep), names)
+unfolding readers
+patterns_none zero at c names is = refl
+patterns_none (suc depth_left) at c names is = absurd (omega arith)
+
+pub arms_less : (depth_left left : ℕ) (at : Place) (c : Cursor) (names : Known) → left + 1 ≡ depth_left → arms_read depth_left at c names ≡ arms_with (readers left) at c names
+unfolding readers
+arms_less zero left at c names is = absurd (omega arith)
+arms_less (suc depth_left) left at c names is = let e : depth_left ≡ left = omega arith in ap (λ r. arms_with (readers r) at c names) e
+
+pub arms_none : (depth_left : ℕ) (at : Place) (c : Cursor) (names : Known) → depth_left ≡ 0 → arms_read depth_left at c names ≡ (Err (fault c TooDeep), names)
+unfolding readers
+arms_none zero at c names is = refl
+arms_none (suc depth_left) at c names is = absurd (omega arith)
 
 module _ (R : Readers) (n i : ℕ) where
   pub tuple_more : (all : List TypeRead) (c : Cursor) (names : Known) → i < n → tuple_behind R (n - i) all c names ≡ (if is_done c then done (tuple (type_list all)) names else read_on (λ (t : TypeRead × Cursor) ns. tuple_on (tuple_behind R (n - (i + 1))) all t.0 t.1 ns) (R.type_in c names))

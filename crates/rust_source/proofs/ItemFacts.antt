@@ -38,6 +38,7 @@ abbrev before : (text : List ℕ) → List Token → Cursor
 before text ts = record {
   text = record { ref_ptr = (0, 0); now = text };
   tokens = record { ref_ptr = (0, 0); now = ts };
+  calls = record { ref_ptr = (0, 0); now = [] };
   start = 0;
   at = 0;
   end = length ts;

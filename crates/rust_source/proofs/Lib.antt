@@ -1,4 +1,5 @@
 mod CfgIfTurns
+mod CfgCallTurns
 mod CfgTurns
 mod Digits
 mod Facts
@@ -13,6 +14,7 @@ mod Joining
 mod OneJoining
 mod Operators
 mod Pointed
+mod Pushed
 mod Depths
 mod SourceLemmas
 mod Steps

@@ -1,5 +1,5 @@
 -- A text that is all one type.
-use Rattle.std.proofs.Common.{◌≡◌, ◌⊎◌, ℕ, List, Result, Ok, Err, refl, sym, subst, inl, inr}
+use Rattle.std.proofs.Common.{◌≡◌, ◌⊎◌, ℕ, List, [], Result, Ok, Err, refl, sym, subst, inl, inr}
 use Rattle.rust_source.specs.declared.fault.SourceFault.{SourceFault}
 use Rattle.rust_source.specs.declared.fault.SourceFaultKind.TheVariants.{OutOfMemory}
 use Rattle.rust_source.specs.declared.reader.cursor.Cursor.{Cursor}
@@ -18,7 +18,7 @@ no_tokens text start names answer e is (inl told) =
 no_tokens text start names answer e is (inr memory) = subst (λ a. MeansType text start names names a) (sym is) (inl memory)
 
 -- the tokens are read
-pub read_all : (text : List ℕ) (start : ℕ) (old new : Known) (answer : Result Written SourceFault) (ts us : List Token) (c : Cursor) → tokens_at start text ≡ Ok ts → us ≡ ts → StandsBefore c text start us → Reads type_of (alone (type_read most_nested c old)) new answer → MeansType text start old new answer
+pub read_all : (text : List ℕ) (start : ℕ) (old new : Known) (answer : Result Written SourceFault) (ts us : List Token) (c : Cursor) → tokens_at start text ≡ Ok ts → us ≡ ts → StandsBefore c text start us [] → Reads type_of (alone (type_read most_nested c old)) new answer → MeansType text start old new answer
 read_all text start old new answer ts us c told same stands reads =
-    let before : StandsBefore c text start ts = subst (λ x. StandsBefore c text start x) same stands in
+    let before : StandsBefore c text start ts [] = subst (λ x. StandsBefore c text start x []) same stands in
     inr (subst (λ x. MeansBy text start old new answer x) (sym told) (c, before, reads))

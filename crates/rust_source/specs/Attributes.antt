@@ -60,6 +60,7 @@ none_said = record {
   has_helpers = false;
   unknown = None;
   path = None;
+  uses_macros = false;
 }
 
 -- what is said where a `cfg` is all that its parentheses have
@@ -103,12 +104,16 @@ value_next c = if is_nth c 1 61 then text_in (nth c 2) else None
 abbrev pub with_path : Attributes → Cursor → Attributes
 with_path said c = record said { path = option_or said.path (value_next c) }
 
+-- with an attribute of this name, which may be `macro_use`
+abbrev pub with_macro_use : Attributes → (name : List ℕ) → Attributes
+with_macro_use said name = record said { uses_macros = said.uses_macros || bytes_eq name (codes "macro_use") }
+
 -- what an attribute says that has no list in parentheses: `cfg`, `cfg_attr` and `repr` need one
 unfoldable pub listless_said : Attributes → Cursor → Result Attributes SourceFault
 listless_said said c =
     if bytes_eq (word_text c) (codes "cfg") || bytes_eq (word_text c) (codes "cfg_attr") then Err (fault c BadCfg)
     else (if bytes_eq (word_text c) (codes "repr") then Ok (faulty said (fault c BadRepr))
-    else (if bytes_eq (word_text c) (codes "path") then Ok (with_path said c) else Ok said))
+    else (if bytes_eq (word_text c) (codes "path") then Ok (with_path said c) else Ok (with_macro_use said (word_text c))))
 
 -- what an attribute says that has nothing within it that is read by attributes, of this name
 unfoldable pub simple_said : Rules → Attributes → (name : List ℕ) → Cursor → Result Attributes SourceFault

@@ -25,11 +25,10 @@ use Rattle.rust_source.specs.Literals.{bytes_between, escape_by}
 use Rattle.rust_source.specs.Names.{added, number_of_name as name_number}
 use Rattle.rust_source.specs.Quoted.{escaped_length}
 use Rattle.rust_source.specs.Reading.{read_on, read_as, word_text}
-use Rattle.rust_source.specs.Terms.{Known, done, fault_next}
 
 -- names that have numbers, and the names of `cfg` that aren't known here, each once
 abbrev pub Noted : Type 0
-Noted = Known × List Symbol
+Noted = List (List ℕ) × List Symbol
 
 -- what stands where a reading stands, with what follows it, by what is known so far
 abbrev pub Noting : Type 0 → Type 0
@@ -245,13 +244,13 @@ option_answer t name c =
 
 -- what is known, where it is; else the name is kept and doesn't hold
 abbrev pub known_or : (name : List ℕ) → Option Bool → Cursor → Noted → Result (Bool × Cursor) SourceFault × Noted
-known_or name (Some holds) c known = done (holds, c) known
-known_or name None c known = done (false, c) (with_unknown name known)
+known_or name (Some holds) c known = (Ok (holds, c), known)
+known_or name None c known = (Ok (false, c), with_unknown name known)
 
 -- whether a name, or a name and its value, holds
 unfoldable pub option_read : CfgTarget → Noting Bool
 option_read t c known =
-    if length (word_text c) == 0 then fault_next BadCfg c known
+    if length (word_text c) == 0 then (Err (fault c BadCfg), known)
     else read_on (λ (a : Option Bool × Cursor) ns. known_or (word_text c) a.0 a.1 ns) (option_answer t (word_text c) (passed c 1), known)
 
 -- a predicate of this name holds of a list of so many, of which so many hold
@@ -268,9 +267,9 @@ counting so_many counts = if counts then min (so_many + 1) (2 ^ 64 - 1) else so_
 module _ (t : CfgTarget) (P : Noting Bool) where
   -- how many predicates of a list hold, and how many there are, with at most so many more behind those that were counted
   abbrev pub count_from : (limit holding count : ℕ) → Cursor → Noted → Result (ℕ × ℕ) SourceFault × Noted
-  count_from zero holding count c known = done (holding, count) known
+  count_from zero holding count c known = (Ok (holding, count), known)
   count_from (suc limit) holding count c known =
-      if is_done c then done (holding, count) known
+      if is_done c then (Ok (holding, count), known)
       else read_on (λ (b : Bool × Cursor) ns. read_on (λ d ms. count_from limit (counting holding b.0) (counting count true) d ms) (comma_passed b.1, ns)) (P c known)
 
   -- how many predicates of a list hold, and how many there are
@@ -288,5 +287,5 @@ module _ (t : CfgTarget) (P : Noting Bool) where
 
 -- whether the predicate that is next holds, which may stand in so many others
 unfoldable pub predicate_read : CfgTarget → (depth_left : ℕ) → Noting Bool
-predicate_read t zero = fault_next TooDeep
+predicate_read t zero = λ c known. (Err (fault c TooDeep), known)
 predicate_read t (suc depth_left) = predicate_with t (predicate_read t depth_left)

@@ -88,10 +88,11 @@ abbrev pub result_type : Reader TypeRead
 result_type c names =
     read_on (λ (all : List TypeRead × Cursor) ns. done (function (type_list all.0), all.1) ns) (result_read (readers most_nested) [] c names)
 
--- what the body of a function is worth that stands in these braces
+-- what the body of a function is worth that stands in these braces, which are read with it
 abbrev pub body_in : Cursor → Option Cursor → Known → Reading (ExprRead × Cursor)
 body_in c None names = fault_next ExpectedExpression c names
-body_in c (Some i) names = read_on (λ (e : ExprRead × Cursor) ns. done (e.0, behind_group c) ns) (whole (readers most_nested) i names)
+body_in c (Some i) names =
+    read_on (λ (e : ExprRead × Cursor) ns. done (e.0, behind_group c) ns) (whole (readers most_nested) (record c { end = (behind_group c).at }) names)
 
 unfoldable pub body_read : Reader ExprRead
 body_read c names = body_in c (inside c bracket.Curly) names

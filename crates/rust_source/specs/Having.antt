@@ -1,5 +1,6 @@
 -- What sources have so far, beside the names that have numbers.
-use Rattle.std.specs.Prelude.{ℕ, ◌+◌, ◌-◌, ◌^◌, Bool, false, true, List, [], ◌∷◌, ◌++◌, length, min, slice_set, Result}
+use Rattle.std.specs.Prelude.{ℕ, ◌+◌, ◌-◌, ◌^◌, Bool, false, true, List, [], ◌∷◌, ◌++◌, length, min, slice_set, Some, Result}
+use Rattle.std.specs.Option.{option_or}
 use Rattle.rust_source.specs.declared.fault.SourceFault.{SourceFault}
 use Rattle.rust_source.specs.declared.item.Macro.{Macro}
 use Rattle.rust_source.specs.declared.item.Module.{Module}
@@ -56,6 +57,10 @@ with_owner p items = record items { owners = items.owners ++ p ∷ [] }
 abbrev pub with_macro : Macro → ItemsRead → ItemsRead
 with_macro m items = record items { macros = items.macros ++ m ∷ [] }
 
+-- where these macros of a crate are known
+abbrev pub with_known_macros : List Macro → ItemsRead → ItemsRead
+with_known_macros ms items = record items { known_macros = ms }
+
 -- the number of the next such type
 abbrev pub next_owner : ItemsRead → ℕ
 next_owner items = min (length items.owners) (2 ^ 32 - 1)
@@ -68,10 +73,14 @@ next_module items = min (length items.modules) (2 ^ 32 - 1)
 abbrev pub with_module : Module → (is_read : Bool) → ItemsRead → ItemsRead
 with_module m is_read items = record items { modules = items.modules ++ m ∷ []; are_read = items.are_read ++ is_read ∷ [] }
 
+-- a module of another file whose name stands there, in the root's source unless it is entered from elsewhere
+abbrev pub entered : Module → Place → Module
+entered m at = record m { entry = option_or m.entry (Some at) }
+
 -- with a module more whose items stand in another file, whose name stands there: a module without items, and an outline
 abbrev pub with_outline : Module → Place → ItemsRead → ItemsRead
 with_outline m at items =
-    record (with_module m false items) { outlines = items.outlines ++ record { «module» = next_module items; at = at } ∷ [] }
+    record (with_module (entered m at) false items) { outlines = items.outlines ++ record { «module» = next_module items; at = at } ∷ [] }
 
 -- the items of this module are read
 abbrev pub with_read : (number : ℕ) → ItemsRead → ItemsRead

@@ -87,8 +87,8 @@ pub record UseRead : Type 0 where
   pub name : Option Symbol
   pub is_glob : Bool
 
--- what sources have: of each module whether its items were read, the modules whose items stand in other files, and why
--- items can't be read
+-- what sources have: of each module whether its items were read, the modules whose items stand in other files, macros that
+-- are known from another reading, and why items can't be read
 pub record ItemsRead : Type 0 where
   pub modules : List Module
   pub are_read : List Bool
@@ -97,6 +97,7 @@ pub record ItemsRead : Type 0 where
   pub uses : List UseRead
   pub owners : List PathRead
   pub macros : List Macro
+  pub known_macros : List Macro
   pub passed_over : ℕ
   pub types_passed : ℕ
   pub unknown : List Symbol
@@ -104,7 +105,7 @@ pub record ItemsRead : Type 0 where
 
 -- nothing is read
 abbrev pub no_items : ItemsRead
-no_items = record { modules = []; are_read = []; outlines = []; items = []; uses = []; owners = []; macros = []; passed_over = 0; types_passed = 0; unknown = []; unread = [] }
+no_items = record { modules = []; are_read = []; outlines = []; items = []; uses = []; owners = []; macros = []; known_macros = []; passed_over = 0; types_passed = 0; unknown = []; unread = [] }
 
 -- the program's field as the definitions see it, and so on
 abbrev pub field_of : Field → FieldRead
@@ -169,6 +170,7 @@ items_as_read i = record {
   uses = map use_of i.uses.items;
   owners = map path_as_read i.owners.items;
   macros = i.macros.items;
+  known_macros = i.known_macros.items;
   passed_over = i.passed_over;
   types_passed = i.types_passed;
   unknown = i.unknown_cfgs.items;

@@ -40,9 +40,9 @@ keywords =
     (codes "await", keyword.Reserved) ∷
     (codes "break", keyword.Reserved) ∷
     (codes "continue", keyword.Reserved) ∷
-    (codes "let", keyword.Reserved) ∷
+    (codes "let", keyword.Let) ∷
     (codes "loop", keyword.Reserved) ∷
-    (codes "match", keyword.Reserved) ∷
+    (codes "match", keyword.Match) ∷
     (codes "move", keyword.Reserved) ∷
     (codes "ref", keyword.Reserved) ∷
     (codes "return", keyword.Reserved) ∷

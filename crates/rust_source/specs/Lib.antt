@@ -19,9 +19,11 @@ pub mod Reading
 pub mod Repr
 pub mod Texts
 pub mod Simple
+pub mod Matches
+pub mod Cfg
+pub mod CfgCalls
 pub mod Terms
 pub mod Joining
-pub mod Cfg
 pub mod Attributes
 pub mod Items
 pub mod Repeated
@@ -38,5 +40,6 @@ pub mod Functions
 pub mod Traits
 pub mod Outlines
 pub mod Unread
+pub mod MacroScope
 pub mod Modules
 pub mod Sources

@@ -1,5 +1,5 @@
 -- Items, one after another, and modules within one another.
-use Rattle.std.specs.Prelude.{ℕ, zero, suc, ◌-◌, ◌&&◌, ◌||◌, Bool, true, false, not, codes, [], is_some, nat_lt, Option, None, Some, Result, Ok, Err, if◌then◌else◌}
+use Rattle.std.specs.Prelude.{ℕ, zero, suc, ◌-◌, ◌&&◌, ◌||◌, Bool, true, false, not, codes, List, [], is_some, nat_lt, Option, None, Some, Result, Ok, Err, if◌then◌else◌}
 use Rattle.std.specs.Str.{bytes_eq}
 use Rattle.rust_source.specs.declared.fault.SourceFault.{SourceFault}
 use Rattle.rust_source.specs.declared.fault.SourceFaultKind.TheVariants.{ExpectedItem, ExpectedSemicolon, TooDeep}
@@ -23,6 +23,7 @@ use Rattle.rust_source.specs.Cursor.{behind_group, expected, fault, inside, is_d
 use Rattle.rust_source.specs.Fields.{by_names, visibility_passed}
 use Rattle.rust_source.specs.Functions.{function_read}
 use Rattle.rust_source.specs.Having.{Having, item_of_module, next_module, noted, using_within, with_item, with_module, with_passed, noted_within}
+use Rattle.rust_source.specs.MacroScope.{entry_of, shares_macros}
 use Rattle.rust_source.specs.Outlines.{number_of_root, outline_read, path_named, room_of_root, with_root}
 use Rattle.rust_source.specs.Passing.{item_passed}
 use Rattle.rust_source.specs.Reading.{read_on, is_named, is_path_name, name, word_text}
@@ -102,9 +103,16 @@ use_read is_global standing c known =
     (using_within known.1
     (tree_read most_nested (record { «module» = standing.«module»; visible_in = standing.visible_in; is_global = is_global }) [] c (known.0, known.1.uses)))
 
--- a module of this name, in the one that it stands in
-abbrev pub module_of : Standing → Symbol → (path : Option Symbol) → Module
-module_of standing name path = record { name = name; parent = Some standing.«module»; visible_in = standing.visible_in; path = path }
+-- a module of this name, in the one that it stands in, with `macro_use` or without
+abbrev pub module_of : List Module → Standing → (uses_macros : Bool) → Symbol → (path : Option Symbol) → Module
+module_of modules standing uses_macros name path = record {
+  name = name;
+  parent = Some standing.«module»;
+  visible_in = standing.visible_in;
+  path = path;
+  shares_macros = uses_macros && shares_macros modules standing.«module»;
+  entry = entry_of modules standing.«module»;
+}
 
 -- how the items of the module with this number are read, which stands within others
 abbrev pub ModuleReader : Type 0
@@ -118,7 +126,7 @@ module _ (rules : Rules) where
 
   -- the items that stand in place of the call that is next, in the module with this number; none where they aren't known
   unfoldable pub items_of_call : (number : ℕ) → Cursor → Having → Result (Option Cursor) SourceFault × Having
-  items_of_call number c known = wrapped_or_chosen number c (wrapped_items rules number c known) known
+  items_of_call number c known = read_on (λ found ns. wrapped_or_chosen number c found ns) (wrapped_items rules number c known)
 
   -- the item that is next, which makes no type and is no constant
   unfoldable pub other_read : Standing → Attributes → Cursor → Having → Result Cursor SourceFault × Having
@@ -150,7 +158,7 @@ module _ (rules : Rules) where
     -- the module of a name, with what its attributes say of its file
     unfoldable pub module_on : Standing → Attributes → Symbol × Place → Cursor → Having → Result Cursor SourceFault × Having
     module_on standing said n c known =
-        read_on (λ path ns. module_by (module_of standing n.0 path) n.1 c (inside c bracket.Curly) ns)
+        read_on (λ path ns. module_by (module_of ns.1.modules standing said.uses_macros n.0 path) n.1 c (inside c bracket.Curly) ns)
         (by_names known.1 (path_named c said.path known.0))
 
     -- the module that is next

@@ -70,5 +70,6 @@ room_of_root (Outline o) items = room_in items.modules o.«module»
 
 -- what sources have with that module, whose items are read then
 abbrev pub with_root : SourceRoot → ItemsRead → ItemsRead
-with_root (New name) items = with_module (record { name = name; parent = None; visible_in = None; path = None }) true items
+with_root (New name) items =
+    with_module (record { name = name; parent = None; visible_in = None; path = None; shares_macros = true; entry = None }) true items
 with_root (Outline o) items = with_read o.«module» items

@@ -1,13 +1,15 @@
 -- What a text means that is all one type, or a source of items.
-use Rattle.std.specs.Prelude.{◌≡◌, ◌⊎◌, ℕ, ◌+◌, ◌-◌, ◌^◌, true, List, length, min, Result, Ok, Err, if◌then◌else◌}
+use Rattle.std.specs.Prelude.{◌≡◌, ◌⊎◌, ℕ, ◌+◌, ◌-◌, ◌^◌, true, List, [], length, min, Result, Ok, Err, if◌then◌else◌}
 use Rattle.rust_source.specs.declared.fault.SourceFault.{SourceFault}
 use Rattle.rust_source.specs.declared.fault.SourceFaultKind.TheVariants.{ExpectedType, OutOfMemory}
+use Rattle.rust_source.specs.declared.reader.cursor.CfgCall.{CfgCall}
 use Rattle.rust_source.specs.declared.reader.cursor.Cursor.{Cursor}
 use Rattle.rust_source.specs.declared.reader.Source.{Source}
 use Rattle.rust_source.specs.declared.reader.attributes.Rules.{Rules}
 use Rattle.rust_source.specs.declared.syntax.«Type».{«Type» as Written}
 use Rattle.rust_source.specs.declared.target.CfgTarget.{CfgTarget}
 use Rattle.rust_source.specs.declared.tokens.token.Token.{Token}
+use Rattle.rust_source.specs.CfgCalls.{calls_of}
 use Rattle.rust_source.specs.CfgIf.{has_own}
 use Rattle.rust_source.specs.Cursor.{is_done}
 use Rattle.rust_source.specs.Having.{Having}
@@ -28,10 +30,11 @@ placed start (Err e) = Err (record { at = record { 0 = min (start + e.at.0) (2 ^
 abbrev pub tokens_at : (start : ℕ) → (text : List ℕ) → Result (List Token) SourceFault
 tokens_at start text = placed start (tokens text)
 
--- a reading stands before all tokens of a text
-pub record StandsBefore (c : Cursor) (text : List ℕ) (start : ℕ) (ts : List Token) : Type 0 where
+-- a reading stands before all tokens of a text, of whose calls of `cfg!` these are decided
+pub record StandsBefore (c : Cursor) (text : List ℕ) (start : ℕ) (ts : List Token) (calls : List CfgCall) : Type 0 where
   pub of_text : c.text.now ≡ text
   pub of_tokens : c.tokens.now ≡ ts
+  pub of_calls : c.calls.now ≡ calls
   pub from_start : c.start ≡ start
   pub at_first : c.at ≡ 0
   pub to_last : c.end ≡ length ts
@@ -48,7 +51,7 @@ WantsMemory (Err e) = e.kind ≡ OutOfMemory
 -- the answer is what these tokens mean, or this first fault
 abbrev pub MeansBy : (text : List ℕ) (start : ℕ) (old new : Known) → Result Written SourceFault → Result (List Token) SourceFault → Type 0
 MeansBy text start old new answer (Ok ts) =
-    (c : Cursor) × StandsBefore c text start ts × Reads type_of (alone (type_read most_nested c old)) new answer
+    (c : Cursor) × StandsBefore c text start ts [] × Reads type_of (alone (type_read most_nested c old)) new answer
 MeansBy text start old new answer (Err e) = Reads type_of (Err e, old) new answer
 
 -- the answer is the type that the text means, or its first fault, and the names are those that it has; memory aside
@@ -62,7 +65,7 @@ rules_of target source c = record { target = target; is_trusted = source.is_trus
 -- the answer and what sources have then are what these tokens mean, or their first fault, or this one
 abbrev pub MeansItemsBy : CfgTarget → Source → (old new : Having) → Result ℕ SourceFault → Result (List Token) SourceFault → Type 0
 MeansItemsBy target source old new answer (Ok ts) =
-    (c : Cursor) × StandsBefore c source.text.now source.start.0 ts
+    (u c : Cursor) × StandsBefore u source.text.now source.start.0 ts [] × StandsBefore c source.text.now source.start.0 ts (calls_of target u)
     × Reads (λ root. root) (root_read (rules_of target source c) source.root c old) new answer
 MeansItemsBy target source old new answer (Err e) = Reads (λ root. root) (Err e, old) new answer
 

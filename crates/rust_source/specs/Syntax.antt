@@ -74,6 +74,8 @@ mutual
     binary : Binary → (left right : ExprRead) → Place → ExprRead
     cast : ExprRead → TypeRead → Place → ExprRead
     choice : (test yes no : ExprRead) → Place → ExprRead
+    -- a `let` of a value of the type, which is `_` where none is written, and what follows it
+    local : (name : ℕ) → TypeRead → (value rest : ExprRead) → Place → ExprRead
     -- one that isn't evaluated, and where it begins
     other_expr : Unevaluated → Place → ExprRead
 
@@ -102,6 +104,15 @@ abbrev pub exprs : List ExprRead → ExprsRead
 exprs [] = no_exprs
 exprs (e ∷ es) = more_exprs e (exprs es)
 
+-- these segments with one behind them
+abbrev pub segments_with : SegmentsRead → SegmentRead → SegmentsRead
+segments_with no_segments s = more_segments s no_segments
+segments_with (more_segments r rs) s = more_segments r (segments_with rs s)
+
+-- a path with a name behind it
+abbrev pub with_segment : PathRead → SegmentRead → PathRead
+with_segment (path is_global ss) s = path is_global (segments_with ss s)
+
 -- the path by which a method is called: `_::name`
 abbrev pub method_path : Symbol → Place → PathRead
 method_path name at =
@@ -129,6 +140,7 @@ layer_expr (layer.Unary u e at) = unary u e.value at
 layer_expr (layer.Binary b l r at) = binary b l.value r.value at
 layer_expr (layer.Cast e t at) = cast e.value t.value at
 layer_expr (layer.If a b c at) = choice a.value b.value c.value at
+layer_expr (layer.Let name t a b at) = local name.0 t.value a.value b.value at
 layer_expr (layer.Expr::Unevaluated u at) = other_expr u at
 
 -- of a type

@@ -5,22 +5,26 @@ use Rattle.rust_source.specs.declared.fault.SourceFaultKind.{SourceFaultKind}
 use Rattle.rust_source.specs.declared.fault.SourceFaultKind.TheVariants.{BadNumber, ExpectedAngle, ExpectedExpression, ExpectedName, ExpectedSemicolon, ExpectedType, OutOfMemory, TooDeep, VariadicPointer}
 use Rattle.rust_source.specs.declared.place.Place.{Place}
 use Rattle.rust_source.specs.declared.place.Symbol.{Symbol}
+use Rattle.rust_source.specs.declared.place.TheConstants.Symbol.{UNDERSCORE}
 use Rattle.rust_source.specs.declared.reader.cursor.Cursor.{Cursor}
 use Rattle.rust_source.specs.declared.reader.operators.Waiting.{Waiting}
 use Rattle.rust_source.specs.declared.syntax.Binary.{Binary}
-use Rattle.rust_source.specs.declared.syntax.Unevaluated.TheVariants.{Expression}
+use Rattle.rust_source.specs.declared.syntax.Binary.TheVariants as operator
+use Rattle.rust_source.specs.declared.syntax.Unevaluated.TheVariants.{Expression, Inferred}
 use Rattle.rust_source.specs.declared.tokens.keyword.Keyword.TheVariants as keyword
 use Rattle.rust_source.specs.declared.tokens.token.Bracket.{Bracket}
 use Rattle.rust_source.specs.declared.tokens.token.Bracket.TheVariants as bracket
 use Rattle.rust_source.specs.declared.tokens.token.TokenKind.{TokenKind}
 use Rattle.rust_source.specs.declared.tokens.token.TokenKind.TheVariants as kind
 use Rattle.rust_source.specs.Cursor.{behind_group, comma_passed, expected, fault, inside, is_done, is_group, is_lifetime, is_named_next, is_next, is_nth, is_nth_pair, is_pair, is_keyword_next, next_kind, passed, place}
+use Rattle.rust_source.specs.CfgCalls.{cfg_call, is_cfg_call}
 use Rattle.rust_source.specs.Operators.{all_joined, next_operator, operator_put, with_operators}
 use Rattle.rust_source.specs.Lifetimes.{lifetimes_given}
+use Rattle.rust_source.specs.Matches.{bound_path, compared, ends_pattern}
 use Rattle.rust_source.specs.Passing.{bounds}
 use Rattle.rust_source.specs.Reading.{Reading, read_on, name, path_name, read_as}
 use Rattle.rust_source.specs.Simple.{after_path, before_function, begins_function, begins_path, ends_variadic, is_extern, is_literal, is_variadic, literal_read, most_nested, parameter_begun, pointed, pointings, signed_literal, signs, simple}
-use Rattle.rust_source.specs.Syntax.{ArgumentRead, ExprRead, PathRead, SegmentRead, TypeRead, arguments, array, binding, call, cast, choice, constant, dyn, exprs, function, method, of_const, of_type, other_expr, path, segment, segments, slice, tuple, type_list}
+use Rattle.rust_source.specs.Syntax.{ArgumentRead, ExprRead, PathRead, SegmentRead, TypeRead, arguments, array, binary, binding, bool, call, cast, choice, constant, dyn, exprs, function, local, method, of_const, of_type, other_expr, other_type, path, segment, segments, slice, tuple, type_list, with_segment}
 
 -- names that have numbers
 abbrev pub Known : Type 0
@@ -36,6 +40,12 @@ pub record Readers : Type 0 where
   pub expr_in : Reader ExprRead
   -- the choice behind its `if`, which stands at the place
   pub choice_in : Place → Reader ExprRead
+  -- what stands in braces
+  pub block_in : Reader ExprRead
+  -- the patterns of an arm, as a test of the value that is matched, by a `match` at the place
+  pub patterns_in : Place → Reader ExprRead
+  -- its arms, as a choice between their values
+  pub arms_in : Place → Reader ExprRead
 
 -- a value, and no fault
 abbrev pub done : {S A : Type 0} → A → (known : S) → Result A SourceFault × S
@@ -172,6 +182,18 @@ module _ (R : Readers) where
       let d = if is_pair c 58 58 then passed c 2 else c in
       path_from in_type (is_pair c 58 58) (d.end - d.at) [] d names
 
+  abbrev pub qualified_on : PathRead → Reader PathRead
+  qualified_on p c names =
+      if is_pair c 58 58 then read_on (λ (s : SegmentRead × Cursor) ns. done (with_segment p s.0, s.1) ns) (segment_read false (passed c 2) names)
+      else fault_next ExpectedName c names
+
+  -- the path of a value that is next; `<T>::N` is `T::N`
+  unfoldable pub value_path : Reader PathRead
+  value_path c names =
+      if is_next c 60
+      then read_on (λ (p : PathRead × Cursor) ns. read_on (λ d ms. qualified_on p.0 d ms) (expected p.1 62 ExpectedAngle, ns)) (path_read true (passed c 1) names)
+      else path_read false c names
+
   -- the type that stands in parentheses, behind these
   abbrev pub tuple_behind : (limit : ℕ) → List TypeRead → Cursor → Known → Reading TypeRead
   tuple_behind zero all c names = done (tuple (type_list all)) names
@@ -255,14 +277,19 @@ module _ (R : Readers) where
   type_next c names =
       read_on (λ p ns. read_on (λ (t : TypeRead × Cursor) ms. done (pointed t.0 p.0, t.1) ms) (pointee_read p.1 ns)) (pointings c, names)
 
+  -- what such brackets hold: braces a block, and others an expression
+  abbrev pub held_by : Bracket → Reader ExprRead
+  held_by bracket.Curly = R.block_in
+  held_by b = R.expr_in
+
   -- the expression that stands in these brackets, alone
-  abbrev pub expression_in : Cursor → Option Cursor → Known → Reading (ExprRead × Cursor)
-  expression_in c None names = fault_next ExpectedExpression c names
-  expression_in c (Some i) names =
-      read_on (λ (e : ExprRead × Cursor) ns. if is_done e.1 then done (e.0, behind_group c) ns else fault_next ExpectedExpression e.1 ns) (R.expr_in i names)
+  abbrev pub expression_in : Bracket → Cursor → Option Cursor → Known → Reading (ExprRead × Cursor)
+  expression_in b c None names = fault_next ExpectedExpression c names
+  expression_in b c (Some i) names =
+      read_on (λ (e : ExprRead × Cursor) ns. if is_done e.1 then done (e.0, behind_group c) ns else fault_next ExpectedExpression e.1 ns) (held_by b i names)
 
   unfoldable pub bracketed : Bracket → Reader ExprRead
-  bracketed b c names = expression_in c (inside c b) names
+  bracketed b c names = expression_in b c (inside c b) names
 
   -- expressions with a `,` between them, behind these
   abbrev pub values_from : (limit : ℕ) → List ExprRead → Cursor → Known → Reading (List ExprRead)
@@ -282,19 +309,100 @@ module _ (R : Readers) where
 
   unfoldable pub value : Reader ExprRead
   value c names =
-      read_on (λ (p : PathRead × Cursor) ns. constant_or_call (place c) p.0 p.1 (inside p.1 bracket.Round) ns) (path_read false c names)
+      read_on (λ (p : PathRead × Cursor) ns. constant_or_call (place c) p.0 p.1 (inside p.1 bracket.Round) ns) (value_path c names)
+
+  -- a literal or a constant of a pattern
+  unfoldable pub bound_read : Reader ExprRead
+  bound_read c names =
+      if is_literal c || is_next c 45 then (signed_literal c, names)
+      else read_on (λ (p : PathRead × Cursor) ns. done (constant (bound_path p.0), p.1) ns) (path_read false c names)
+
+  -- the end of a range, behind its `..`
+  unfoldable pub end_test : Place → Reader ExprRead
+  end_test at c names =
+      let is_last = is_next c 61 in
+      read_on (λ (e : ExprRead × Cursor) ns. done (compared at (if is_last then operator.LessOrEqual else operator.Less) e.0, e.1) ns)
+      (bound_read (if is_last then passed c 1 else c) names)
+
+  -- what follows a pattern's first value: the rest of a range, or nothing
+  abbrev pub range_test : Place → ExprRead → Reader ExprRead
+  range_test at first c names =
+      if is_pair c 46 46
+      then (if ends_pattern (passed c 2) then done (compared at operator.GreaterOrEqual first, passed c 2) names
+      else read_on (λ (e : ExprRead × Cursor) ns. done (binary operator.And (compared at operator.GreaterOrEqual first) e.0 at, e.1) ns)
+      (end_test at (passed c 2) names))
+      else done (compared at operator.Equal first, c) names
+
+  -- a pattern: a value, a range or `_`
+  unfoldable pub pattern_read : Place → Reader ExprRead
+  pattern_read at c names =
+      if is_keyword_next c keyword.Underscore then done (bool true at, passed c 1) names
+      else (if is_pair c 46 46 then end_test at (passed c 2) names
+      else read_on (λ (e : ExprRead × Cursor) ns. range_test at e.0 e.1 ns) (bound_read c names))
+
+  -- what follows a pattern: others behind a `|`, or nothing
+  abbrev pub patterns_on : Place → ExprRead → Reader ExprRead
+  patterns_on at test c names =
+      if is_next c 124
+      then read_on (λ (others : ExprRead × Cursor) ns. done (binary operator.Or test others.0 at, others.1) ns) (R.patterns_in at (passed c 1) names)
+      else done (test, c) names
+
+  unfoldable pub patterns_with : Place → Reader ExprRead
+  patterns_with at c names = read_on (λ (e : ExprRead × Cursor) ns. patterns_on at e.0 e.1 ns) (pattern_read at c names)
+
+  -- the test that patterns make, with the condition behind them, where one is
+  abbrev pub guarded : Place → ExprRead → Reader ExprRead
+  guarded at test c names =
+      if is_keyword_next c keyword.If
+      then read_on (λ (e : ExprRead × Cursor) ns. done (binary operator.And test e.0 at, e.1) ns) (R.expr_in (passed c 1) names)
+      else done (test, c) names
+
+  -- the value of an arm, and the `,` behind it, which a block doesn't need
+  abbrev pub arm_body : Reader ExprRead
+  arm_body c names =
+      if is_group c bracket.Curly
+      then read_on (λ (e : ExprRead × Cursor) ns. done (e.0, if is_next e.1 44 then passed e.1 1 else e.1) ns) (bracketed bracket.Curly c names)
+      else read_on (λ (e : ExprRead × Cursor) ns. read_on (λ d ms. done (e.0, d) ms) (comma_passed e.1, ns)) (R.expr_in c names)
+
+  -- an arm, behind its test, with those that follow it
+  abbrev pub arm_read : Place → ExprRead → Reader ExprRead
+  arm_read at test c names =
+      if is_pair c 61 62
+      then read_on (λ (e : ExprRead × Cursor) ns.
+      read_on (λ (others : ExprRead × Cursor) ms. done (choice test e.0 others.0 at, others.1) ms) (R.arms_in at e.1 ns))
+      (arm_body (passed c 2) names)
+      else fault_next ExpectedExpression c names
+
+  -- arms: none of them may be left
+  unfoldable pub arms_with : Place → Reader ExprRead
+  arms_with at c names =
+      if is_done c then done (other_expr Expression at, c) names
+      else read_on (λ (t : ExprRead × Cursor) ns. read_on (λ (g : ExprRead × Cursor) ms. arm_read at g.0 g.1 ms) (guarded at t.0 t.1 ns)) (R.patterns_in at c names)
+
+  -- the choice by the arms in these braces
+  abbrev pub match_on : Place → ExprRead → Cursor → Option Cursor → Known → Reading (ExprRead × Cursor)
+  match_on at e c None names = fault_next ExpectedExpression c names
+  match_on at e c (Some i) names =
+      read_on (λ (arms : ExprRead × Cursor) ns. done (local UNDERSCORE.0 (other_type Inferred at) e arms.0 at, behind_group c) ns) (R.arms_in at i names)
+
+  -- the choice behind its `match`, which stands at the place
+  unfoldable pub match_read : Place → Reader ExprRead
+  match_read at c names = read_on (λ (e : ExprRead × Cursor) ns. match_on at e.0 e.1 (inside e.1 bracket.Curly) ns) (R.expr_in c names)
 
   -- the operand without operators that begins with a token of this kind, which is no literal
   abbrev pub primary_by : Cursor → Option TokenKind → Known → Reading (ExprRead × Cursor)
   primary_by c (Some (kind.Open bracket.Round)) names = bracketed bracket.Round c names
   primary_by c (Some (kind.Open bracket.Curly)) names = bracketed bracket.Curly c names
   primary_by c (Some (kind.Keyword keyword.If)) names = R.choice_in (place c) (passed c 1) names
+  primary_by c (Some (kind.Keyword keyword.Match)) names = match_read (place c) (passed c 1) names
   primary_by c (Some (kind.Keyword keyword.Const)) names = bracketed bracket.Curly (passed c 1) names
   primary_by c _ names = value c names
 
   -- the operand without operators that is next
   unfoldable pub primary : Reader ExprRead
-  primary c names = if is_literal c then (literal_read c, names) else primary_by c (next_kind c) names
+  primary c names =
+      if is_literal c then (literal_read c, names)
+      else (if is_cfg_call c then done (cfg_call c) names else primary_by c (next_kind c) names)
 
   -- an operand with the casts behind it; there are less than `limit`
   abbrev pub cast_from : (limit : ℕ) → ExprRead → Reader ExprRead
@@ -339,6 +447,31 @@ module _ (R : Readers) where
   unfoldable pub expr_with : Reader ExprRead
   expr_with c names = expr_from most_nested [] [] c names
 
+  -- the type of a `let`, behind its name, or `_` where none is written
+  abbrev pub local_type : Reader TypeRead
+  local_type c names = if is_next c 58 then R.type_in (passed c 1) names else done (other_type Inferred (place c), c) names
+
+  -- a `let` of this name, behind it, with what follows it
+  unfoldable pub local_read : Symbol → Place → Reader ExprRead
+  local_read name at c names =
+      read_on (λ (t : TypeRead × Cursor) ns.
+      read_on (λ d ms.
+      read_on (λ (e : ExprRead × Cursor) ls.
+      read_on (λ f ks.
+      read_on (λ (rest : ExprRead × Cursor) js. done (local name.0 t.0 e.0 rest.0 at, rest.1) js)
+      (R.block_in f ks))
+      (expected e.1 59 ExpectedSemicolon, ls))
+      (R.expr_in d ms))
+      (expected t.1 61 ExpectedExpression, ns))
+      (local_type c names)
+
+  -- what stands in braces: a `let` and what follows it, or an expression
+  unfoldable pub block_with : Reader ExprRead
+  block_with c names =
+      if is_keyword_next c keyword.Let
+      then read_on (λ (n : (Symbol × Place) × Cursor) ns. local_read n.0.0 (place c) n.1 ns) (name (passed c 1) names)
+      else expr_with c names
+
   -- what stands behind `else`: a choice, or an expression in braces
   abbrev pub else_read : Reader ExprRead
   else_read c names = if is_keyword_next c keyword.If then R.choice_in (place c) (passed c 1) names else bracketed bracket.Curly c names
@@ -358,8 +491,9 @@ module _ (R : Readers) where
 
 -- how types, expressions and choices are read that may stand in so many others
 unfoldable pub readers : (room : ℕ) → Readers
-readers zero = record { type_in = fault_next TooDeep; expr_in = fault_next TooDeep; choice_in = λ at. fault_next TooDeep }
-readers (suc room) = record { type_in = type_next (readers room); expr_in = expr_with (readers room); choice_in = choice_with (readers room) }
+readers zero = record { type_in = fault_next TooDeep; expr_in = fault_next TooDeep; choice_in = λ at. fault_next TooDeep; block_in = fault_next TooDeep; patterns_in = λ at. fault_next TooDeep; arms_in = λ at. fault_next TooDeep }
+readers (suc room) =
+    record { type_in = type_next (readers room); expr_in = expr_with (readers room); choice_in = choice_with (readers room); block_in = block_with (readers room); patterns_in = patterns_with (readers room); arms_in = arms_with (readers room) }
 
 -- the type, the expression and the choice that is next, which may stand in so many others
 abbrev pub type_read : (room : ℕ) → Reader TypeRead
@@ -372,3 +506,15 @@ expr_read room = (readers room).expr_in
 -- the choice between two expressions, behind its `if` at this place
 abbrev pub choice_read : (room : ℕ) → Place → Reader ExprRead
 choice_read room = (readers room).choice_in
+
+-- what stands in braces
+abbrev pub block_read : (room : ℕ) → Reader ExprRead
+block_read room = (readers room).block_in
+
+-- the patterns of an arm
+abbrev pub patterns_read : (room : ℕ) → Place → Reader ExprRead
+patterns_read room = (readers room).patterns_in
+
+-- the arms of a `match`
+abbrev pub arms_read : (room : ℕ) → Place → Reader ExprRead
+arms_read room = (readers room).arms_in

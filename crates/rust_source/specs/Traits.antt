@@ -21,7 +21,14 @@ before_trait c =
 
 -- a trait of this name, as a module whose items aren't read: its name is one of types and modules
 abbrev pub trait_of : Standing → Symbol → Module
-trait_of standing name = record { name = name; parent = Some standing.«module»; visible_in = standing.visible_in; path = None }
+trait_of standing name = record {
+  name = name;
+  parent = Some standing.«module»;
+  visible_in = standing.visible_in;
+  path = None;
+  shares_macros = false;
+  entry = None;
+}
 
 -- the trait whose name is next goes behind the modules
 abbrev pub trait_on : Standing → Cursor → Having → Result (Unit {0}) SourceFault × Having

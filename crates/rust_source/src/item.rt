@@ -179,6 +179,10 @@ pub struct Module {
     pub visible_in: Option<u32>,
     /// What `#[path = ".."]` says of the file, or the folder, that its items stand in.
     pub path: Option<Symbol>,
+    /// Whether its macros are the root's, too: `macro_use` stands at it and at each module around it.
+    pub shares_macros: bool,
+    /// Where the root's source names the module of another file that it is, or stands in; none where it stands in that source.
+    pub entry: Option<Place>,
 }
 
 /// A module whose items stand in another file: `mod name;`.
@@ -190,6 +194,18 @@ pub struct Outline {
     pub at: Place,
 }
 
+/// How a macro wraps the items of its calls: it puts attributes in front of each, which say no more than `cfg`s do, or hands
+/// them on to another macro that does.
+#[derive(Clone, Copy, PartialEq, Eq)]
+pub struct Wrapping {
+    /// Whether the items stand, by those `cfg`s, or by the predicate that is handed on with them.
+    pub stands: bool,
+    /// Whether a call begins with `#![..]`, whose predicate is one more `cfg` of the items.
+    pub takes_predicate: bool,
+    /// The macro that the items are handed on to, behind a predicate, if they are.
+    pub through: Option<Symbol>,
+}
+
 /// A macro that `macro_rules!` defines outside of bodies.
 #[derive(Clone, Copy, PartialEq, Eq)]
 pub struct Macro {
@@ -198,9 +214,8 @@ pub struct Macro {
     pub at: Place,
     /// The module that it stands in, by its number.
     pub module: u32,
-    /// Where it puts attributes in front of the items of a call, whether these stand, by the `cfg`s among them. None where
-    /// it is the second one of its name in the crate, or isn't of that form.
-    pub stands: Option<bool>,
+    /// How it wraps items. None where it is the second one of its name in the crate, or does something else.
+    pub wrapping: Option<Wrapping>,
 }
 
 /// What sources have, in the order in which they were read.
@@ -219,6 +234,9 @@ pub struct Items {
     pub owners: Vec<Path>,
     /// The macros that stand outside of bodies, in the order of the sources.
     pub macros: Vec<Macro>,
+    /// Macros that were found by reading the same crate before: each by its name, the crate's root module, and the place in
+    /// the root's source behind which it is meant.
+    pub known_macros: Vec<Macro>,
     /// How many items were passed over, since they make no type and are no constant.
     pub passed_over: u64,
     /// How many types are defined within these, in bodies and in macros' calls, by their words: what a macro makes of them

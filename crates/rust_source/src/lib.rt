@@ -17,10 +17,11 @@ mod tokens;
 pub use fault::{SourceFault, SourceFaultKind};
 pub use item::{
     Const, Enum, Field, FieldName, Fields, Item, ItemKind, Items, Macro, Module, Outline,
-    Parameter, ParameterKind, Repr, Use, UsedName, Variant,
+    Parameter, ParameterKind, Repr, Use, UsedName, Variant, Wrapping,
 };
 pub use names::Names;
 pub use place::{Place, Symbol};
+pub use reader::macro_scope::macros_of_crate;
 pub use reader::modules::SourceRoot;
 pub use reader::{Source, read_items, read_type};
 pub use syntax::{Argument, Binary, Expr, IntegerKind, Path, Segment, Type, Unary, Unevaluated};

@@ -1,7 +1,9 @@
 //! Sources and single types, read.
 
 mod attributes;
+mod blocks;
 mod cfg;
+mod cfg_calls;
 mod cfg_if;
 mod constants;
 mod cursor;
@@ -15,6 +17,8 @@ mod items;
 mod known_attributes;
 mod lifetimes;
 mod literals;
+pub(crate) mod macro_scope;
+mod matches;
 pub(crate) mod modules;
 mod naming;
 mod operators;
@@ -33,6 +37,7 @@ mod wrappers;
 
 ghost use Rattle.std.specs.Prelude.{◌≡◌, [], IfOk, length};
 ghost use Rattle.rust_source.specs.Growth.{KeepsItems};
+ghost use Rattle.rust_source.specs.Having.{with_known_macros};
 ghost use Rattle.rust_source.specs.Items.{items_as_read, no_items};
 ghost use Rattle.rust_source.specs.Joining.{OneJoiningByStrength, OperatorsBindByStrength};
 ghost use Rattle.rust_source.specs.Names.{texts};
@@ -44,12 +49,13 @@ ghost use Rattle.rust_source.specs.Terms.{type_read};
 ghost use Rattle.rust_source.specs.Tokens.{Yields};
 
 use crate::fault::{SourceFault, SourceFaultKind};
-use crate::item::Items;
+use crate::item::{Items, Macro};
 use crate::names::Names;
 use crate::place::Place;
 use crate::reader::attributes::Rules;
+use crate::reader::cfg_calls::calls_of;
 use crate::reader::cfg_if::has_own;
-use crate::reader::cursor::{Cursor, fault, is_done};
+use crate::reader::cursor::{CfgCall, Cursor, fault, is_done};
 use crate::reader::depth::most_nested;
 use crate::reader::items::read_root;
 use crate::reader::modules::SourceRoot;
@@ -81,6 +87,16 @@ impl Items {
         ensures uses { result.uses.items ≡ [] }
         ensures nothing { items_as_read result ≡ no_items }
     {
+        Items::with_macros(alloc, Vec::new(alloc))
+    }
+
+    /// The same where these macros of a crate are known. No memory is asked for.
+    pub fn with_macros(alloc: Global, known_macros: Vec<Macro>) -> Items
+        ensures modules { result.modules.items ≡ [] }
+        ensures items { result.items.items ≡ [] }
+        ensures uses { result.uses.items ≡ [] }
+        ensures macros { items_as_read result ≡ with_known_macros known_macros.items no_items }
+    {
         Items {
             modules: Vec::new(alloc),
             are_read: Vec::new(alloc),
@@ -89,6 +105,7 @@ impl Items {
             uses: Vec::new(alloc),
             owners: Vec::new(alloc),
             macros: Vec::new(alloc),
+            known_macros,
             passed_over: 0,
             types_passed: 0,
             unknown_cfgs: Vec::new(alloc),
@@ -110,13 +127,19 @@ fn tokens_at(alloc: Global, text: &str, start: Place) -> Result<Vec<Token>, Sour
     }
 }
 
-/// A cursor at the first token.
-fn cursor_at_start<'a>(text: &'a str, start: Place, tokens: &'a [Token]) -> Cursor<'a>
-    ensures { StandsBefore result text.now start.0 tokens.now }
+/// A cursor at the first token of a text, of whose calls of `cfg!` these are decided.
+fn cursor_at_start<'a>(
+    text: &'a str,
+    start: Place,
+    tokens: &'a [Token],
+    calls: &'a [CfgCall],
+) -> Cursor<'a>
+    ensures { StandsBefore result text.now start.0 tokens.now calls.now }
 {
     Cursor {
         text,
         tokens,
+        calls,
         start: start.0,
         at: 0,
         end: tokens.len(),
@@ -129,7 +152,8 @@ fn cursor_at_start<'a>(text: &'a str, start: Place, tokens: &'a [Token]) -> Curs
 /// stay in front.
 ///
 /// In place of a call of `cfg_if!`, of the crate `cfg-if`, and of a macro that puts attributes in front of the items of a call,
-/// these items stand where it is certain which macro that is; all other calls are passed over.
+/// these items stand where it is certain which macro that is: one before it in the same source, or one that is known; all
+/// other calls are passed over.
 ///
 /// An item that can't be read is passed over, up to its `;` or the end of its braces, and its fault is kept beside the items;
 /// it may have a name, which leads nowhere then. What can't be cut into tokens, or has a bracket without its partner, is the
@@ -146,7 +170,9 @@ pub fn read_items(
         (texts names.new, items_as_read items.new) result }
 {
     let found = tokens_at(alloc, source.text, source.start)?;
-    let mut cursor = cursor_at_start(source.text, source.start, &found);
+    let undecided = cursor_at_start(source.text, source.start, &found, &[]);
+    let calls = calls_of(alloc, target, &undecided)?;
+    let mut cursor = cursor_at_start(source.text, source.start, &found, &calls);
     let rules = Rules {
         target: *target,
         is_trusted: source.is_trusted,
@@ -183,6 +209,6 @@ pub fn read_type(
     ensures one { OneJoiningByStrength }
 {
     let found = tokens_at(alloc, text, start)?;
-    let mut cursor = cursor_at_start(text, start, &found);
+    let mut cursor = cursor_at_start(text, start, &found, &[]);
     read_alone(names, &mut cursor)
 }

@@ -30,7 +30,7 @@ pub enum Unevaluated {
     Associated,
     /// `_`.
     Inferred,
-    /// C's string, a float, a block of statements, a `match`, a closure, a field, an index, a list, or what else is no
+    /// C's string, a float, a block of other statements than `let`s, a pattern of another kind, a closure, a field, an index, a list, or what else is no
     /// constant that is read here.
     Expression,
 }
@@ -156,6 +156,9 @@ pub enum Expr {
     Cast(Box<Expr>, Box<Type>, Place),
     /// `if A { B } else { C }`, and where `if` stands.
     If(Box<Expr>, Box<Expr>, Box<Expr>, Place),
+    /// `let N: T = A;` with what follows it, B, and where `let` stands. T is `_` where no type is written. `match A { .. }` is
+    /// a `let` of the name `_`, which what follows compares.
+    Let(Symbol, Box<Type>, Box<Expr>, Box<Expr>, Place),
     /// One that isn't evaluated, and where it begins.
     Unevaluated(Unevaluated, Place),
 }

@@ -3,7 +3,7 @@
 ghost use Rattle.std.specs.Prelude.{◌≤◌};
 ghost use Rattle.abi_text.specs.LaidOut.{IsLaidOut};
 
-use crate::bytes::{ByteAnswers, is_yes, write_transmuted};
+use crate::bytes::{ByteAnswers, is_yes, shown_cells, write_goes, write_pointers};
 use crate::crate_files::{CrateFiles, Search, SourceFile};
 use crate::entries::{EntriesAsked, TypeEntry, put_entries};
 use crate::facts::TypeFacts;
@@ -19,6 +19,7 @@ use crate::package_crates::{PackageCrate, PackageSet, crates_under};
 use crate::parts::parts_value;
 use crate::place::{Spot, write_fault};
 use crate::pretty::{DeclaredType, write_pretty};
+use crate::reasons::{ShownType, write_reasons};
 use crate::savings::{LargestVariant, LayContext, largest_variant, savings_of};
 use crate::savings_text::{PartNames, put_savings, write_savings};
 use crate::waste::waste_of;
@@ -27,7 +28,7 @@ use abi_bytes::transmute;
 use abi_map::map_of;
 use abi_rust::{Fault, ReportShape, Sources, TypeReport, data_layout_of};
 use abi_tree::{Laid, TypeTree};
-use rust_source::{CfgTarget, Names, Outline};
+use rust_source::{CfgTarget, Macro, Names, Outline};
 use rustc_abi::{LayError, lay_out};
 use serde_json::{Map, Value};
 use std::alloc::{AllocError, Global};
@@ -231,6 +232,9 @@ const NO_ITEM: &str = "note: so this item is passed over\n";
 const NO_ITEMS: &str =
     "note: so this item is passed over, and others behind it, of which no more is told\n";
 
+/// How many times the files of a crate are read, each time with the macros known that were found before.
+const MOST_READINGS: usize = 8;
+
 /// How many items that aren't read are told of.
 const MOST_UNREAD: usize = 1000;
 
@@ -262,6 +266,11 @@ fn text_at<'a>(
         }),
         Spot::Nowhere => None,
     }
+}
+
+/// The type that was named in this place.
+fn asked_type<'a>(options: &ReportOptions<'a>, before: usize) -> &'a str {
+    options.types.get(before).copied().unwrap_or("")
 }
 
 /// Writes a fault, with the line in which it lies. An error comes where a growth of memory was refused.
@@ -559,18 +568,60 @@ impl SourceSet<'_> {
     }
 
     /// Reads the file that is named, and those of its modules where it is the root of a crate.
+    fn read_once<F: FileSource>(
+        &mut self,
+        cx: ReadContext<'_>,
+        from: &F,
+    ) -> Result<(), SourceFailure> {
+        if let Err(fault) = self.read_root(cx) {
+            return Err(self.failure(cx.alloc, &fault));
+        }
+        if self.files.is_crate() {
+            self.follow_modules(cx, from)?;
+        }
+        Ok(())
+    }
+
+    /// Forgets what was read, so that it can be read once more, with these macros of it known.
+    fn restart(&mut self, alloc: Global, known_macros: Vec<Macro>) {
+        self.sources.restart(alloc, known_macros);
+        self.files = CrateFiles::new(alloc, self.files.root);
+        self.faults = Vec::new(alloc);
+        self.searched = 0;
+    }
+
+    /// Reads what the first crate has, and once more while macros are found in its files that weren't known before. Where that
+    /// has no end, none is known from outside of its own source.
+    fn read_first<F: FileSource>(
+        &mut self,
+        cx: ReadContext<'_>,
+        from: &F,
+    ) -> Result<(), SourceFailure> {
+        let alloc = cx.alloc;
+        for _reading in 0..MOST_READINGS {
+            self.read_once(cx, from)?;
+            if self.files.count() == 1 {
+                return Ok(());
+            }
+            let found = self.sources.macros_of_crate(alloc)?;
+            if found.as_slice() == self.sources.known_macros() {
+                return Ok(());
+            }
+            self.restart(alloc, found);
+        }
+        self.restart(alloc, Vec::new(alloc));
+        self.read_once(cx, from)
+    }
+
+    /// Reads the file that is named, and where it is the root of a crate, those of its modules and the crates that it depends on.
     fn read_files<F: FileSource>(
         &mut self,
         cx: ReadContext<'_>,
         from: &F,
     ) -> Result<(), SourceFailure> {
         let alloc = cx.alloc;
-        if let Err(fault) = self.read_root(cx) {
-            return Err(self.failure(alloc, &fault));
-        }
-        let root = self.files.root;
-        if root.is_root && root.name.is_some() {
-            self.follow_modules(cx, from)?;
+        self.read_first(cx, from)?;
+        if self.files.is_crate() {
             self.read_crates(cx, from)?;
         }
         self.put_unread_items(alloc)?;
@@ -1017,7 +1068,7 @@ impl FileReport {
         sources: &mut Sources,
         before: usize,
     ) -> Result<Laid, SourceFailure> {
-        let name = cx.options.types.get(before).copied().unwrap_or("");
+        let name = asked_type(cx.options, before);
         let own = Spot::Asked(before, 0);
         let report = match sources.type_written(self.alloc, cx.dl, name) {
             Ok(Some(report)) => report,
@@ -1042,11 +1093,39 @@ impl FileReport {
         let first = self.written_type(cx, sources, 0)?;
         let second = self.written_type(cx, sources, 1)?;
         let answer = transmute(self.alloc, &first, &second)?;
-        write_transmuted(&mut self.text, &answer)?;
         if !is_yes(&answer) {
             self.outcome = self.outcome.worse_of(Outcome::Denied);
         }
-        Ok(())
+        write_goes(&mut self.text, &answer.goes)?;
+        self.add_reasons(cx, sources, (&first, &second), shown_cells(&answer))?;
+        Ok(write_pointers(&mut self.text, &answer)?)
+    }
+
+    /// Reports why cells, where there are some, that hold the first type that was named don't hold the second.
+    fn add_reasons(
+        &mut self,
+        cx: ReportContext<'_>,
+        sources: &mut Sources,
+        types: (&Laid, &Laid),
+        cells: Option<&[Option<u8>]>,
+    ) -> Result<(), AllocError> {
+        let Some(cells) = cells else {
+            return Ok(());
+        };
+        let (first, second) = types;
+        let of_first = sources.parts_written(self.alloc, cx.dl, asked_type(cx.options, 0))?;
+        let of_second = sources.parts_written(self.alloc, cx.dl, asked_type(cx.options, 1))?;
+        let first = ShownType {
+            names: sources.names(),
+            laid: first,
+            parts: &of_first,
+        };
+        let second = ShownType {
+            names: sources.names(),
+            laid: second,
+            parts: &of_second,
+        };
+        write_reasons(self.alloc, &mut self.text, first, second, cells)
     }
 
     /// Reports why items and the files of modules aren't read; where one is to stop all, fails by it.

@@ -116,20 +116,31 @@ pub(crate) fn is_yes(answer: &Transmuted) -> bool {
     }
 }
 
-/// Writes whether each value of a type is one of another: a word, the cells that show where it isn't, and whether it is only
-/// that of the numbers of pointers.
-pub(crate) fn write_transmuted(out: &mut String, answer: &Transmuted) -> Result<(), AllocError> {
-    match &answer.goes {
-        Goes::Yes => out.push_str("yes\n")?,
+/// Writes whether each value of a type is one of another: a word, and the cells that show where it isn't.
+pub(crate) fn write_goes(out: &mut String, goes: &Goes) -> Result<(), AllocError> {
+    match goes {
+        Goes::Yes => out.push_str("yes\n"),
         Goes::No(cells) => {
             out.push_str("no\n")?;
-            write_cells(out, cells)?;
+            write_cells(out, cells)
         }
-        Goes::OtherSize => out.push_str("no\nsizes differ\n")?,
-        Goes::TooLarge => out.push_str("unknown\n")?,
+        Goes::OtherSize => out.push_str("no\nsizes differ\n"),
+        Goes::TooLarge => out.push_str("unknown\n"),
     }
+}
+
+/// Writes, where it is so, that an answer is only that of the numbers of pointers.
+pub(crate) fn write_pointers(out: &mut String, answer: &Transmuted) -> Result<(), AllocError> {
     if answer.has_pointer {
         out.push_str("pointers are numbers here\n")?;
     }
     Ok(())
+}
+
+/// The cells that show where an answer is no; None elsewhere.
+pub(crate) fn shown_cells(answer: &Transmuted) -> Option<&[Option<u8>]> {
+    match &answer.goes {
+        Goes::No(cells) => Some(cells),
+        _ => None,
+    }
 }

@@ -318,6 +318,11 @@ impl<'a> CrateFiles<'a> {
         Ok(None)
     }
 
+    /// Whether the file that is named is the root of a crate, whose modules' files are looked for.
+    pub(crate) fn is_crate(&self) -> bool {
+        self.root.is_root && self.root.name.is_some()
+    }
+
     /// How many files there are.
     pub(crate) fn count(&self) -> usize {
         self.more.len().saturating_add(1)

@@ -26,6 +26,7 @@ mod mapped;
 mod notes;
 mod parts;
 mod pretty;
+mod reasons;
 
 // The answers to files that are handed in.
 mod documents;

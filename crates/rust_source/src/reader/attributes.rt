@@ -1,7 +1,7 @@
 //! Attributes of items, fields and variants.
 
 ghost use Rattle.std.specs.Prelude.{◌≡◌};
-ghost use Rattle.rust_source.specs.Attributes.{attribute_read, attribute_with, attributes_read, attributes_said, begins_attribute, cfg_said, expanded, expanded_all, faulty, judged_by, listless_said, named_said, none_said, number_and_comma, one_attribute, part_attributes, part_judged, range_read, repr_said, simple_said, unknown_with, value_next, with_path};
+ghost use Rattle.rust_source.specs.Attributes.{attribute_read, attribute_with, attributes_read, attributes_said, begins_attribute, cfg_said, expanded, expanded_all, faulty, judged_by, listless_said, named_said, none_said, number_and_comma, one_attribute, part_attributes, part_judged, range_read, repr_said, simple_said, unknown_with, value_next, with_macro_use, with_path};
 ghost use Rattle.rust_source.specs.Names.{texts};
 ghost use Rattle.rust_source.specs.Reading.{Reads, read_as};
 ghost use Rattle.rust_source.specs.Repr.{with_repr};
@@ -53,6 +53,8 @@ pub(crate) struct Attributes {
     pub unknown: Option<Place>,
     /// The string that the first `path = ".."` says, which names the file or the folder of a module.
     pub path: Option<Token>,
+    /// Whether `macro_use` is among them, by which the macros of a module are those of the one around it, too.
+    pub uses_macros: bool,
 }
 
 /// Where an attribute is read.
@@ -74,6 +76,7 @@ const NONE: Attributes = Attributes {
     has_helpers: false,
     unknown: None,
     path: None,
+    uses_macros: false,
 };
 
 /// The attribute that says which numbers a scalar may be.
@@ -189,6 +192,15 @@ fn with_path(before: Attributes, cursor: &Cursor<'_>) -> Attributes
     said
 }
 
+/// What is said with an attribute of this name, which may be `macro_use`.
+fn with_macro_use(before: Attributes, name: &str) -> Attributes
+    ensures { result ≡ with_macro_use before name.now }
+{
+    let mut said = before;
+    said.uses_macros = said.uses_macros || name == "macro_use";
+    said
+}
+
 /// What the attribute says that is next and has no list in parentheses.
 #[tactic(auto, unfolding(crate::specs::Attributes::listless_said))]
 fn read_listless(before: Attributes, cursor: &Cursor<'_>) -> Result<Attributes, SourceFault>
@@ -204,7 +216,7 @@ fn read_listless(before: Attributes, cursor: &Cursor<'_>) -> Result<Attributes, 
     if name == "path" {
         return Ok(with_path(before, cursor));
     }
-    Ok(before)
+    Ok(with_macro_use(before, name))
 }
 
 /// Whether an attribute may begin with what is next.

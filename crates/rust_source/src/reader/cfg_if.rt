@@ -170,7 +170,7 @@ fn call_next<'a>(
 }
 
 /// The predicate of the `cfg` that is all in an attribute's brackets.
-fn predicate_in<'a>(inside: &Cursor<'a>) -> Option<Cursor<'a>>
+pub(crate) fn predicate_in<'a>(inside: &Cursor<'a>) -> Option<Cursor<'a>>
     ensures { result ≡ predicate_in (Some inside.now) }
 {
     if !is_named(inside, "cfg") {
@@ -236,7 +236,7 @@ fn last_items<'a>(cursor: &Cursor<'a>) -> Option<Cursor<'a>>
 
 /// Whether the predicate holds that is all that is left.
 #[tactic(auto, unfolding(crate::specs::CfgIf::predicate_alone))]
-fn is_predicate_alone(
+pub(crate) fn is_predicate_alone(
     names: &mut Names,
     unknown: &mut Vec<Symbol>,
     target: &CfgTarget<'_>,

@@ -10,6 +10,15 @@ use crate::place::Place;
 use crate::tokens::keyword::Keyword;
 use crate::tokens::token::{Bracket, Token, TokenKind};
 
+/// A call of `cfg!` that is decided.
+#[derive(Clone, Copy)]
+pub(crate) struct CfgCall {
+    /// The index of its first token.
+    pub at: usize,
+    /// Whether its predicate holds.
+    pub holds: bool,
+}
+
 /// Tokens of a source that follow one another, as those of a group, and how far they are read.
 #[derive(Clone, Copy)]
 pub(crate) struct Cursor<'a> {
@@ -17,6 +26,8 @@ pub(crate) struct Cursor<'a> {
     pub text: &'a str,
     /// All its tokens.
     pub tokens: &'a [Token],
+    /// Those of its calls of `cfg!` that are decided.
+    pub calls: &'a [CfgCall],
     /// The place of the source's first byte.
     pub start: u32,
     /// The index of the next token.

@@ -8,22 +8,25 @@ ghost use Rattle.rust_source.specs.Literals.{char_code, number_written};
 ghost use Rattle.rust_source.specs.Reading.{Reads, read_as};
 ghost use Rattle.rust_source.specs.Simple.{byte_read, char_read, is_literal, literal_read, literal_of, most_nested, number_read, sign_of, signed_literal, signs, text_read};
 ghost use Rattle.rust_source.specs.Syntax.{cast, choice, expr_of, method, method_path, no_arguments, path_as_read, segment, segment_of, type_of};
-ghost use Rattle.rust_source.specs.Terms.{bracketed, cast_from, choice_behind, choice_read, choice_with, else_read, expr_read, expr_with, called, is_method_next, method_read, methods_from, readers, is_always_reported, operand, primary, value, expressions_in, whole};
+ghost use Rattle.rust_source.specs.Terms.{bracketed, cast_from, choice_behind, choice_read, choice_with, else_read, expr_read, expr_with, called, held_by, is_method_next, method_read, methods_from, readers, is_always_reported, operand, primary, value, expressions_in, whole};
 ghost use Rattle.rust_source.specs.Texts.{text_length};
 ghost use Rattle.rust_source.specs.Tokens.{Yields};
 
 use crate::fault::{SourceFault, SourceFaultKind};
 use crate::names::Names;
 use crate::place::{Place, Symbol};
+use crate::reader::blocks::read_block;
+use crate::reader::cfg_calls::{is_cfg_call, read_cfg_call};
 use crate::reader::cursor::{
     Cursor, expect_comma, fault, is_done, is_group, is_named_next, is_next, next_kind, nth, pass,
     place, take_group, take_word, text_of,
 };
 use crate::reader::depth::{most_nested, one_level_deeper};
 use crate::reader::literals::{Number, char_code, number_of};
+use crate::reader::matches::read_match;
 use crate::reader::naming::take_name;
 use crate::reader::operators::{Waiting, join_all, next_operator, put_operator, with_signs};
-use crate::reader::paths::read_path;
+use crate::reader::paths::read_value_path;
 use crate::reader::texts::text_length;
 use crate::reader::types::read_type;
 use crate::syntax::{Expr, IntegerKind, Path, Segment, Type, Unary, Unevaluated};
@@ -83,7 +86,7 @@ pub(crate) fn read_whole(
 /// An expression. Types and expressions may stand in `depth_left` others here.
 #[cycle(terms)]
 #[tactic(auto, using(crate::proofs::Depths::expr_less, crate::proofs::Depths::expr_none))]
-fn read_expression(
+pub(crate) fn read_expression(
     names: &mut Names,
     cursor: &mut Cursor<'_>,
     depth_left: u32,
@@ -108,7 +111,7 @@ fn push_operand(all: &mut Vec<Expr>, one: Expr) -> Result<(), SourceFault>
 /// Operands, and the operators between them.
 #[cycle(terms)]
 #[tactic(auto, unfolding(crate::specs::Terms::expr_with), using(crate::proofs::Depths::expr_more, crate::proofs::Depths::expr_done))]
-fn read_joined(
+pub(crate) fn read_joined(
     names: &mut Names,
     cursor: &mut Cursor<'_>,
     depth_left: u32,
@@ -248,8 +251,8 @@ fn read_method(
     call_of_method(names.alloc(), receiver, name, at, others)
 }
 
-/// One name of the path by which a method is called.
-fn method_segment(alloc: Global, name: Symbol, at: Place) -> Segment
+/// A name of a path, without arguments.
+pub(crate) fn name_segment(alloc: Global, name: Symbol, at: Place) -> Segment
     ensures { segment_of result ≡ segment name.0 at 0 no_arguments }
 {
     Segment {
@@ -266,8 +269,8 @@ fn path_of_method(alloc: Global, name: Symbol, at: Place) -> Result<Path, Source
     ensures err { IfErr result (λ fault. fault.kind ≡ SourceFaultKind.OutOfMemory) }
 {
     let mut segments = Vec::new(alloc);
-    segments.push(method_segment(alloc, Symbol::UNDERSCORE, at))?;
-    segments.push(method_segment(alloc, name, at))?;
+    segments.push(name_segment(alloc, Symbol::UNDERSCORE, at))?;
+    segments.push(name_segment(alloc, name, at))?;
     Ok(Path {
         is_global: false,
         segments,
@@ -327,10 +330,27 @@ fn read_casts(
     Err(fault(cursor, SourceFaultKind::TooDeep))
 }
 
+/// What brackets of this kind hold: braces a block, and others an expression.
+#[cycle(terms)]
+fn read_held(
+    names: &mut Names,
+    inside: &mut Cursor<'_>,
+    bracket: Bracket,
+    depth_left: u32,
+) -> Result<Expr, SourceFault>
+    ensures { Reads (λ value. (expr_of value, inside.new))
+        (held_by (readers depth_left) bracket inside.old (texts names.old)) (texts names.new) result }
+{
+    match bracket {
+        Bracket::Curly => read_block(names, inside, depth_left),
+        _ => read_expression(names, inside, depth_left),
+    }
+}
+
 /// An expression in brackets of this kind, alone.
 #[cycle(terms)]
 #[tactic(auto, unfolding(crate::specs::Terms::bracketed))]
-fn read_in(
+pub(crate) fn read_in(
     names: &mut Names,
     cursor: &mut Cursor<'_>,
     bracket: Bracket,
@@ -342,7 +362,7 @@ fn read_in(
     let Some(mut inside) = take_group(cursor, bracket) else {
         return Err(fault(cursor, SourceFaultKind::ExpectedExpression));
     };
-    let value = read_expression(names, &mut inside, depth_left)?;
+    let value = read_held(names, &mut inside, bracket, depth_left)?;
     if is_done(&inside) {
         Ok(value)
     } else {
@@ -383,7 +403,13 @@ fn read_tested(
 }
 
 /// The choice of three expressions, which stands at this place.
-fn choice(alloc: Global, test: Expr, yes: Expr, no: Expr, at: Place) -> Result<Expr, SourceFault>
+pub(crate) fn choice(
+    alloc: Global,
+    test: Expr,
+    yes: Expr,
+    no: Expr,
+    at: Place,
+) -> Result<Expr, SourceFault>
     ensures ok { IfOk result
         (λ whole. expr_of whole ≡ choice (expr_of test) (expr_of yes) (expr_of no) at) }
     ensures err { IfErr result (λ fault. fault.kind ≡ SourceFaultKind.OutOfMemory) }
@@ -445,6 +471,9 @@ fn read_primary(
     if is_literal(cursor) {
         return read_literal(cursor);
     }
+    if is_cfg_call(cursor) {
+        return Ok(read_cfg_call(cursor));
+    }
     let at = place(cursor);
     match next_kind(cursor) {
         Some(TokenKind::Open(Bracket::Round)) => {
@@ -456,6 +485,10 @@ fn read_primary(
         Some(TokenKind::Keyword(Keyword::If)) => {
             pass(cursor, 1);
             read_choice(names, cursor, at, depth_left)
+        }
+        Some(TokenKind::Keyword(Keyword::Match)) => {
+            pass(cursor, 1);
+            read_match(names, cursor, at, depth_left)
         }
         Some(TokenKind::Keyword(Keyword::Const)) => {
             pass(cursor, 1);
@@ -477,7 +510,7 @@ fn read_value(
         (value (readers depth_left) cursor.old (texts names.old)) (texts names.new) result }
 {
     let at = place(cursor);
-    let path = read_path(names, cursor, false, depth_left)?;
+    let path = read_value_path(names, cursor, depth_left)?;
     let Some(mut inside) = take_group(cursor, Bracket::Round) else {
         return Ok(Expr::Path(path));
     };

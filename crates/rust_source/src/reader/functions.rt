@@ -143,10 +143,12 @@ fn read_result(names: &mut Names, cursor: &mut Cursor<'_>) -> Result<Type, Sourc
 fn read_body(names: &mut Names, cursor: &mut Cursor<'_>) -> Result<Expr, SourceFault>
     ensures { Reads (λ body. (expr_of body, cursor.new)) (body_read cursor.old (texts names.old)) (texts names.new) result }
 {
-    let Some(mut inside) = take_group(cursor, Bracket::Curly) else {
+    let mut body = *cursor;
+    if take_group(cursor, Bracket::Curly).is_none() {
         return Err(fault(cursor, SourceFaultKind::ExpectedExpression));
-    };
-    read_whole(names, &mut inside, most_nested())
+    }
+    body.end = cursor.at;
+    read_whole(names, &mut body, most_nested())
 }
 
 /// The parameters of a function that stand in parentheses.

@@ -5,7 +5,7 @@ ghost use Rattle.rust_source.specs.Cursor.{inside, next_kind};
 ghost use Rattle.rust_source.specs.Growth.{KeepsItems};
 ghost use Rattle.rust_source.specs.Having.{item_of_module, with_item};
 ghost use Rattle.rust_source.specs.Items.{item_of, items_as_read};
-ghost use Rattle.rust_source.specs.Modules.{all_read, call_read, items_of_call, is_item_word, is_macro, is_passed_over, item_read, items_within, may_have_repr, module_by, module_read, module_within, next_read, one_read, other_read, over_passed, passes_kind, path_passed, renames_crate, repr_judged, root_read, standing_read, use_read};
+ghost use Rattle.rust_source.specs.Modules.{all_read, call_read, items_of_call, is_item_word, is_macro, is_passed_over, item_read, items_within, may_have_repr, module_by, module_of, module_read, module_within, next_read, one_read, other_read, over_passed, passes_kind, path_passed, renames_crate, repr_judged, root_read, standing_read, use_read};
 ghost use Rattle.rust_source.specs.Names.{texts};
 ghost use Rattle.rust_source.specs.Reading.{Reads};
 ghost use Rattle.rust_source.specs.Simple.{most_nested};
@@ -26,6 +26,7 @@ use crate::reader::definition::{Definition, count_types, is_union, read_definiti
 use crate::reader::depth::{most_nested, one_level_deeper};
 use crate::reader::fields::pass_visibility;
 use crate::reader::functions::read_function;
+use crate::reader::macro_scope::{entry_of, shares_macros};
 use crate::reader::modules::{
     OpenModule, SourceRoot, add_path, begin_module, open_root, read_outline,
 };
@@ -293,6 +294,26 @@ fn refuse_misplaced_repr(said: &Attributes, cursor: &Cursor<'_>) -> Result<(), S
     }
 }
 
+/// A module of this name, in the one that it stands in.
+fn module_of(
+    modules: &[Module],
+    context: &ItemContext,
+    name: Symbol,
+    path: Option<Symbol>,
+) -> Module
+    ensures { result ≡ module_of modules.now context.now.standing context.now.said.uses_macros name path }
+{
+    let outer = context.standing.module;
+    Module {
+        name,
+        parent: Some(outer),
+        visible_in: context.standing.visible_in,
+        path,
+        shares_macros: context.said.uses_macros && shares_macros(modules, outer),
+        entry: entry_of(modules, outer),
+    }
+}
+
 /// Reads the items of a module, which stand within its braces.
 #[cycle(modules)]
 fn read_within(
@@ -355,12 +376,7 @@ fn read_module(
     let (name, at) = take_name(names, cursor)?;
     let path = add_path(names, cursor, context.said.path)?;
     let named = NamedModule {
-        module: Module {
-            name,
-            parent: Some(context.standing.module),
-            visible_in: context.standing.visible_in,
-            path,
-        },
+        module: module_of(&items.modules, context, name, path),
         at,
         depth_left: context.depth_left,
     };
@@ -380,10 +396,10 @@ fn items_of_call<'a>(
     ensures read { Reads (λ found. found) (items_of_call rules.now «module» cursor.now (texts names.old, items_as_read items.old))
         (texts names.new, items_as_read items.new) result }
 {
-    if let Some(wrapped) = wrapped_items(rules, names, items, module, cursor) {
-        return Ok(Some(wrapped));
+    match wrapped_items(rules, names, items, module, cursor)? {
+        Some(wrapped) => Ok(Some(wrapped)),
+        None => chosen_items(rules, names, items, module, cursor),
     }
-    chosen_items(rules, names, items, module, cursor)
 }
 
 /// Reads the items that stand in place of the call that is next, or an item where they aren't known.

@@ -3,7 +3,7 @@
 ghost use Rattle.std.specs.Prelude.{◌≡◌, ◌+◌, ◌≤◌, IfErr, IfOk, length, slice_set, true};
 ghost use Rattle.rust_source.specs.Cursor.{text_between};
 ghost use Rattle.rust_source.specs.Growth.{KeepsItems};
-ghost use Rattle.rust_source.specs.Having.{next_module, with_module, with_outline, with_read};
+ghost use Rattle.rust_source.specs.Having.{entered, next_module, with_module, with_outline, with_read};
 ghost use Rattle.rust_source.specs.Items.{items_as_read};
 ghost use Rattle.rust_source.specs.Names.{texts};
 ghost use Rattle.rust_source.specs.Outlines.{number_of_root, outline_read, path_named, quote_at, room_in, room_of_root, root_room, unquoted, with_root};
@@ -109,6 +109,17 @@ pub(crate) fn begin_module(
     Ok(number)
 }
 
+/// A module of another file whose name stands there, in the root's source unless it is entered from elsewhere.
+fn entered(one: Module, at: Place) -> Module
+    ensures { result ≡ entered one at }
+{
+    let mut module = one;
+    if module.entry.is_none() {
+        module.entry = Some(at);
+    }
+    module
+}
+
 /// Puts a module behind the others whose items stand in another file, and its outline.
 fn put_outline(items: &mut Items, one: Module, at: Place) -> Result<(), SourceFault>
     ensures kept { KeepsItems items.old items.new }
@@ -116,7 +127,7 @@ fn put_outline(items: &mut Items, one: Module, at: Place) -> Result<(), SourceFa
         (λ _. items_as_read items.new ≡ with_outline one at (items_as_read items.old)) }
     ensures err { IfErr result (λ fault. fault.kind ≡ SourceFaultKind.OutOfMemory) }
 {
-    let module = begin_module(items, one, false)?;
+    let module = begin_module(items, entered(one, at), false)?;
     items.outlines.push(Outline { module, at })?;
     Ok(())
 }
@@ -185,6 +196,8 @@ fn begin_root(items: &mut Items, name: Symbol) -> Result<u32, SourceFault>
         parent: None,
         visible_in: None,
         path: None,
+        shares_macros: true,
+        entry: None,
     };
     begin_module(items, one, true)
 }

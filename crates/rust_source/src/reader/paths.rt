@@ -3,18 +3,19 @@
 ghost use Rattle.std.specs.Prelude.{◌≡◌, ◌||◌, [], ◌∷◌, ◌++◌, false, IfErr, IfOk, map, Some, None, if◌then◌else◌};
 ghost use Rattle.rust_source.specs.Cursor.{is_next, passed};
 ghost use Rattle.rust_source.specs.Lifetimes.{lifetimes_given};
+ghost use Rattle.rust_source.specs.Matches.{with_first};
 ghost use Rattle.rust_source.specs.Names.{texts};
 ghost use Rattle.rust_source.specs.Reading.{Reads};
 ghost use Rattle.rust_source.specs.Simple.{is_literal};
 ghost use Rattle.rust_source.specs.Tokens.{Yields};
-ghost use Rattle.rust_source.specs.Syntax.{argument_of, path, path_as_read, segment_of, segments as segments_of, type_of};
-ghost use Rattle.rust_source.specs.Terms.{argument, argument_behind, argument_more, arguments_begin, arguments_by, arguments_read, constant_read, readers, is_binding, path_read, segment_read};
+ghost use Rattle.rust_source.specs.Syntax.{argument_of, path, path_as_read, segment_of, segments as segments_of, type_of, with_segment};
+ghost use Rattle.rust_source.specs.Terms.{argument, argument_behind, argument_more, arguments_begin, arguments_by, arguments_read, constant_read, readers, is_binding, path_read, qualified_on, segment_read, value_path};
 
 use crate::fault::{SourceFault, SourceFaultKind};
 use crate::names::Names;
 use crate::place::Place;
 use crate::reader::cursor::{
-    Cursor, fault, is_lifetime, is_next, is_nth, is_nth_pair, is_pair, pass, place, take,
+    Cursor, expect, fault, is_lifetime, is_next, is_nth, is_nth_pair, is_pair, pass, place, take,
     take_group, take_pair,
 };
 use crate::reader::expressions::{is_literal, read_signed, read_whole};
@@ -82,6 +83,54 @@ pub(crate) fn read_path(
         }
     }
     Err(fault(cursor, SourceFaultKind::ExpectedName))
+}
+
+/// A path with a name before it.
+#[tactic(auto, using(crate::proofs::Pushed::first_is))]
+pub(crate) fn with_first(one: Segment, path: Path) -> Result<Path, SourceFault>
+    ensures ok { IfOk result
+        (λ whole. path_as_read whole ≡ with_first (segment_of one) (path_as_read path)) }
+    ensures err { IfErr result (λ fault. fault.kind ≡ SourceFaultKind.OutOfMemory) }
+{
+    let is_global = path.is_global;
+    let mut segments = path.segments;
+    segments.insert(0, one)?;
+    Ok(path_of(is_global, segments))
+}
+
+/// A path with a name behind it.
+fn with_segment(path: Path, one: Segment) -> Result<Path, SourceFault>
+    ensures ok { IfOk result
+        (λ whole. path_as_read whole ≡ with_segment (path_as_read path) (segment_of one)) }
+    ensures err { IfErr result (λ fault. fault.kind ≡ SourceFaultKind.OutOfMemory) }
+{
+    let is_global = path.is_global;
+    let mut segments = path.segments;
+    push_segment(&mut segments, one)?;
+    Ok(path_of(is_global, segments))
+}
+
+/// The path of a value: `<T>::N` is `T::N`.
+#[cycle(terms)]
+#[tactic(auto, unfolding(crate::specs::Terms::value_path))]
+pub(crate) fn read_value_path(
+    names: &mut Names,
+    cursor: &mut Cursor<'_>,
+    depth_left: u32,
+) -> Result<Path, SourceFault>
+    ensures { Reads (λ path. (path_as_read path, cursor.new))
+        (value_path (readers depth_left) cursor.old (texts names.old)) (texts names.new) result }
+{
+    if !take(cursor, b'<') {
+        return read_path(names, cursor, false, depth_left);
+    }
+    let ty = read_path(names, cursor, true, depth_left)?;
+    expect(cursor, b'>', SourceFaultKind::ExpectedAngle)?;
+    if !take_pair(cursor, b':', b':') {
+        return Err(fault(cursor, SourceFaultKind::ExpectedName));
+    }
+    let name = read_segment(names, cursor, false, depth_left)?;
+    with_segment(ty, name)
 }
 
 /// A name of a path, with its arguments.

@@ -37,6 +37,8 @@ fn trait_of(standing: Standing, name: Symbol) -> Module
         parent: Some(standing.module),
         visible_in: standing.visible_in,
         path: None,
+        shares_macros: false,
+        entry: None,
     }
 }
 

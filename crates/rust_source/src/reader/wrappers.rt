@@ -7,23 +7,34 @@ ghost use Rattle.rust_source.specs.Having.{with_macro};
 ghost use Rattle.rust_source.specs.Items.{items_as_read};
 ghost use Rattle.rust_source.specs.Names.{texts};
 ghost use Rattle.rust_source.specs.Reading.{Reads};
-ghost use Rattle.rust_source.specs.Visibility.{root_around};
-ghost use Rattle.rust_source.specs.Wrappers.{any_inside, ends_rule, has_macro_use, is_around, is_in_scope, is_item_variable, is_macro_of, is_macro_rules, is_use_of_modules, is_variable, last_macro, macro_of, macro_read, only_rule, only_rule_within, repeated, says_no_more, stands_by, stands_by_name, stands_in, stands_of, standing_of, wrapped_items};
+ghost use Rattle.rust_source.specs.Wrappers.{any_inside, behind_cfg, ends_rule, has_macro_use, head_of, is_cfg_of, is_macro_rules, is_use_of_modules, is_variable, is_variable_of, item_rule, call_alone, handing_of, handing_rule, handing_tried, macro_of, macro_read, only_rule, only_rule_within, repeated, repeats, rule_headed, rule_of, says_no_more, standing_items, standing_of, wrapped_call, wrapped_items, wrapping_by, wrapping_in, wrapping_of, wrapping_rule};
 
 use crate::fault::{SourceFault, SourceFaultKind};
-use crate::item::{Items, Macro, Module};
+use crate::item::{Items, Macro, Wrapping};
 use crate::names::Names;
 use crate::place::{Place, Symbol};
 use crate::reader::attributes::{Attributes, Rules, read_attributes};
+use crate::reader::cfg_if::{is_predicate_alone, predicate_in};
 use crate::reader::constants::is_wanting;
 use crate::reader::cursor::{
     Cursor, is_done, is_named_next, is_next, is_pair, is_word, pass, take, take_group, take_pair,
 };
+use crate::reader::macro_scope::{MacroCall, last_macro, wrapping_meant};
 use crate::reader::naming::{is_named, take_name, word_text};
 use crate::reader::repr::asks;
-use crate::reader::visibility::{child_towards, root_around};
+use crate::reader::visibility::root_around;
+use crate::target::CfgTarget;
 use crate::tokens::keyword::Keyword;
 use crate::tokens::token::Bracket;
+
+/// Tokens that begin with an attribute of what stands around, `#![..]`.
+#[derive(Clone, Copy)]
+pub(crate) struct Headed<'a> {
+    /// What stands in its brackets.
+    pub attribute: Cursor<'a>,
+    /// What stands behind it.
+    pub behind: Cursor<'a>,
+}
 
 /// A macro's rule that matches items and repeats them behind attributes.
 #[derive(Clone, Copy)]
@@ -32,6 +43,33 @@ pub(crate) struct WrappingRule<'a> {
     pub variable: Cursor<'a>,
     /// What is written for each item: attributes and `$name`.
     pub written: Cursor<'a>,
+    /// Whether `#![$name:meta]` stands before the items, and `#[cfg($name)]` before those attributes.
+    pub takes_predicate: bool,
+}
+
+/// A macro's rule that matches items and hands them on, behind a predicate.
+#[derive(Clone, Copy)]
+pub(crate) struct HandingRule<'a> {
+    /// What begins with the name of the macro that they are handed on to.
+    pub through: Cursor<'a>,
+    /// The predicate.
+    pub predicate: Cursor<'a>,
+}
+
+/// A macro's rule that wraps items.
+#[derive(Clone, Copy)]
+pub(crate) enum MacroRule<'a> {
+    Wrapping(WrappingRule<'a>),
+    Handing(HandingRule<'a>),
+}
+
+/// The call of a macro that wraps items.
+#[derive(Clone, Copy)]
+pub(crate) struct WrappedCall<'a> {
+    /// What stands in its braces.
+    pub inside: Cursor<'a>,
+    /// What the macro does with it.
+    pub wrapping: Wrapping,
 }
 
 /// Where a macro's definition stands.
@@ -75,10 +113,10 @@ fn repeated<'a>(cursor: &Cursor<'a>) -> Option<Cursor<'a>>
     }
 }
 
-/// Whether `$name:item` is all that is left.
-#[tactic(auto, unfolding(crate::specs::Wrappers::is_item_variable))]
-fn is_item_variable(cursor: &Cursor<'_>) -> bool
-    ensures { result ≡ is_item_variable cursor.now }
+/// Whether `$name:kind` is all that is left, of this kind.
+#[tactic(auto, unfolding(crate::specs::Wrappers::is_variable_of))]
+fn is_variable_of(cursor: &Cursor<'_>, of_kind: &str) -> bool
+    ensures { result ≡ is_variable_of cursor.now of_kind.now }
 {
     let mut name = *cursor;
     let mut colon = *cursor;
@@ -91,7 +129,7 @@ fn is_item_variable(cursor: &Cursor<'_>) -> bool
     is_next(cursor, b'$')
         && !word_text(&name).is_empty()
         && is_next(&colon, b':')
-        && is_named(&kind, "item")
+        && is_named(&kind, of_kind)
         && is_done(&behind)
 }
 
@@ -115,9 +153,163 @@ fn ends_rule(cursor: &Cursor<'_>) -> bool
     is_done(cursor) || is_next(cursor, b';') && is_done(&behind)
 }
 
-/// The rule that is all that is left, where it matches items and repeats them behind attributes.
+/// Tokens that begin with `#![..]`, where they do.
+#[tactic(auto, unfolding(crate::specs::Wrappers::head_of))]
+fn head_of<'a>(cursor: &Cursor<'a>) -> Option<Headed<'a>>
+    ensures { result ≡ head_of cursor.now }
+{
+    let mut mark = *cursor;
+    let mut behind = *cursor;
+    pass(&mut mark, 1);
+    pass(&mut behind, 2);
+    if !is_next(cursor, b'#') || !is_next(&mark, b'!') {
+        return None;
+    }
+    let attribute = take_group(&mut behind, Bracket::Square)?;
+    Some(Headed { attribute, behind })
+}
+
+/// Whether these brackets have `cfg($name)` alone, of the variable of this name.
+fn is_cfg_of(name: &str, attribute: &Cursor<'_>) -> bool
+    ensures { result ≡ is_cfg_of name.now (Some attribute.now) }
+{
+    match predicate_in(attribute) {
+        Some(predicate) => is_variable(&predicate, name),
+        None => false,
+    }
+}
+
+/// What stands behind the `#[cfg($name)]` that is next, of the variable of this name.
+#[tactic(auto, unfolding(crate::specs::Wrappers::behind_cfg))]
+fn behind_cfg<'a>(name: &str, cursor: &Cursor<'a>) -> Option<Cursor<'a>>
+    ensures { result ≡ behind_cfg name.now cursor.now }
+{
+    let mut ahead = *cursor;
+    if !take(&mut ahead, b'#') {
+        return None;
+    }
+    let attribute = take_group(&mut ahead, Bracket::Square)?;
+    if is_cfg_of(name, &attribute) {
+        Some(ahead)
+    } else {
+        None
+    }
+}
+
+/// The rule of an item's variable, and of what is written for each item.
+fn item_rule<'a>(
+    variable: Cursor<'a>,
+    written: Cursor<'a>,
+    takes_predicate: bool,
+) -> Option<WrappingRule<'a>>
+    ensures { result ≡ item_rule takes_predicate (Some variable.entry) (Some written.entry) }
+{
+    if is_variable_of(&variable, "item") {
+        Some(WrappingRule {
+            variable,
+            written,
+            takes_predicate,
+        })
+    } else {
+        None
+    }
+}
+
+/// The rule that matches `#![$name:meta]` and items, and repeats this for each item.
+#[tactic(auto, unfolding(crate::specs::Wrappers::rule_headed))]
+fn rule_headed<'a>(head: &Headed<'a>, written: &Cursor<'a>) -> Option<WrappingRule<'a>>
+    ensures { result ≡ rule_headed head.now written.now }
+{
+    if !is_variable_of(&head.attribute, "meta") {
+        return None;
+    }
+    let mut name = head.attribute;
+    pass(&mut name, 1);
+    let variable = repeated(&head.behind)?;
+    let rest = behind_cfg(word_text(&name), written)?;
+    item_rule(variable, rest, true)
+}
+
+/// The rule that matches this, and repeats that for each item.
+#[tactic(auto, unfolding(crate::specs::Wrappers::wrapping_rule))]
+fn wrapping_rule<'a>(matched: &Cursor<'a>, written: &Cursor<'a>) -> Option<WrappingRule<'a>>
+    ensures { result ≡ wrapping_rule matched.now written.now }
+{
+    match head_of(matched) {
+        Some(head) => rule_headed(&head, written),
+        None => {
+            let variable = repeated(matched)?;
+            item_rule(variable, *written, false)
+        }
+    }
+}
+
+/// What stands in the braces of the call of a macro that is all that is left.
+#[tactic(auto, unfolding(crate::specs::Wrappers::call_alone))]
+fn call_alone<'a>(written: &Cursor<'a>) -> Option<Cursor<'a>>
+    ensures { result ≡ call_alone written.now }
+{
+    let mut mark = *written;
+    let mut behind = *written;
+    pass(&mut mark, 1);
+    pass(&mut behind, 2);
+    if !is_next(&mark, b'!') {
+        return None;
+    }
+    let inside = take_group(&mut behind, Bracket::Curly)?;
+    if is_done(&behind) { Some(inside) } else { None }
+}
+
+/// Whether all items of this variable follow, and nothing else.
+fn repeats(rest: &Cursor<'_>, variable: &Cursor<'_>) -> bool
+    ensures { result ≡ repeats rest.now variable.now }
+{
+    let mut name = *variable;
+    pass(&mut name, 1);
+    match repeated(rest) {
+        Some(each) => is_variable(&each, word_text(&name)),
+        None => false,
+    }
+}
+
+/// The rule that matches this, and hands the items on by that.
+#[tactic(auto, unfolding(crate::specs::Wrappers::handing_rule))]
+fn handing_rule<'a>(matched: &Cursor<'a>, written: &Cursor<'a>) -> Option<HandingRule<'a>>
+    ensures { result ≡ handing_rule matched.now written.now }
+{
+    let variable = repeated(matched)?;
+    let inside = call_alone(written)?;
+    let head = head_of(&inside)?;
+    if is_variable_of(&variable, "item") && repeats(&head.behind, &variable) {
+        Some(HandingRule {
+            through: *written,
+            predicate: head.attribute,
+        })
+    } else {
+        None
+    }
+}
+
+/// The rule that matches this and writes that, where it wraps items.
+#[tactic(auto, unfolding(crate::specs::Wrappers::rule_of))]
+fn rule_of<'a>(matched: &Cursor<'a>, written: &Cursor<'a>) -> Option<MacroRule<'a>>
+    ensures { result ≡ rule_of matched.now written.now }
+{
+    match repeated(written) {
+        Some(each) => {
+            let rule = wrapping_rule(matched, &each)?;
+            Some(MacroRule::Wrapping(rule))
+        }
+        None => {
+            let rule = handing_rule(matched, written)?;
+            Some(MacroRule::Handing(rule))
+        }
+    }
+}
+
+/// The rule that is all that is left, where it wraps items.
 #[tactic(auto, unfolding(crate::specs::Wrappers::only_rule))]
-fn only_rule<'a>(rules: &Cursor<'a>) -> Option<WrappingRule<'a>>
+fn only_rule<'a>(rules: &Cursor<'a>) -> Option<MacroRule<'a>>
     ensures { result ≡ only_rule rules.now }
 {
     let mut ahead = *rules;
@@ -126,13 +318,8 @@ fn only_rule<'a>(rules: &Cursor<'a>) -> Option<WrappingRule<'a>>
         return None;
     }
     let written = take_any(&mut ahead)?;
-    if !ends_rule(&ahead) {
-        return None;
-    }
-    let variable = repeated(&matched)?;
-    let written = repeated(&written)?;
-    if is_item_variable(&variable) {
-        Some(WrappingRule { variable, written })
+    if ends_rule(&ahead) {
+        rule_of(&matched, &written)
     } else {
         None
     }
@@ -147,35 +334,40 @@ fn says_no_more(said: &Attributes) -> bool
         || said.has_helpers
         || said.valid_range.is_some()
         || said.unknown.is_some()
-        || said.path.is_some())
+        || said.path.is_some()
+        || said.uses_macros)
 }
 
-/// Whether items stand behind these attributes, where they say no more and the variable of this name follows.
-fn stands_by(name: &str, said: &Attributes, behind: &Cursor<'_>) -> Option<bool>
-    ensures { result ≡ stands_by name.now said.now behind.now }
+/// How a rule wraps items behind these attributes, where they say no more and the item's variable follows.
+fn wrapping_by(rule: &WrappingRule<'_>, said: &Attributes, behind: &Cursor<'_>) -> Option<Wrapping>
+    ensures { result ≡ wrapping_by rule.now said.now behind.now }
 {
-    if says_no_more(said) && is_variable(behind, name) {
-        Some(said.holds)
+    let mut name = rule.variable;
+    pass(&mut name, 1);
+    if says_no_more(said) && is_variable(behind, word_text(&name)) {
+        Some(Wrapping {
+            stands: said.holds,
+            takes_predicate: rule.takes_predicate,
+            through: None,
+        })
     } else {
         None
     }
 }
 
-/// Whether items stand behind the attributes of a rule. None where they can't be read or say more.
-fn read_stands(
+/// How a rule wraps items. None where its attributes can't be read or say more.
+fn read_wrapping(
     rules: &Rules<'_>,
     names: &mut Names,
     unknown: &mut Vec<Symbol>,
     rule: &WrappingRule<'_>,
-) -> Result<Option<bool>, SourceFault>
-    ensures { Reads (λ found. found) (stands_of rules.now rule.now (texts names.old, unknown.old.items))
+) -> Result<Option<Wrapping>, SourceFault>
+    ensures { Reads (λ found. found) (wrapping_of rules.now rule.now (texts names.old, unknown.old.items))
         (texts names.new, unknown.new.items) result }
 {
-    let mut name = rule.variable;
-    pass(&mut name, 1);
     let mut written = rule.written;
     match read_attributes(names, unknown, rules, &mut written) {
-        Ok(said) => Ok(stands_by(word_text(&name), &said, &written)),
+        Ok(said) => Ok(wrapping_by(rule, &said, &written)),
         Err(fault) => {
             if is_wanting(fault.kind) {
                 Err(fault)
@@ -186,15 +378,58 @@ fn read_stands(
     }
 }
 
-/// Whether the items of a macro's calls stand, whose rules are next in brackets. None where it isn't known.
+/// How a rule hands items on.
+#[tactic(auto, unfolding(crate::specs::Wrappers::handing_of))]
+fn read_handing(
+    rules: &Rules<'_>,
+    names: &mut Names,
+    unknown: &mut Vec<Symbol>,
+    rule: &HandingRule<'_>,
+) -> Result<Wrapping, SourceFault>
+    ensures { Reads (λ found. found) (handing_of rules.now rule.now (texts names.old, unknown.old.items))
+        (texts names.new, unknown.new.items) result }
+{
+    let mut ahead = rule.through;
+    let (through, _at) = take_name(names, &mut ahead)?;
+    let stands = is_predicate_alone(names, unknown, &rules.target, &rule.predicate)?;
+    Ok(Wrapping {
+        stands,
+        takes_predicate: false,
+        through: Some(through),
+    })
+}
+
+/// The same. None where its name or its predicate can't be read.
+fn try_handing(
+    rules: &Rules<'_>,
+    names: &mut Names,
+    unknown: &mut Vec<Symbol>,
+    rule: &HandingRule<'_>,
+) -> Result<Option<Wrapping>, SourceFault>
+    ensures { Reads (λ found. found) (handing_tried rules.now rule.now (texts names.old, unknown.old.items))
+        (texts names.new, unknown.new.items) result }
+{
+    match read_handing(rules, names, unknown, rule) {
+        Ok(wrapping) => Ok(Some(wrapping)),
+        Err(fault) => {
+            if is_wanting(fault.kind) {
+                Err(fault)
+            } else {
+                Ok(None)
+            }
+        }
+    }
+}
+
+/// How a macro wraps the items of its calls, whose rules are next in brackets. None where it isn't known.
 fn read_rules(
     rules: &Rules<'_>,
     names: &mut Names,
     unknown: &mut Vec<Symbol>,
     cursor: &Cursor<'_>,
-) -> Result<Option<bool>, SourceFault>
+) -> Result<Option<Wrapping>, SourceFault>
     ensures { Reads (λ found. found)
-        (stands_in rules.now (only_rule_within (any_inside cursor.now)) (texts names.old, unknown.old.items))
+        (wrapping_in rules.now (only_rule_within (any_inside cursor.now)) (texts names.old, unknown.old.items))
         (texts names.new, unknown.new.items) result }
 {
     let mut ahead = *cursor;
@@ -202,7 +437,8 @@ fn read_rules(
         return Ok(None);
     };
     match only_rule(&inside) {
-        Some(rule) => read_stands(rules, names, unknown, &rule),
+        Some(MacroRule::Wrapping(rule)) => read_wrapping(rules, names, unknown, &rule),
+        Some(MacroRule::Handing(rule)) => try_handing(rules, names, unknown, &rule),
         None => Ok(None),
     }
 }
@@ -217,46 +453,25 @@ fn is_macro_rules(cursor: &Cursor<'_>) -> bool
     word_text(cursor) == "macro_rules" && is_next(&behind, b'!') && is_named_next(&behind)
 }
 
-/// Whether a macro has this name, and this root is around it.
-fn is_macro_of(modules: &[Module], root: u32, name: Symbol, one: Macro) -> bool
-    ensures { result ≡ is_macro_of modules.now root name one }
+/// How a macro wraps items. None where it may be rewritten.
+fn unless_rewritten(place: MacroPlace, wrapping: Option<Wrapping>) -> Option<Wrapping>
+    ensures { result ≡ (if place.is_rewritten then None else wrapping) }
 {
-    one.name == name && root_around(modules, one.module) == root
-}
-
-/// The last macro of this name in the crate that the module with this number is in.
-#[tactic(auto, unfolding(crate::specs::Wrappers::last_macro))]
-fn last_macro(items: &Items, module: u32, name: Symbol) -> Option<Macro>
-    ensures { result ≡ last_macro (items_as_read items.now) «module» name }
-{
-    let root = root_around(&items.modules, module);
-    let mut found = None;
-    for one in &items.macros {
-        if is_macro_of(&items.modules, root, name, *one) {
-            found = Some(*one);
-        }
-    }
-    found
-}
-
-/// Whether the items of a macro's calls stand. None where it may be rewritten.
-fn unless_rewritten(place: MacroPlace, stands: Option<bool>) -> Option<bool>
-    ensures { result ≡ (if place.is_rewritten then None else stands) }
-{
-    if place.is_rewritten { None } else { stands }
+    if place.is_rewritten { None } else { wrapping }
 }
 
 /// A macro of this name and place. Of one that isn't the first of its name nothing more is known.
-fn macro_of(items: &Items, module: u32, named: (Symbol, Place), stands: Option<bool>) -> Macro
-    ensures { result ≡ macro_of (items_as_read items.now) «module» named stands }
+fn macro_of(items: &Items, module: u32, named: (Symbol, Place), wrapping: Option<Wrapping>) -> Macro
+    ensures { result ≡ macro_of (items_as_read items.now) «module» named wrapping }
 {
     let (name, at) = named;
-    let is_first = last_macro(items, module, name).is_none();
+    let root = root_around(&items.modules, module);
+    let is_first = last_macro(items, root, name).is_none();
     Macro {
         name,
         at,
         module,
-        stands: if is_first { stands } else { None },
+        wrapping: if is_first { wrapping } else { None },
     }
 }
 
@@ -291,8 +506,8 @@ pub(crate) fn read_macro(
     pass(&mut ahead, 2);
     let named = take_name(names, &mut ahead)?;
     let found = read_rules(rules, names, &mut items.unknown_cfgs, &ahead)?;
-    let stands = unless_rewritten(place, found);
-    let one = macro_of(items, place.module, named, stands);
+    let wrapping = unless_rewritten(place, found);
+    let one = macro_of(items, place.module, named, wrapping);
     put_macro(items, one)
 }
 
@@ -322,35 +537,39 @@ pub(crate) fn has_macro_use(tokens: &Cursor<'_>) -> bool
     false
 }
 
-/// Whether a module is the one with this number, or around it.
-fn is_around(modules: &[Module], outer: u32, number: u32) -> bool
-    ensures { result ≡ is_around modules.now outer number }
+/// The call that is next, of a macro of the source that wraps items. None where it isn't known to be one.
+#[tactic(auto, unfolding(crate::specs::Wrappers::wrapped_call))]
+fn wrapped_call<'a>(
+    rules: &Rules<'_>,
+    names: &Names,
+    items: &Items,
+    module: u32,
+    cursor: &Cursor<'a>,
+) -> Option<WrappedCall<'a>>
+    ensures { result ≡ wrapped_call rules.now «module» cursor.now (texts names.now, items_as_read items.now) }
 {
-    outer == number || child_towards(modules, outer, number).is_some()
-}
-
-/// Whether a macro stands in the source that begins at this place, in the module with this number or around it.
-fn is_in_scope(modules: &[Module], start: u32, number: u32, one: &Macro) -> bool
-    ensures { result ≡ is_in_scope modules.now start number one.now }
-{
-    start <= one.at.0 && is_around(modules, one.module, number)
-}
-
-/// Whether the items of a call stand, by the macro of this name.
-fn stands_by_name(items: &Items, start: u32, number: u32, name: Symbol) -> Option<bool>
-    ensures { result ≡ stands_by_name (items_as_read items.now) start number (Some name) }
-{
-    let one = last_macro(items, number, name)?;
-    if is_in_scope(&items.modules, start, number, &one) {
-        one.stands
-    } else {
-        None
+    let mut ahead = *cursor;
+    pass(&mut ahead, 1);
+    if !is_next(&ahead, b'!') {
+        return None;
     }
+    let mut braces = *cursor;
+    pass(&mut braces, 2);
+    let inside = take_group(&mut braces, Bracket::Curly)?;
+    let name = names.find(word_text(cursor))?;
+    let call = MacroCall {
+        items,
+        module,
+        at: *cursor,
+        has_macro_use: rules.has_macro_use,
+    };
+    let wrapping = wrapping_meant(&call, name)?;
+    Some(WrappedCall { inside, wrapping })
 }
 
 /// These items, or none of them.
 fn standing_of<'a>(inside: Cursor<'a>, stands: bool) -> Cursor<'a>
-    ensures { Some result ≡ standing_of inside.entry (Some stands) }
+    ensures { result ≡ standing_of inside.entry stands }
 {
     let mut items = inside;
     if !stands {
@@ -359,26 +578,45 @@ fn standing_of<'a>(inside: Cursor<'a>, stands: bool) -> Cursor<'a>
     items
 }
 
+/// The items that stand in place of a call. None where a predicate has to stand before them and doesn't.
+#[tactic(auto, unfolding(crate::specs::Wrappers::standing_items))]
+fn standing_items<'a>(
+    names: &mut Names,
+    unknown: &mut Vec<Symbol>,
+    target: &CfgTarget<'_>,
+    call: &WrappedCall<'a>,
+) -> Result<Option<Cursor<'a>>, SourceFault>
+    ensures { Reads (λ found. found) (standing_items target.now call.now (texts names.old, unknown.old.items))
+        (texts names.new, unknown.new.items) result }
+{
+    let wrapping = call.wrapping;
+    if !wrapping.takes_predicate {
+        return Ok(Some(standing_of(call.inside, wrapping.stands)));
+    }
+    match head_of(&call.inside) {
+        Some(head) => {
+            let holds = is_predicate_alone(names, unknown, target, &head.attribute)?;
+            Ok(Some(standing_of(head.behind, wrapping.stands && holds)))
+        }
+        None => Ok(None),
+    }
+}
+
 /// The items that stand in place of the call that is next, by a macro of the source. None where they aren't known.
 #[tactic(auto, unfolding(crate::specs::Wrappers::wrapped_items))]
 pub(crate) fn wrapped_items<'a>(
     rules: &Rules<'_>,
-    names: &Names,
-    items: &Items,
+    names: &mut Names,
+    items: &mut Items,
     module: u32,
     cursor: &Cursor<'a>,
-) -> Option<Cursor<'a>>
-    ensures { result ≡ wrapped_items rules.now «module» cursor.now (texts names.now, items_as_read items.now) }
+) -> Result<Option<Cursor<'a>>, SourceFault>
+    ensures kept { KeepsItems items.old items.new }
+    ensures read { Reads (λ found. found) (wrapped_items rules.now «module» cursor.now (texts names.old, items_as_read items.old))
+        (texts names.new, items_as_read items.new) result }
 {
-    let mut ahead = *cursor;
-    pass(&mut ahead, 1);
-    if !is_next(&ahead, b'!') || rules.has_macro_use {
-        return None;
+    match wrapped_call(rules, names, items, module, cursor) {
+        Some(call) => standing_items(names, &mut items.unknown_cfgs, &rules.target, &call),
+        None => Ok(None),
     }
-    let mut braces = *cursor;
-    pass(&mut braces, 2);
-    let inside = take_group(&mut braces, Bracket::Curly)?;
-    let name = names.find(word_text(cursor))?;
-    let stands = stands_by_name(items, cursor.start, module, name)?;
-    Some(standing_of(inside, stands))
 }

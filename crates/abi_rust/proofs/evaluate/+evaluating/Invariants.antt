@@ -76,3 +76,12 @@ decreases-evaluate_call l = 8 * l.env.depth_left + 4
 
 abbrev pub decreases-evaluate_any : goal.decreases-evaluate_any
 decreases-evaluate_any l = 8 * l.env.depth_left + 5
+
+abbrev pub decreases-evaluate_bound : goal.decreases-evaluate_bound
+decreases-evaluate_bound l = 8 * l.env.depth_left + 1
+
+abbrev pub decreases-evaluate_let : goal.decreases-evaluate_let
+decreases-evaluate_let l = 8 * l.env.depth_left + 2
+
+abbrev pub decreases-evaluate_choice : goal.decreases-evaluate_choice
+decreases-evaluate_choice l = 8 * l.env.depth_left + 1

@@ -62,13 +62,13 @@ abbrev pub decreases-expressions::read_expression : goal.decreases-expressions::
 decreases-expressions::read_expression l = 32 * l.depth_left + 0
 
 abbrev pub decreases-expressions::read_joined : goal.decreases-expressions::read_joined
-decreases-expressions::read_joined l = 32 * l.depth_left + 12
+decreases-expressions::read_joined l = 32 * l.depth_left + 13
 
 abbrev pub decreases-expressions::read_operand : goal.decreases-expressions::read_operand
-decreases-expressions::read_operand l = 32 * l.depth_left + 11
+decreases-expressions::read_operand l = 32 * l.depth_left + 12
 
 abbrev pub decreases-expressions::read_called : goal.decreases-expressions::read_called
-decreases-expressions::read_called l = 32 * l.depth_left + 10
+decreases-expressions::read_called l = 32 * l.depth_left + 11
 
 abbrev pub decreases-expressions::read_methods : goal.decreases-expressions::read_methods
 decreases-expressions::read_methods l = 32 * l.depth_left + 3
@@ -80,25 +80,25 @@ abbrev pub decreases-expressions::read_casts : goal.decreases-expressions::read_
 decreases-expressions::read_casts l = 32 * l.depth_left + 1
 
 abbrev pub decreases-expressions::read_in : goal.decreases-expressions::read_in
-decreases-expressions::read_in l = 32 * l.depth_left + 1
+decreases-expressions::read_in l = 32 * l.depth_left + 2
 
 abbrev pub decreases-expressions::read_choice : goal.decreases-expressions::read_choice
 decreases-expressions::read_choice l = 32 * l.depth_left + 0
 
 abbrev pub decreases-expressions::read_tested : goal.decreases-expressions::read_tested
-decreases-expressions::read_tested l = 32 * l.depth_left + 4
+decreases-expressions::read_tested l = 32 * l.depth_left + 5
 
 abbrev pub decreases-expressions::read_branches : goal.decreases-expressions::read_branches
-decreases-expressions::read_branches l = 32 * l.depth_left + 3
+decreases-expressions::read_branches l = 32 * l.depth_left + 4
 
 abbrev pub decreases-expressions::read_else : goal.decreases-expressions::read_else
-decreases-expressions::read_else l = 32 * l.depth_left + 2
+decreases-expressions::read_else l = 32 * l.depth_left + 3
 
 abbrev pub decreases-expressions::read_primary : goal.decreases-expressions::read_primary
-decreases-expressions::read_primary l = 32 * l.depth_left + 9
+decreases-expressions::read_primary l = 32 * l.depth_left + 10
 
 abbrev pub decreases-expressions::read_value : goal.decreases-expressions::read_value
-decreases-expressions::read_value l = 32 * l.depth_left + 8
+decreases-expressions::read_value l = 32 * l.depth_left + 9
 
 abbrev pub decreases-expressions::read_values : goal.decreases-expressions::read_values
 decreases-expressions::read_values l = 32 * l.depth_left + 1
@@ -140,3 +140,57 @@ invariant-expressions::read_casts-loop-turn l =
 abbrev pub invariant-expressions::read_values-loop-turn : goal.invariant-expressions::read_values-loop-turn
 invariant-expressions::read_values-loop-turn l =
     values_from (readers l.depth_left) (l.turns - l.turn) (map expr_of l.all.items) l.inside (texts l.names) ≡ expressions_in (readers l.depth_left) l.fn.inside (texts l.fn.names)
+
+abbrev pub decreases-expressions::read_held : goal.decreases-expressions::read_held
+decreases-expressions::read_held l = 32 * l.depth_left + 1
+
+abbrev pub decreases-blocks::read_block : goal.decreases-blocks::read_block
+decreases-blocks::read_block l = 32 * l.depth_left + 0
+
+abbrev pub decreases-blocks::read_block_within : goal.decreases-blocks::read_block_within
+decreases-blocks::read_block_within l = 32 * l.depth_left + 14
+
+abbrev pub decreases-blocks::read_local : goal.decreases-blocks::read_local
+decreases-blocks::read_local l = 32 * l.depth_left + 2
+
+abbrev pub decreases-blocks::read_local_type : goal.decreases-blocks::read_local_type
+decreases-blocks::read_local_type l = 32 * l.depth_left + 1
+
+abbrev pub decreases-matches::read_bound : goal.decreases-matches::read_bound
+decreases-matches::read_bound l = 32 * l.depth_left + 8
+
+abbrev pub decreases-matches::read_end : goal.decreases-matches::read_end
+decreases-matches::read_end l = 32 * l.depth_left + 9
+
+abbrev pub decreases-matches::read_range : goal.decreases-matches::read_range
+decreases-matches::read_range l = 32 * l.depth_left + 10
+
+abbrev pub decreases-matches::read_pattern : goal.decreases-matches::read_pattern
+decreases-matches::read_pattern l = 32 * l.depth_left + 11
+
+abbrev pub decreases-matches::read_patterns_within : goal.decreases-matches::read_patterns_within
+decreases-matches::read_patterns_within l = 32 * l.depth_left + 12
+
+abbrev pub decreases-matches::read_patterns : goal.decreases-matches::read_patterns
+decreases-matches::read_patterns l = 32 * l.depth_left + 0
+
+abbrev pub decreases-matches::read_guard : goal.decreases-matches::read_guard
+decreases-matches::read_guard l = 32 * l.depth_left + 1
+
+abbrev pub decreases-matches::read_arm_body : goal.decreases-matches::read_arm_body
+decreases-matches::read_arm_body l = 32 * l.depth_left + 3
+
+abbrev pub decreases-matches::read_arm : goal.decreases-matches::read_arm
+decreases-matches::read_arm l = 32 * l.depth_left + 4
+
+abbrev pub decreases-matches::read_arms_within : goal.decreases-matches::read_arms_within
+decreases-matches::read_arms_within l = 32 * l.depth_left + 5
+
+abbrev pub decreases-matches::read_arms : goal.decreases-matches::read_arms
+decreases-matches::read_arms l = 32 * l.depth_left + 0
+
+abbrev pub decreases-matches::read_match : goal.decreases-matches::read_match
+decreases-matches::read_match l = 32 * l.depth_left + 1
+
+abbrev pub decreases-paths::read_value_path : goal.decreases-paths::read_value_path
+decreases-paths::read_value_path l = 32 * l.depth_left + 8

@@ -10,8 +10,10 @@ unfolding first_names known_words
 returns c = record {
   names = c.in_ok-words.ensures.names ∙ ap (λ ns. all_added (added ns (codes "bool")) known_words) c.in_ok-names.ensures;
   words = c.in_ok-words.ensures.first ∙ ap (λ ns. number_of_name ns (codes "bool")) c.in_ok-names.ensures;
-  items = c.new-3.ensures.nothing;
-  files = search rules;
-  crates = search rules;
-  scope = refl;
+  nothing = record {
+    items = c.new-3.ensures.nothing;
+    files = search rules;
+    crates = search rules;
+    scope = refl;
+  };
 }

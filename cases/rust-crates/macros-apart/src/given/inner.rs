@@ -1,0 +1,1 @@
+given! { pub struct I(u8); }

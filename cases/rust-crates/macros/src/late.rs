@@ -1,0 +1,1 @@
+macro_rules! late { ($($item:item)*) => { $( #[cfg(target_pointer_width = "64")] $item )* } }

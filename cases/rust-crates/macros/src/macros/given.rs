@@ -1,0 +1,1 @@
+macro_rules! given { ($($item:item)*) => { $( $item )* } }

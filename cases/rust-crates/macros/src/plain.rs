@@ -1,0 +1,1 @@
+given! { pub struct Plain(u8, u16); }

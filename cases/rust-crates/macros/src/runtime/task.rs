@@ -1,0 +1,1 @@
+feature! { #![any(unix, windows)] pub struct Task(u16, u32); }
