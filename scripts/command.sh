@@ -55,7 +55,7 @@ try_program() {
     echo "$command: rt is missing: put the kit's rt on the PATH, or the kit's folder into RATTLE_KIT" >&2
     exit 127
   fi
-  echo "$command: this answer comes, in a minute or two, from a program that isn't proved yet; './$command --prove' proves it, in up to an hour ($("$here/scripts/is_proved" --count "$program") are proved)" >&2
+  echo "$command: this answer comes, in a minute or two, from a program that isn't proved yet; './$command --prove' proves it, in an hour or two ($("$here/scripts/is_proved" --count "$program") are proved)" >&2
   (cd "$here/crates/$program" && "$rt" try "$@" 2>"$room/told") || status=$?
   return "$status"
 }
