@@ -13,3 +13,5 @@ pub mod Waste
 pub mod Document
 -- what an object says of a type
 pub mod Facts
+-- what came of types
+pub mod Outcomes

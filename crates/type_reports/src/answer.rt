@@ -1,7 +1,8 @@
 //! The answer to a source: the report on its types, and what is noted beside.
 
-ghost use Rattle.std.specs.Prelude.{◌≤◌};
+ghost use Rattle.std.specs.Prelude.{◌≡◌, ◌≤◌, max};
 ghost use Rattle.abi_text.specs.LaidOut.{IsLaidOut};
+ghost use Rattle.type_reports.specs.Outcomes.{rank_of, status_of};
 
 use crate::bytes::{ByteAnswers, is_yes, shown_cells, write_goes, write_pointers};
 use crate::crate_files::{CrateFiles, Search, SourceFile};
@@ -59,7 +60,8 @@ pub enum Outcome {
 impl Outcome {
     /// The status that tells it: 0, 3, 2 and 1, in the order of the outcomes.
     pub fn status(self) -> u8
-        ensures { result ≤ 3 }
+        ensures most { result ≤ 3 }
+        ensures status { result ≡ status_of self }
     {
         match self {
             Outcome::Reported => REPORTED,
@@ -70,7 +72,9 @@ impl Outcome {
     }
 
     /// What came of types and of others: the worse of both.
-    pub fn worse_of(self, other: Outcome) -> Outcome {
+    pub fn worse_of(self, other: Outcome) -> Outcome
+        ensures { rank_of result ≡ max (rank_of self) (rank_of other) }
+    {
         match self {
             Outcome::Reported => other,
             Outcome::Refused => self,

@@ -8,7 +8,7 @@ pub returns-in-Ok : goal.returns-in-Ok
 returns-in-Ok c = (
   string_bytes c.in-Ok.answer.text,
   inl c.in-Ok.ensures,
-  c.status.ensures,
+  c.status.ensures.most,
   subst (λ t. Lent c.args.output.now c.lend.new.output t c.lend.new.needed) c.as_bytes.ensures.value c.lend.ensures,
 )
 
