@@ -1,1 +1,2 @@
 mod FactLists
+mod FeatureNames

@@ -1,5 +1,7 @@
 //! The crates of a run: that of the package that is asked for, and those that it depends on.
 
+ghost use Rattle.std.specs.Prelude.{◌≡◌, ◌∷◌, [], IfOk, map, string_bytes};
+
 use std::alloc::{AllocError, Global};
 
 /// A crate of a run: a package's, whose sources are read.
@@ -16,7 +18,10 @@ pub struct PackageCrate {
 impl PackageCrate {
     /// The features that are on, as `cfg` asks for them: without one there is an empty name, which no feature has, so that
     /// they are known to be off. An error comes where a growth of memory was refused.
-    pub fn features_on(&self, alloc: Global) -> Result<Vec<&str>, AllocError> {
+    #[tactic(auto, using(crate::proofs::FeatureNames::names_on, crate::proofs::FeatureNames::names_end))]
+    pub fn features_on(&self, alloc: Global) -> Result<Vec<&str>, AllocError>
+        ensures { IfOk result (λ on. map (λ name. name.now) on.items ≡ [] ∷ map string_bytes self.now.features.items) }
+    {
         let mut on = Vec::new(alloc);
         on.push("")?;
         for feature in &self.features {
