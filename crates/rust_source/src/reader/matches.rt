@@ -1,4 +1,4 @@
-//! Choices by a `match`.
+//! Choices by a `match`: a `let` of what is compared, and a chain of `if`s behind it, so that one rule tells the types of both.
 
 ghost use Rattle.std.specs.Prelude.{◌≡◌, IfErr, IfOk};
 ghost use Rattle.rust_source.specs.Matches.{bound_by, bound_path, compared, ends_pattern, matched, place_alone};
