@@ -76,12 +76,13 @@ class Layouts:
             call.argtypes = [ctypes.POINTER(_File), *call.argtypes[1:]]
 
     def source(self, source: Source, target: str = "x86_64-unknown-linux-gnu", *, types: Sequence[str] = (), features: Sequence[str] = (),
-               cfg: Sequence[str] = (), root: bool = False) -> Module:
+               cfg: Sequence[str] = (), edition: str = "2021", root: bool = False) -> Module:
         """The types of a Rust source, by their names, under a target: of its text, of a file at a path (beside a `lib.rs` or a
         `main.rs` all `.rs` files in its folder are read), or of files by their paths, the root first. `types` are asked for alone,
-        `features` and `cfg` set, as `./types` has them, and `root` takes the first file for a crate's root, whatever it is called.
+        `features` and `cfg` set, as `./types` has them, `edition` is the crate's, and `root` takes the first file for a crate's root,
+        whatever it is called.
         `SourceFault` where no type is told of for a fault that lies in none, `OSError` where a file can't be read."""
-        lines = [f"target {target}", "bytes", "parts", *(["root"] if root else [])]
+        lines = [f"target {target}", f"edition {edition}", "bytes", "parts", *(["root"] if root else [])]
         lines += [f"{word} {it}" for word, all in (("type", types), ("features", features), ("cfg", cfg)) for it in all]
         if any("\n" in it for it in lines):
             raise ValueError("what is asked for is one line each")

@@ -74,6 +74,11 @@ impl Source {
         self.with_line("cfg", option)
     }
 
+    /// The same of a crate of this edition, as `2018`, and not of 2021.
+    pub fn edition(self, name: &str) -> Source {
+        self.with_line("edition", name)
+    }
+
     fn with_line(mut self, word: &str, rest: &str) -> Source {
         self.asked.push(format!("{word} {}", rest.replace('\n', " ")));
         self

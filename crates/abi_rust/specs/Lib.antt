@@ -14,6 +14,7 @@ pub mod Meaning
 pub mod Measure
 pub mod Methods
 pub mod Names
+pub mod Objects
 pub mod Operators
 pub mod OwnConstants
 pub mod ParameterFree

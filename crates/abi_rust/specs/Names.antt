@@ -2,11 +2,13 @@
 use Rattle.std.specs.Prelude.{ℕ, zero, suc, ◌+◌, ◌-◌, nat_eq, Bool, true, false, List, [], ◌∷◌, length, map, not, slice_get, is_some, ◌&&◌, ◌||◌, Option, Some, None, if◌then◌else◌}
 use Rattle.std.specs.Option.{option_and_then, option_map, option_or}
 use Rattle.rust_source.specs.declared.item.Items.{Items}
+use Rattle.rust_source.specs.declared.item.Module.{Module as ModuleItem}
 use Rattle.rust_source.specs.declared.item.Use.{Use}
 use Rattle.rust_source.specs.declared.place.Symbol.{Symbol}
 use Rattle.rust_source.specs.declared.place.TheConstants.Symbol.{CRATE, SELF, SUPER, UNDERSCORE}
 use Rattle.rust_source.specs.declared.syntax.Path.{Path, out-Path}
 use Rattle.rust_source.specs.declared.syntax.Segment.{out-Segment}
+use Rattle.rust_source.specs.Editions.{is_2015}
 use Rattle.abi_rust.specs.declared.paths.Lookup.{Lookup}
 use Rattle.abi_rust.specs.declared.paths.Resolution.{Resolution}
 use Rattle.abi_rust.specs.declared.paths.Resolution.TheVariants.{Ambiguous, Hidden, Module, Item as ItemFound, Primitive as PrimitiveFound, Unknown}
@@ -207,6 +209,20 @@ perhaps items scope m a =
     then Some Unknown
     else None
 
+abbrev pub is_root_by : Option ModuleItem → Bool
+is_root_by None = false
+is_root_by (Some m) = is_same_name m.name CRATE && is_2015 m.edition
+
+-- a module is the root of a crate of the edition of 2015
+abbrev pub is_root_of_2015 : Items → (inside : ℕ) → Bool
+is_root_of_2015 items m = is_root_by (slice_get items.modules.items m)
+
+-- the standard library, which such a root has as an item without any `extern crate`: as `std`, or as `core` where that is all of
+-- it that the crate takes (Rust Reference, "Extern crate declarations", "Extern prelude")
+abbrev pub std_of_root : Items → Scope → (inside : ℕ) → Symbol → Option ℕ
+std_of_root items scope m name =
+    if (is_word scope.words name word.Std || is_word scope.words name word.Core) && is_root_of_2015 items m then Some scope.std_root else None
+
 module _ (items : Items) (scope : Scope) where
   module _ (brought : (use_number : ℕ) → Space → Option Resolution) where
     -- what a use brings in, with where it may be used
@@ -281,7 +297,7 @@ module _ (items : Items) (scope : Scope) where
     behind_module a m =
         if is_same_name a.name SUPER then option_map Module (parent items m)
         else (if is_same_name a.name SELF then Some (Module m)
-        else option_or (resolution_in m a) (perhaps items scope m a))
+        else option_or (resolution_in m a) (option_or (option_map Module (std_of_root items scope m a.name)) (perhaps items scope m a)))
 
     abbrev pub behind_found : Lookup → Option Resolution → Option Resolution
     behind_found a (Some (Module m)) = behind_module a m

@@ -5,6 +5,7 @@ use Rattle.rust_source.specs.Having.{Having, with_known_macros}
 use Rattle.rust_source.specs.Items.{items_as_read, no_items}
 use Rattle.rust_source.specs.Names.{first_names, texts}
 use Rattle.rust_source.specs.Sources.{MeansItems}
+use Rattle.rust_source.specs.declared.edition.Edition.TheVariants.{Rust2021}
 use Rattle.rust_source.specs.declared.fault.SourceFault.{SourceFault}
 use Rattle.rust_source.specs.declared.item.Macro.{Macro}
 use Rattle.rust_source.specs.declared.place.TheConstants.Symbol.{CRATE, UNDERSCORE}
@@ -87,9 +88,13 @@ abbrev pub Stops : (Result ℕ SourceFault → Type 0) → Result ℕ Stop → T
 Stops reads (Ok root) = reads (Ok root)
 Stops reads (Err stop) = (e : SourceFault) × (stop ≡ Fault (Some e.at) (SourceKind e.kind)) × reads (Err e)
 
+-- a target for which the standard library's text is read, by its own edition
+abbrev pub library_target : CfgTarget → CfgTarget
+library_target target = record target { edition = Rust2021 }
+
 -- the standard library's text was read alone, with this answer; files come behind it
 pub record LibraryRead (target : CfgTarget) (old new : Sources) (answer : Result ℕ Stop) : Type 0 where
-  pub read : Stops (ReadsText target library_text 0 Library (having old) (having new)) answer
+  pub read : Stops (ReadsText (library_target target) library_text 0 Library (having old) (having new)) answer
   pub file : new.file.0 ≡ place_behind 0 library_text
   pub next : new.next ≡ new.file
   pub first : new.first ≡ length (having new).1.items

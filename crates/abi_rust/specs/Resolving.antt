@@ -36,6 +36,7 @@ use Rattle.abi_rust.specs.Evaluating.{evaluator, path_value}
 use Rattle.abi_rust.specs.Kinds.{given_named, is_given, item_at, kind_written, outside, single_name}
 use Rattle.abi_rust.specs.Meaning.{Meaning, then_meant, fault_at, too_deep}
 use Rattle.abi_rust.specs.Names.{found}
+use Rattle.abi_rust.specs.Objects.{is_object}
 use Rattle.abi_rust.specs.Operators.{is_same_kind}
 use Rattle.abi_rust.specs.Places.{last_name, place_of_expr, place_of_path}
 use Rattle.abi_rust.specs.Scope.{module_in, type_standing}
@@ -185,6 +186,10 @@ module _ (cx : Context) where
       if is_behind_type w p (first_name (out-Path p).segments.items) then Unevaluated Associated
       else unknown_type cx w p name
 
+  -- the object of the trait that a path names, where that needs no `dyn`; a module is no type
+  abbrev pub object_named : Where → Path → Segment → (found : ℕ) → Meaning TyRead
+  object_named w p s m = if is_object cx.items.now w.inside m then Ok dyn else fault_at (place_of_path p) (NotAType (out-Segment s).name)
+
   module _ (R : Inner) where
     -- the types of a tuple, behind these
     abbrev pub tuple_from : Where → List TyRead → List Written → Meaning TyRead
@@ -194,7 +199,7 @@ module _ (cx : Context) where
     abbrev pub type_named_by : Where → Path → Segment → Option Resolution → Meaning TyRead
     type_named_by w p s (Some (PrimitiveFound found)) = primitive_given s found
     type_named_by w p s (Some (ItemFound n)) = R.item_of w n s
-    type_named_by w p s (Some (Module m)) = fault_at (place_of_path p) (NotAType (out-Segment s).name)
+    type_named_by w p s (Some (Module m)) = object_named w p s m
     type_named_by w p s (Some Unknown) = fault_at (place_of_path p) (UnknownOrigin (out-Segment s).name)
     type_named_by w p s (Some (Hidden name)) = fault_at (place_of_path p) (Private name)
     type_named_by w p s (Some (AmbiguousFound name)) = fault_at (place_of_path p) (Ambiguous name)

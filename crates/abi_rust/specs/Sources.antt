@@ -16,6 +16,7 @@ use Rattle.abi_rust.specs.declared.budget.Context.{Context}
 use Rattle.abi_rust.specs.Meaning.{Means}
 use Rattle.abi_rust.specs.Measure.{Measure}
 use Rattle.abi_rust.specs.Names.{root}
+use Rattle.abi_rust.specs.Objects.{edition_in}
 use Rattle.abi_rust.specs.Resolving.{inside_item, most_deep}
 use Rattle.abi_rust.specs.Sizes.{IsReported}
 use Rattle.abi_rust.specs.TypeReport.{report_read, report_under}
@@ -167,7 +168,7 @@ abbrev pub ReportsRead : Sources → TargetDataLayout → Measure → Result (Op
 ReportsRead s dl m result (Ok t) = (subject : Subject) × IsWrittenIn s.root t subject × Reports s dl m subject result
 ReportsRead s dl m result (Err e) = result ≡ Err (reported_fault s (Fault (Some e.at) (Source e.kind)))
 
--- the report on the type that a text writes in the first file's root
+-- the report on the type that a text writes in the first file's root, by the edition of that
 abbrev pub ReportsWritten : (old new : Sources) → TargetDataLayout → Measure → (text : List ℕ) → Result (Option TypeReport) FaultReported → Type 0
 ReportsWritten old new dl m text result =
-    (read : Result Written SourceFault) × MeansType text old.next.0 (texts old.names) (texts new.names) read × ReportsRead new dl m result read
+    (read : Result Written SourceFault) × MeansType (edition_in old.items old.root) text old.next.0 (texts old.names) (texts new.names) read × ReportsRead new dl m result read

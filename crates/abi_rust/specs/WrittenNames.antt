@@ -27,6 +27,7 @@ use Rattle.abi_rust.specs.Aligned.{discriminants_checked}
 use Rattle.abi_rust.specs.Kinds.{parameter_named, single_name}
 use Rattle.abi_rust.specs.Meaning.{Meaning, then_meant, fault_at, too_deep}
 use Rattle.abi_rust.specs.Names.{found, found_of}
+use Rattle.abi_rust.specs.Objects.{is_object}
 use Rattle.abi_rust.specs.ParameterFree.{constant_checked, free_checked}
 use Rattle.abi_rust.specs.Places.{last_name, place_of_path}
 use Rattle.abi_rust.specs.Types.{Where}
@@ -90,13 +91,14 @@ module _ (cx : Context) (w : Where) where
   no_type_named p None = Ok tt
   no_type_named p (Some s) = fault_at (place_of_path p) (unknown_type p (out-Segment s).name)
 
-  abbrev pub module_named : Path → Option Segment → Checked
-  module_named p None = Ok tt
-  module_named p (Some s) = fault_at (place_of_path p) (NotAType (out-Segment s).name)
+  -- a module is no type, and a trait is one where its object needs no `dyn`
+  abbrev pub module_named : (found : ℕ) → Path → Option Segment → Checked
+  module_named m p None = Ok tt
+  module_named m p (Some s) = if is_object cx.items.now w.inside m then Ok tt else fault_at (place_of_path p) (NotAType (out-Segment s).name)
 
   -- what a path's own names name is a type, or isn't known
   abbrev pub named_by : (is_argument : Bool) → Path → Option Resolution → Checked
-  named_by is_argument p (Some (Module m)) = module_named p (last_name p)
+  named_by is_argument p (Some (Module m)) = module_named m p (last_name p)
   named_by is_argument p (Some (Hidden name)) = fault_at (place_of_path p) (Private name)
   named_by is_argument p (Some (AmbiguousFound name)) = fault_at (place_of_path p) (Ambiguous name)
   named_by is_argument p (Some _) = Ok tt

@@ -18,6 +18,7 @@ mod std_source;
 mod enum_globs;
 mod extern_crates;
 mod imports;
+mod objects;
 mod own_constants;
 mod paths;
 mod scope;

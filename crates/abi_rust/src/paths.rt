@@ -4,7 +4,7 @@ ghost use Rattle.std.specs.Prelude.{◌≡◌, None, Some, map, slice_get};
 ghost use Rattle.std.specs.Option.{option_copied};
 ghost use Rattle.rust_source.specs.declared.syntax.Path.{out-Path};
 ghost use Rattle.abi_rust.specs.Kinds.{found_by, most_aliases, type_named};
-ghost use Rattle.abi_rust.specs.Names.{agreed, along, ambiguous, among, before_last, lookup_of, behind_module, beside_module, crate_above, crate_for_all, crate_named, declared, first, found, found_of, imported, is_open, is_usable, named_behind, names_in_path, one_of, other_space, own_name, own_item, own_module, path_named, perhaps, root, seen_own, unless_hidden, space_before, standing_or_import, target_in, target_with, unread_in, used_by, visibility_of_item, visibility_of_module, visibility_of_use, resolution_in};
+ghost use Rattle.abi_rust.specs.Names.{agreed, along, ambiguous, among, before_last, lookup_of, behind_module, beside_module, crate_above, crate_for_all, crate_named, declared, first, found, found_of, imported, is_open, is_usable, named_behind, names_in_path, one_of, other_space, own_name, is_root_of_2015, own_item, own_module, path_named, perhaps, root, seen_own, std_of_root, unless_hidden, space_before, standing_or_import, target_in, target_with, unread_in, used_by, visibility_of_item, visibility_of_module, visibility_of_use, resolution_in};
 
 use crate::scope::Scope;
 use crate::standing::SEVERAL;
@@ -425,9 +425,34 @@ fn behind_module(tables: NameTables<'_>, module: u32, lookup: Lookup) -> Option<
     if lookup.name == Symbol::SELF {
         return Some(Resolution::Module(module));
     }
-    match resolution_in(tables, module, lookup) {
-        Some(found) => Some(found),
+    if let Some(found) = resolution_in(tables, module, lookup) {
+        return Some(found);
+    }
+    match std_of_root(tables.items, tables.scope, module, lookup.name) {
+        Some(root) => Some(Resolution::Module(root)),
         None => perhaps(tables.items, tables.scope, module, lookup),
+    }
+}
+
+/// Whether a module is the root of a crate of the edition of 2015, which has the standard library as an item.
+fn is_root_of_2015(items: &Items, module: u32) -> bool
+    ensures { result ≡ is_root_of_2015 items.now «module» }
+{
+    match items.modules.get(module as usize) {
+        Some(found) => found.name == Symbol::CRATE && found.edition.is_2015(),
+        None => false,
+    }
+}
+
+/// The standard library's module, where a module has it under this name without any `extern crate`.
+fn std_of_root(items: &Items, scope: &Scope, module: u32, name: Symbol) -> Option<u32>
+    ensures { result ≡ std_of_root items.now scope.now «module» name }
+{
+    let is_known = scope.words.is(name, Word::Std) || scope.words.is(name, Word::Core);
+    if is_known && is_root_of_2015(items, module) {
+        Some(scope.std_root)
+    } else {
+        None
     }
 }
 

@@ -7,7 +7,7 @@ ghost use Rattle.rust_source.specs.declared.syntax.Path.{out-Path};
 ghost use Rattle.rust_source.specs.declared.syntax.Segment.{out-Segment};
 ghost use Rattle.rust_source.specs.declared.syntax.«Type».{out-Type};
 ghost use Rattle.abi_rust.specs.Meaning.{Means};
-ghost use Rattle.abi_rust.specs.Resolving.{argument_given, default_given, give, given_constant, given_early, given_type, given_wrongly, inner, is_behind_type, is_other, is_self, is_wanted, item_under, item_with, length_by, length_of, may_be_constant, type_named_by, named_type, one_given, path_type, primitive_given, resolver, self_by, tuple_from, type_as_constant, type_given, type_of_layer, type_with, unknown};
+ghost use Rattle.abi_rust.specs.Resolving.{argument_given, default_given, give, given_constant, given_early, given_type, given_wrongly, inner, is_behind_type, is_other, is_self, is_wanted, item_under, item_with, length_by, length_of, may_be_constant, type_named_by, named_type, object_named, one_given, path_type, primitive_given, resolver, self_by, tuple_from, type_as_constant, type_given, type_of_layer, type_with, unknown};
 ghost use Rattle.abi_rust.specs.Types.{all_given, given_of, ty_of, where_of};
 ghost use Rattle.abi_rust.specs.Values.{value_as_read};
 ghost use Rattle.abi_rust.specs.WrittenNames.{first_name};
@@ -16,6 +16,7 @@ use crate::budget::{Budget, Context, Env, copies_of, copy_of, push_given, push_t
 use crate::evaluate::{value_of, value_of_path};
 use crate::fault::{FaultKind, Stop, stop_at};
 use crate::kind::{given_named, is_given, kind_written, outside, single_name};
+use crate::objects::is_object;
 use crate::operators::same_kind;
 use crate::owned::owned_of;
 use crate::paths::{Resolution, Space, find, item_at};
@@ -219,11 +220,28 @@ fn resolve_named<'a>(
     match find(cx.items, cx.scope, env.module, path, Space::Types) {
         Some(Resolution::Primitive(primitive)) => primitive_given(primitive, last),
         Some(Resolution::Item(number)) => resolve_item(cx, budget, env, number, last),
-        Some(Resolution::Module(_)) => Err(stop_at(at, FaultKind::NotAType(last.name))),
+        Some(Resolution::Module(module)) => object_named(cx, env, path, last, module),
         Some(Resolution::Unknown) => Err(stop_at(at, FaultKind::UnknownOrigin(last.name))),
         Some(Resolution::Hidden(name)) => Err(stop_at(at, FaultKind::Private(name))),
         Some(Resolution::Ambiguous(name)) => Err(stop_at(at, FaultKind::Ambiguous(name))),
         None => Err(stop_at(at, unknown(cx, env, path, last.name))),
+    }
+}
+
+/// The object of the trait that a path names, where that needs no `dyn`; a module is no type.
+fn object_named(
+    cx: &Context<'_, '_>,
+    env: Env<'_>,
+    path: &Path,
+    last: &Segment,
+    found: u32,
+) -> Result<Ty, Stop>
+    ensures { Means ty_of (object_named cx.now (where_of env.entry) path.now last.now found) result }
+{
+    if is_object(cx.items, env.module, found) {
+        Ok(Ty::Dyn)
+    } else {
+        Err(stop_at(place_of_path(path), FaultKind::NotAType(last.name)))
     }
 }
 

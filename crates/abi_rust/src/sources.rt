@@ -8,7 +8,7 @@ ghost use Rattle.rust_source.specs.MacroScope.{macros_of_crate};
 ghost use Rattle.rust_source.specs.Names.{text_of};
 ghost use Rattle.abi_rust.specs.Imports.{repeated_import};
 ghost use Rattle.abi_rust.specs.Measure.{IsMeasure, Measure};
-ghost use Rattle.abi_rust.specs.Reading.{FileRead, FileReads, HasScope, HoldsNothing, IsNamesFault, IsScopeOf, IsSourceOf, IsUnread, LibraryRead, ReadsText, Stops, file_kind, having, is_library, library_text, place_behind, root_of};
+ghost use Rattle.abi_rust.specs.Reading.{FileRead, FileReads, HasScope, HoldsNothing, IsNamesFault, IsScopeOf, IsSourceOf, IsUnread, LibraryRead, ReadsText, Stops, file_kind, having, is_library, library_target, library_text, place_behind, root_of};
 ghost use Rattle.abi_rust.specs.ScopeNames.{repeated_of};
 ghost use Rattle.abi_rust.specs.Sources.{ChecksNames, IsContextOver, Reports, ReportsWritten, names_checked, reported_fault, is_of_first_crate, fault_of_unread, is_reported, items_read, module_path, qualified_name, place_in_files, place_of_attribute, place_of_item, reported_place, pointer_bits};
 
@@ -16,6 +16,7 @@ use crate::budget::Context;
 use crate::extern_crates::ExternCrate;
 use crate::fault::{Fault, FaultKind, FaultPlace, Stop, stop_at};
 use crate::imports::repeated_import;
+use crate::objects::edition_in;
 use crate::parts::{NamedPart, parts_of};
 use crate::paths::root_of as root_module_of;
 use crate::report::{Subject, TypeReport, report_on};
@@ -25,8 +26,8 @@ use crate::words::Words;
 use crate::written_names::check_item;
 use abi_base::TargetDataLayout;
 use rust_source::{
-    CfgTarget, Item, ItemKind, Items, Macro, Module, Names, Outline, Place, Source, SourceRoot,
-    Symbol, macros_of_crate, read_items, read_type,
+    CfgTarget, Edition, Item, ItemKind, Items, Macro, Module, Names, Outline, Place, Source,
+    SourceRoot, Symbol, macros_of_crate, read_items, read_type,
 };
 use std::alloc::{AllocError, Global};
 
@@ -145,7 +146,8 @@ impl Sources {
         let library = library_text();
         self.file = place_behind(Place(0), library);
         self.next = self.file;
-        let read = self.read_text(alloc, target, library, Place(0), TextKind::Library);
+        let target = library_target(target);
+        let read = self.read_text(alloc, &target, library, Place(0), TextKind::Library);
         self.first = self.items.items.len();
         self.passed_over = self.items.passed_over;
         self.types_passed = self.items.types_passed;
@@ -563,7 +565,7 @@ impl Sources {
         }
     }
 
-    /// The type that a text writes, with the names of the file's root. None where its size isn't known, and before the
+    /// The type that a text writes, with the names and by the edition of the file's root. None where its size isn't known, and before the
     /// names were found. The fault is the first, with its place.
     pub fn type_written(
         &mut self,
@@ -573,7 +575,8 @@ impl Sources {
     ) -> Result<Option<TypeReport>, Fault>
         ensures { (m : Measure) → IsMeasure dl.now m → ReportsWritten self.old self.new dl.now m text.now result }
     {
-        let ty = match read_type(alloc, &mut self.names, text, self.next) {
+        let edition = edition_in(&self.items, self.root);
+        let ty = match read_type(alloc, &mut self.names, edition, text, self.next) {
             Ok(ty) => ty,
             Err(fault) => return Err(self.fault(Stop::Fault(
                 Some(fault.at),
@@ -611,7 +614,8 @@ impl Sources {
         dl: &TargetDataLayout,
         text: &str,
     ) -> Result<Vec<NamedPart>, AllocError> {
-        match read_type(alloc, &mut self.names, text, self.next) {
+        let edition = edition_in(&self.items, self.root);
+        match read_type(alloc, &mut self.names, edition, text, self.next) {
             Ok(ty) => self.parts(alloc, dl, Subject::Written(self.root, &ty)),
             Err(_) => Ok(Vec::new(alloc)),
         }
@@ -686,6 +690,16 @@ fn library_text() -> &'static str
     ensures { result.now ≡ library_text }
 {
     STD_SOURCES
+}
+
+/// A target for which the standard library's source is read, by its own edition.
+fn library_target<'a>(target: &CfgTarget<'a>) -> CfgTarget<'a>
+    ensures { result ≡ library_target target.now }
+{
+    CfgTarget {
+        edition: Edition::Rust2021,
+        ..*target
+    }
 }
 
 /// What a user's text is.

@@ -4,7 +4,7 @@
 /// the library's own business, and other releases may have others. `std`, `core` and `alloc` are one module here. On a
 /// struct, `rustc_layout_scalar_valid_range` limits the numbers of its first field. The unions are `transparent` there;
 /// without it they are laid out alike, and the stable language, whose rules count here, has no such unions. A processor's
-/// vectors are `simd` there, and aligned to their size. `libc` isn't the library's: it has C's names of the crate of that
+/// vectors are `simd` there, and aligned to their size. Of its traits there are names alone, of those that have objects. `libc` isn't the library's: it has C's names of the crate of that
 /// name, and a glob that leads to nothing, so that none of its other names is known.
 pub(crate) const STD_SOURCES: &str = r#"pub mod prelude {
     pub use crate::option::Option;
@@ -13,6 +13,11 @@ pub(crate) const STD_SOURCES: &str = r#"pub mod prelude {
     pub use crate::vec::Vec;
     pub use crate::string::String;
     pub use crate::mem::{size_of, align_of};
+    pub use crate::marker::{Send, Sync};
+    pub use crate::ops::{Fn, FnMut, FnOnce};
+    pub use crate::convert::{AsMut, AsRef};
+    pub use crate::iter::{DoubleEndedIterator, ExactSizeIterator, Iterator};
+    pub use crate::string::ToString;
     pub mod v1 { pub use crate::prelude::*; }
     pub mod rust_2015 { pub use crate::prelude::*; }
     pub mod rust_2018 { pub use crate::prelude::*; }
@@ -39,6 +44,9 @@ pub mod marker {
     pub struct PhantomData<T: ?Sized>;
     #[derive(Clone, Copy)]
     pub struct PhantomPinned;
+    pub trait Send {}
+    pub trait Sync {}
+    pub trait Unpin {}
 }
 pub mod alloc {
     #[derive(Clone, Copy)]
@@ -193,6 +201,7 @@ pub mod string {
     pub struct FromUtf8Error { bytes: Vec<u8>, error: crate::str::Utf8Error }
     pub struct FromUtf16Error(());
     pub type ParseError = crate::convert::Infallible;
+    pub trait ToString {}
     pub struct Drain<'a> { string: *mut String, start: usize, end: usize, iter: crate::str::Chars<'a> }
 }
 pub mod str {
@@ -216,6 +225,8 @@ pub mod str {
 pub mod borrow {
     pub(crate) struct Owned<B: ?Sized>(B);
     pub enum Cow<'a, B: ?Sized> { Borrowed(&'a B), Owned(Owned<B>) }
+    pub trait Borrow {}
+    pub trait BorrowMut {}
 }
 pub mod ops {
     #[derive(Clone, Copy)]
@@ -231,6 +242,9 @@ pub mod ops {
     pub enum Bound<T> { Included(T), Excluded(T), Unbounded }
     #[derive(Clone, Copy)]
     pub enum ControlFlow<B, C = ()> { Continue(C), Break(B) }
+    pub trait Fn {}
+    pub trait FnMut {}
+    pub trait FnOnce {}
 }
 pub mod collections {
     pub use crate::ops::Bound;
@@ -334,9 +348,10 @@ pub mod hash {
     pub struct RandomState { k0: u64, k1: u64 }
     pub struct BuildHasherDefault<H>(crate::marker::PhantomData<fn() -> H>);
     struct State { v0: u64, v2: u64, v1: u64, v3: u64 }
-    struct Hasher { k0: u64, k1: u64, length: usize, state: State, tail: u64, ntail: usize }
-    pub struct SipHasher(Hasher);
-    pub struct DefaultHasher(Hasher);
+    struct SipState { k0: u64, k1: u64, length: usize, state: State, tail: u64, ntail: usize }
+    pub struct SipHasher(SipState);
+    pub struct DefaultHasher(SipState);
+    pub trait Hasher {}
 }
 pub mod sync {
     #[cfg(any(unix, windows, target_family = "wasm"))]
@@ -516,6 +531,8 @@ pub mod cmp {
 pub mod convert {
     #[derive(Clone, Copy)]
     pub enum Infallible {}
+    pub trait AsMut {}
+    pub trait AsRef {}
 }
 pub mod time {
     use crate::num::Nanoseconds;
@@ -559,8 +576,10 @@ pub mod future {
     pub struct Ready<T>(Option<T>);
     pub struct Pending<T> { _data: crate::marker::PhantomData<fn() -> T> }
     pub struct PollFn<F> { f: F }
+    pub trait Future {}
 }
 pub mod any {
+    pub trait Any {}
     #[derive(Clone, Copy)]
     pub struct TypeId { data: [*const (); 16 / crate::mem::size_of::<*const ()>()] }
 }
@@ -593,6 +612,10 @@ pub mod iter {
     pub struct Repeat<A> { element: A }
     pub struct Cloned<I> { it: I }
     pub struct Copied<I> { it: I }
+    pub trait DoubleEndedIterator {}
+    pub trait ExactSizeIterator {}
+    pub trait FusedIterator {}
+    pub trait Iterator {}
 }
 pub mod panic {
     #[derive(Clone, Copy)]
@@ -617,8 +640,18 @@ pub mod fmt {
     pub struct DebugList<'a, 'b> { inner: DebugInner<'a, 'b> }
     struct PadAdapterState { on_newline: bool }
     pub struct DebugMap<'a, 'b> { fmt: &'a mut Formatter<'b>, result: Result, has_fields: bool, has_key: bool, state: PadAdapterState }
+    pub trait Binary {}
+    pub trait Debug {}
+    pub trait Display {}
+    pub trait LowerExp {}
+    pub trait LowerHex {}
+    pub trait Octal {}
+    pub trait Pointer {}
+    pub trait UpperExp {}
+    pub trait UpperHex {}
+    pub trait Write {}
 }
-pub mod error {}
+pub mod error { pub trait Error {} }
 #[cfg(any(unix, windows, target_family = "wasm"))]
 pub mod backtrace {
     struct Capture { actual_start: usize, frames: Vec<()> }
@@ -747,7 +780,11 @@ pub mod io {
     pub struct Stderr { inner: &'static () }
     #[cfg(any(unix, windows, target_family = "wasm"))]
     pub struct StderrLock<'a> { inner: &'a () }
-    pub mod prelude {}
+    pub trait BufRead {}
+    pub trait Read {}
+    pub trait Seek {}
+    pub trait Write {}
+    pub mod prelude { pub use super::{BufRead, Read, Seek, Write}; }
 }
 #[cfg(unix)]
 pub mod os {

@@ -17,7 +17,7 @@ use crate::targets::rows::{
 };
 use crate::targets::systems::System;
 use abi_base::{AddressSpace, Integer, TargetDataLayout, TargetDataLayoutError};
-use rust_source::CfgTarget;
+use rust_source::{CfgTarget, Edition};
 use std::alloc::{AllocError, Global};
 use strsim::levenshtein;
 
@@ -30,7 +30,7 @@ pub struct Target {
     pub data_layout: &'static str,
     /// The least integer that an enum has in its C, which no data layout string says.
     pub c_enum_min_size: Integer,
-    /// What `cfg` asks of it.
+    /// What `cfg` asks of it, with the edition of 2021.
     pub cfg: CfgTarget<'static>,
 }
 
@@ -75,6 +75,7 @@ fn target_of(row: Row) -> Target
             features,
             crate_features: &[],
             options: &[],
+            edition: Edition::Rust2021,
         },
     }
 }

@@ -12,6 +12,7 @@ ghost use Rattle.abi_rust.specs.WrittenNames.{argument_named, begins_inside, def
 use crate::budget::{Context, Env, less, most_deep};
 use crate::fault::{FaultKind, Stop, stop_at};
 use crate::kind::{parameter_named, single_name};
+use crate::objects::is_object;
 use crate::parameter_free::{check_constant, check_free};
 use crate::paths::{Resolution, Space, find, find_prefix};
 use crate::places::place_of_path;
@@ -86,11 +87,12 @@ fn refuse_path(cx: &Context<'_, '_>, env: Env<'_>, path: &Path) -> Result<(), St
     }
 }
 
-/// The fault of a path that names a module.
-fn refuse_module(cx: &Context<'_, '_>, env: Env<'_>, path: &Path) -> Result<(), Stop>
-    ensures { result ≡ module_named cx.now (where_of env.entry) path.now (last_name path.now) }
+/// The fault of a path that names a module, or a trait where its object needs a `dyn`.
+fn check_module(cx: &Context<'_, '_>, env: Env<'_>, path: &Path, found: u32) -> Result<(), Stop>
+    ensures { result ≡ module_named cx.now (where_of env.entry) found path.now (last_name path.now) }
 {
     match path.segments.last() {
+        Some(_) if is_object(cx.items, env.module, found) => Ok(()),
         Some(last) => Err(stop_at(place_of_path(path), FaultKind::NotAType(last.name))),
         None => Ok(()),
     }
@@ -107,7 +109,7 @@ fn check_found(
         (found cx.now.items.now cx.now.scope.now env.entry.«module» path.now Space.Types) }
 {
     match find(cx.items, cx.scope, env.module, path, Space::Types) {
-        Some(Resolution::Module(_)) => refuse_module(cx, env, path),
+        Some(Resolution::Module(found)) => check_module(cx, env, path, found),
         Some(Resolution::Hidden(name)) => Err(stop_at(
             place_of_path(path),
             FaultKind::Private(name),

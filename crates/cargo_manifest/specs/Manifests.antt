@@ -7,8 +7,8 @@ use Rattle.cargo_manifest.specs.Dependencies.{Dependency, dependencies_in}
 use Rattle.cargo_manifest.specs.Editions.{edition_said}
 use Rattle.cargo_manifest.specs.Schema.{is_manifest}
 use Rattle.cargo_manifest.specs.Values.{Text, is_true_at, items_in, string_at, strings_at}
-use Rattle.cargo_manifest.specs.declared.edition.Edition.{Edition}
-use Rattle.cargo_manifest.specs.declared.edition.Edition.TheVariants.{Rust2015}
+use Rattle.cargo_manifest.specs.declared.edition.PackageEdition.{PackageEdition}
+use Rattle.cargo_manifest.specs.declared.edition.PackageEdition.TheVariants.{Rust2015}
 use Rattle.cargo_manifest.specs.declared.manifest.BinaryTarget.{BinaryTarget}
 use Rattle.cargo_manifest.specs.declared.manifest.Manifest.{Manifest}
 use Rattle.cargo_manifest.specs.declared.manifest.ManifestError.{ManifestError}
@@ -38,11 +38,11 @@ abbrev pub string_in : (section key : Text) → Data → Option Text
 string_in section key m = option_and_then (string_at key) (get section m)
 
 -- the edition of the package, which is that of 2015 where none is written
-abbrev pub edition_in : Data → Edition
+abbrev pub edition_in : Data → PackageEdition
 edition_in m = unwrap_or (option_and_then edition_said (option_and_then (get (codes "edition")) (get (codes "package") m))) Rust2015
 
 -- that of the packages of a workspace that ask for it
-abbrev pub workspace_edition : Data → Edition
+abbrev pub workspace_edition : Data → PackageEdition
 workspace_edition m = unwrap_or (option_map edition_in (get (codes "workspace") m)) Rust2015
 
 -- a package has a build script: `build` names one or is `true`, or isn't there, where the file `build.rs` is

@@ -21,7 +21,7 @@ mod features;
 
 pub use choice::greatest_match;
 pub use dependency::Dependency;
-pub use edition::Edition;
+pub use edition::PackageEdition;
 pub use enabled::Link;
 pub use entry::Switch;
 pub use features::{FeatureError, FeatureRequest, Features};

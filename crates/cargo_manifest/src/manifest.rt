@@ -11,7 +11,7 @@ ghost use Rattle.cargo_manifest.specs.Schema.{is_manifest};
 ghost use Rattle.cargo_manifest.specs.Values.{entries_at, entry_view, texts};
 
 use crate::dependency::{Dependency, put_dependencies};
-use crate::edition::{Edition, edition_said};
+use crate::edition::{PackageEdition, edition_said};
 use crate::schema::{KeyKind, WrongType, first_wrong};
 use crate::values::{entries_at, is_true_at, items, string_at, strings_at};
 use std::alloc::{AllocError, Global};
@@ -146,19 +146,19 @@ impl Manifest {
     }
 
     /// The package's edition: that of 2015 where none is written.
-    pub fn edition(&self) -> Edition
+    pub fn edition(&self) -> PackageEdition
         ensures { result ≡ edition_in (data_of self.now) }
     {
         edition_in(&self.value)
     }
 
     /// The edition that a workspace gives to its packages that ask for it.
-    pub fn workspace_edition(&self) -> Edition
+    pub fn workspace_edition(&self) -> PackageEdition
         ensures { result ≡ workspace_edition (data_of self.now) }
     {
         match self.value.get("workspace") {
             Some(workspace) => edition_in(workspace),
-            None => Edition::Rust2015,
+            None => PackageEdition::Rust2015,
         }
     }
 
@@ -277,15 +277,15 @@ fn dependencies_of<'a>(
 }
 
 /// The edition of the `package` in a table.
-fn edition_in(value: &Value) -> Edition
+fn edition_in(value: &Value) -> PackageEdition
     ensures { result ≡ edition_in (view value.now) }
 {
     match value.get("package") {
         Some(package) => match package.get("edition") {
-            Some(edition) => edition_said(edition).unwrap_or(Edition::Rust2015),
-            None => Edition::Rust2015,
+            Some(edition) => edition_said(edition).unwrap_or(PackageEdition::Rust2015),
+            None => PackageEdition::Rust2015,
         },
-        None => Edition::Rust2015,
+        None => PackageEdition::Rust2015,
     }
 }
 

@@ -10,7 +10,7 @@ use Rattle.rust_source.specs.Cursor.{comma_passed, fault, is_done, is_next, is_k
 use Rattle.rust_source.specs.Operators.{next_operator}
 use Rattle.rust_source.specs.Reading.{read_on}
 use Rattle.rust_source.specs.Syntax.{ArgumentRead, ExprRead, SegmentRead, TypeRead, cast, tuple, type_list}
-use Rattle.rust_source.specs.Terms.{Readers, Known, argument_more, arguments_from, arguments_on, arms_read, arms_with, block_read, block_with, cast_from, choice_read, choice_with, done, expr_from, expr_on, expr_read, expr_with, is_method_next, method_read, methods_from, readers, operand, parameter_type, parameter_types_from, path_from, path_on, patterns_read, patterns_with, fault_next, segment_read, tuple_behind, tuple_on, type_read, type_next, values_from}
+use Rattle.rust_source.specs.Terms.{Readers, Known, argument_more, arguments_from, arguments_on, arms_read, arms_with, block_read, bounded_read, block_with, cast_from, choice_read, choice_with, done, expr_from, expr_on, expr_read, expr_with, is_method_next, method_read, methods_from, readers, operand, parameter_type, parameter_types_from, path_from, path_on, patterns_read, patterns_with, fault_next, segment_read, tuple_behind, tuple_on, type_read, type_next, values_from}
 use Rattle.rust_source.proofs.Turns.{none_left, turns}
 
 pub type_less : (depth_left left : ℕ) (c : Cursor) (names : Known) → left + 1 ≡ depth_left → type_read depth_left c names ≡ type_next (readers left) c names
@@ -74,7 +74,7 @@ arms_none zero at c names is = refl
 arms_none (suc depth_left) at c names is = absurd (omega arith)
 
 module _ (R : Readers) (n i : ℕ) where
-  pub tuple_more : (all : List TypeRead) (c : Cursor) (names : Known) → i < n → tuple_behind R (n - i) all c names ≡ (if is_done c then done (tuple (type_list all)) names else read_on (λ (t : TypeRead × Cursor) ns. tuple_on (tuple_behind R (n - (i + 1))) all t.0 t.1 ns) (R.type_in c names))
+  pub tuple_more : (all : List TypeRead) (c : Cursor) (names : Known) → i < n → tuple_behind R (n - i) all c names ≡ (if is_done c then done (tuple (type_list all)) names else read_on (λ (t : TypeRead × Cursor) ns. tuple_on (tuple_behind R (n - (i + 1))) all t.0 t.1 ns) (bounded_read R c names))
   tuple_more all c names more = ap (λ k. tuple_behind R k all c names) (turns n i more)
 
   pub tuple_done : (all : List TypeRead) (c : Cursor) (names : Known) → n ≤ i → tuple_behind R (n - i) all c names ≡ done (tuple (type_list all)) names

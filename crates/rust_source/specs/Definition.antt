@@ -19,7 +19,7 @@ use Rattle.rust_source.specs.Items.{FieldsRead, ItemKindRead, ParameterRead, Var
 use Rattle.rust_source.specs.Reading.{read_on, is_named, name}
 use Rattle.rust_source.specs.Simple.{most_nested}
 use Rattle.rust_source.specs.Syntax.{ExprRead, TypeRead}
-use Rattle.rust_source.specs.Terms.{Reader, done, fault_next, type_read}
+use Rattle.rust_source.specs.Terms.{Reader, bounded_read, done, fault_next, readers, type_read}
 
 -- the name of an item, where it stands, and its parameters
 pub record HeadRead : Type 0 where
@@ -112,7 +112,7 @@ alias_read c names =
     read_on (λ (h : HeadRead × Cursor) ns.
     read_on (λ (t : TypeRead × Cursor) ms.
     read_on (λ d ls. done (definition h.0 (alias_of t.0), d) ls) (expected t.1 59 ExpectedSemicolon, ms))
-    (type_read most_nested h.1 ns))
+    (bounded_read (readers most_nested) h.1 ns))
     (alias_head c names)
 
 -- a constant's type and value, up to its `;`

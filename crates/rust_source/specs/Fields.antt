@@ -23,7 +23,7 @@ use Rattle.rust_source.specs.Reading.{Reading, read_on, name, read_as}
 use Rattle.rust_source.specs.Repeated.{field_names, none_twice, variant_names}
 use Rattle.rust_source.specs.Simple.{most_nested}
 use Rattle.rust_source.specs.Syntax.{ExprRead, TypeRead}
-use Rattle.rust_source.specs.Terms.{Known, Reader, done, readers, type_read, whole}
+use Rattle.rust_source.specs.Terms.{Known, Reader, bounded_read, done, readers, whole}
 use Rattle.rust_source.specs.Until.{until, up_to}
 
 -- what is read by names alone, beside what else is known
@@ -60,7 +60,7 @@ visibility_passed c = if is_keyword_next c keyword.Pub then restriction_passed (
 unfoldable pub field_typed : FieldName → Place → Reader FieldRead
 field_typed name at c names =
     read_on (λ (t : TypeRead × Cursor) ns.
-    done (record { name = name; at = at; ty = t.0; start = place c; end = place_behind t.1 }, t.1) ns) (type_read most_nested c names)
+    done (record { name = name; at = at; ty = t.0; start = place c; end = place_behind t.1 }, t.1) ns) (bounded_read (readers most_nested) c names)
 
 -- the field of this number in a tuple, or the one whose name is next
 abbrev pub field_next : (number : Option ℕ) → Reader FieldRead

@@ -1,3 +1,4 @@
+pub mod Editions
 pub mod Blanks
 pub mod Characters
 pub mod Names

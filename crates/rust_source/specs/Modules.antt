@@ -1,6 +1,7 @@
 -- Items, one after another, and modules within one another.
 use Rattle.std.specs.Prelude.{ℕ, zero, suc, ◌-◌, ◌&&◌, ◌||◌, Bool, true, false, not, codes, List, [], is_some, nat_lt, Option, None, Some, Result, Ok, Err, if◌then◌else◌}
 use Rattle.std.specs.Str.{bytes_eq}
+use Rattle.rust_source.specs.declared.edition.Edition.{Edition}
 use Rattle.rust_source.specs.declared.fault.SourceFault.{SourceFault}
 use Rattle.rust_source.specs.declared.fault.SourceFaultKind.TheVariants.{ExpectedItem, ExpectedSemicolon, TooDeep}
 use Rattle.rust_source.specs.declared.item.Module.{Module}
@@ -10,6 +11,7 @@ use Rattle.rust_source.specs.declared.reader.attributes.Attributes.{Attributes}
 use Rattle.rust_source.specs.declared.reader.attributes.Rules.{Rules}
 use Rattle.rust_source.specs.declared.reader.cursor.Cursor.{Cursor}
 use Rattle.rust_source.specs.declared.reader.modules.SourceRoot.{SourceRoot}
+use Rattle.rust_source.specs.declared.reader.uses.UsePlace.{UsePlace}
 use Rattle.rust_source.specs.declared.reader.visibility.Standing.{Standing}
 use Rattle.rust_source.specs.declared.tokens.keyword.Keyword.{Keyword}
 use Rattle.rust_source.specs.declared.tokens.keyword.Keyword.TheVariants as keyword
@@ -20,6 +22,7 @@ use Rattle.rust_source.specs.Attributes.{attributes_read}
 use Rattle.rust_source.specs.CfgIf.{chosen_items}
 use Rattle.rust_source.specs.Constants.{own_constants}
 use Rattle.rust_source.specs.Cursor.{behind_group, expected, fault, inside, is_done, is_named_next, is_next, is_keyword_next, next_kind, passed}
+use Rattle.rust_source.specs.Editions.{is_2015}
 use Rattle.rust_source.specs.Fields.{by_names, visibility_passed}
 use Rattle.rust_source.specs.Functions.{function_read}
 use Rattle.rust_source.specs.Having.{Having, item_of_module, next_module, noted, using_within, with_item, with_module, with_passed, noted_within}
@@ -33,7 +36,7 @@ use Rattle.rust_source.specs.Terms.{done, fault_next}
 use Rattle.rust_source.specs.Traits.{trait_read}
 use Rattle.rust_source.specs.Unread.{any_name, item_unread, one_item, with_unread}
 use Rattle.rust_source.specs.Uses.{tree_read}
-use Rattle.rust_source.specs.Visibility.{rules_in, visibility_read}
+use Rattle.rust_source.specs.Visibility.{is_in_crate, rules_in, visibility_read}
 use Rattle.rust_source.specs.Wrappers.{macro_read, wrapped_items}
 use Rattle.rust_source.specs.Definition.{DefinitionRead, is_union, definition_read, types_from}
 
@@ -90,28 +93,41 @@ may_have_repr c =
 abbrev pub repr_judged : Attributes → Cursor → Result (Unit {0}) SourceFault
 repr_judged said c = if may_have_repr c then Ok tt else misplaced said.repr.at
 
--- another crate is next under a name of its own, which is brought in as `use ::a as b` does: `extern crate a as b`
-unfoldable pub renames_crate : Cursor → Bool
-renames_crate c =
-    is_keyword_next c keyword.Extern && is_keyword_next (passed c 1) keyword.Crate && is_named_next (passed c 1)
-    && is_keyword_next (passed c 3) keyword.As
+-- another crate is next by its name, which is brought in as `use ::a` does: `extern crate a`, which `as b` may follow
+unfoldable pub names_crate : Cursor → Bool
+names_crate c = is_keyword_next c keyword.Extern && is_keyword_next (passed c 1) keyword.Crate && is_named_next (passed c 1)
+
+-- where the path of a `use` begins, or of an `extern crate`, which is global: in the edition of 2015 that of a `use` begins at the
+-- root of the crate, which has no names but those of other crates where it isn't read
+abbrev pub place_of_use : List Module → Edition → Standing → (is_global : Bool) → UsePlace
+place_of_use modules e standing is_global =
+    let is_old = not is_global && is_2015 e in
+    let is_known = is_in_crate modules standing.«module» in
+    record {
+      «module» = standing.«module»;
+      visible_in = standing.visible_in;
+      is_global = is_global || (is_old && not is_known);
+      is_from_root = is_old && is_known;
+    }
 
 -- what is brought in, behind `use`, or behind `extern crate`, whose path is global
 unfoldable pub use_read : (is_global : Bool) → Standing → Cursor → Having → Result Cursor SourceFault × Having
 use_read is_global standing c known =
     read_on (λ d ns. (expected d 59 ExpectedSemicolon, ns))
     (using_within known.1
-    (tree_read most_nested (record { «module» = standing.«module»; visible_in = standing.visible_in; is_global = is_global }) [] c (known.0, known.1.uses)))
+    (tree_read most_nested (place_of_use known.1.modules c.edition standing is_global) [] c (known.0, known.1.uses)))
 
 -- a module of this name, in the one that it stands in, with `macro_use` or without
-abbrev pub module_of : List Module → Standing → (uses_macros : Bool) → Symbol → (path : Option Symbol) → Module
-module_of modules standing uses_macros name path = record {
+abbrev pub module_of : List Module → Edition → Standing → (uses_macros : Bool) → Symbol → (path : Option Symbol) → Module
+module_of modules e standing uses_macros name path = record {
   name = name;
   parent = Some standing.«module»;
   visible_in = standing.visible_in;
   path = path;
   shares_macros = uses_macros && shares_macros modules standing.«module»;
   entry = entry_of modules standing.«module»;
+  edition = e;
+  is_trait = false;
 }
 
 -- how the items of the module with this number are read, which stands within others
@@ -132,7 +148,7 @@ module _ (rules : Rules) where
   unfoldable pub other_read : Standing → Attributes → Cursor → Having → Result Cursor SourceFault × Having
   other_read standing said c known =
       if is_keyword_next c keyword.Use then use_read false standing (passed c 1) known
-      else (if renames_crate c then use_read true standing (passed c 2) known
+      else (if names_crate c then use_read true standing (passed c 2) known
       else read_on (λ _ ns. read_on (λ _ ms. read_on (λ _ ls. read_on (λ _ ks. over_passed c ks) (macro_read rules standing.«module» (is_some said.unknown) c ls)) (trait_read standing c ms)) (function_read standing said c ns)) (own_constants rules standing.«module» c known))
 
   -- the item that is next, which this was or another one is
@@ -158,7 +174,7 @@ module _ (rules : Rules) where
     -- the module of a name, with what its attributes say of its file
     unfoldable pub module_on : Standing → Attributes → Symbol × Place → Cursor → Having → Result Cursor SourceFault × Having
     module_on standing said n c known =
-        read_on (λ path ns. module_by (module_of ns.1.modules standing said.uses_macros n.0 path) n.1 c (inside c bracket.Curly) ns)
+        read_on (λ path ns. module_by (module_of ns.1.modules c.edition standing said.uses_macros n.0 path) n.1 c (inside c bracket.Curly) ns)
         (by_names known.1 (path_named c said.path known.0))
 
     -- the module that is next
@@ -227,4 +243,4 @@ module_within rules (suc depth_left) number c known = all_read rules (module_wit
 unfoldable pub root_read : Rules → SourceRoot → Cursor → Having → Result ℕ SourceFault × Having
 root_read rules root c known =
     read_on (λ _ ns. done (number_of_root root known.1) ns)
-    (module_within rules (room_of_root root known.1) (number_of_root root known.1) c (known.0, with_root root known.1))
+    (module_within rules (room_of_root root known.1) (number_of_root root known.1) c (known.0, with_root c.edition root known.1))

@@ -1,5 +1,6 @@
 -- Modules in other files, and where the items of a source go.
-use Rattle.std.specs.Prelude.{ℕ, zero, suc, ◌+◌, ◌-◌, ◌==◌, List, drop, length, Option, None, Some, true, Result, if◌then◌else◌}
+use Rattle.std.specs.Prelude.{ℕ, zero, suc, ◌+◌, ◌-◌, ◌==◌, List, drop, length, Option, None, Some, true, false, Result, if◌then◌else◌}
+use Rattle.rust_source.specs.declared.edition.Edition.{Edition}
 use Rattle.rust_source.specs.declared.fault.SourceFault.{SourceFault}
 use Rattle.rust_source.specs.declared.fault.SourceFaultKind.TheVariants.{ExpectedSemicolon}
 use Rattle.rust_source.specs.declared.item.Module.{Module}
@@ -68,8 +69,11 @@ abbrev pub room_of_root : SourceRoot → ItemsRead → ℕ
 room_of_root (New name) items = root_room
 room_of_root (Outline o) items = room_in items.modules o.«module»
 
+-- a root module, whose source is of the edition
+abbrev pub root_of : Edition → Symbol → Module
+root_of e name = record { name = name; parent = None; visible_in = None; path = None; shares_macros = true; entry = None; edition = e; is_trait = false }
+
 -- what sources have with that module, whose items are read then
-abbrev pub with_root : SourceRoot → ItemsRead → ItemsRead
-with_root (New name) items =
-    with_module (record { name = name; parent = None; visible_in = None; path = None; shares_macros = true; entry = None }) true items
-with_root (Outline o) items = with_read o.«module» items
+abbrev pub with_root : Edition → SourceRoot → ItemsRead → ItemsRead
+with_root e (New name) items = with_module (root_of e name) true items
+with_root e (Outline o) items = with_read o.«module» items

@@ -1,6 +1,7 @@
 -- What reading gives: what is read or the first fault, and the names that have numbers then.
 use Rattle.std.specs.Prelude.{◌≡◌, ◌⊎◌, ◌||◌, ℕ, Bool, true, false, List, [], drop, Option, None, Some, Result, Ok, Err, if◌then◌else◌}
 use Rattle.std.specs.Str.{bytes_eq}
+use Rattle.rust_source.specs.declared.edition.Edition.{Edition}
 use Rattle.rust_source.specs.declared.fault.SourceFault.{SourceFault}
 use Rattle.rust_source.specs.declared.fault.SourceFaultKind.TheVariants.{ExpectedName, OutOfMemory}
 use Rattle.rust_source.specs.declared.place.Place.{Place}
@@ -12,7 +13,7 @@ use Rattle.rust_source.specs.declared.tokens.token.Token.{Token}
 use Rattle.rust_source.specs.declared.tokens.token.TokenKind.{TokenKind}
 use Rattle.rust_source.specs.declared.tokens.token.TokenKind.TheVariants as kind
 use Rattle.rust_source.specs.Cursor.{fault, is_cut, next_kind, nth, passed, place, token_text}
-use Rattle.rust_source.specs.Keywords.{keyword_of}
+use Rattle.rust_source.specs.Keywords.{word_of_edition}
 use Rattle.rust_source.specs.Names.{added, number_of_name}
 
 -- what is read or the first fault, and the names behind it
@@ -48,14 +49,14 @@ abbrev pub bare_or : (text : List ℕ) → Option Keyword → List ℕ
 bare_or text None = drop 2 text
 bare_or text (Some k) = text
 
--- the text of a raw name, whose `r#` stays with a keyword alone
-unfoldable pub bare_text : (text : List ℕ) → List ℕ
-bare_text text = if is_cut text 2 then bare_or text (keyword_of (drop 2 text)) else text
+-- the text of a raw name, whose `r#` stays with a keyword of the edition alone
+unfoldable pub bare_text : Edition → (text : List ℕ) → List ℕ
+bare_text e text = if is_cut text 2 then bare_or text (word_of_edition e (drop 2 text)) else text
 
 -- the text of a name of this kind
-abbrev pub name_text : (text : List ℕ) → TokenKind → List ℕ
-name_text text kind.RawName = bare_text text
-name_text text _ = text
+abbrev pub name_text : Edition → (text : List ℕ) → TokenKind → List ℕ
+name_text e text kind.RawName = bare_text e text
+name_text e text _ = text
 
 -- the token, where it is of the kind of a name
 abbrev pub as_name : Token → TokenKind → Option Token
@@ -89,7 +90,7 @@ Named = (Symbol × Place) × Cursor
 abbrev pub name_by : Cursor → (names : List (List ℕ)) → Option Token → Reading Named
 name_by c names None = (Err (fault c ExpectedName), names)
 name_by c names (Some t) =
-    let text = name_text (token_text c t) t.kind in
+    let text = name_text c.edition (token_text c t) t.kind in
     (Ok ((record { 0 = number_of_name names text }, place c), passed c 1), added names text)
 
 -- the name that is next, which is no keyword
@@ -130,16 +131,16 @@ unfoldable pub is_named : Cursor → (text : List ℕ) → Bool
 is_named c text = is_named_by c text (nth c 0)
 
 -- the text of a token of this kind, where it is a name, without its `r#`, or a keyword; else nothing
-abbrev pub word_text_of : (text : List ℕ) → TokenKind → List ℕ
-word_text_of text kind.Name = text
-word_text_of text kind.RawName = bare_text text
-word_text_of text (kind.Keyword k) = text
-word_text_of text _ = []
+abbrev pub word_text_of : Edition → (text : List ℕ) → TokenKind → List ℕ
+word_text_of e text kind.Name = text
+word_text_of e text kind.RawName = bare_text e text
+word_text_of e text (kind.Keyword k) = text
+word_text_of e text _ = []
 
 -- the text of a token that is a name or a keyword; nothing where there is none
 abbrev pub word_text_by : Cursor → Option Token → List ℕ
 word_text_by c None = []
-word_text_by c (Some t) = word_text_of (token_text c t) t.kind
+word_text_by c (Some t) = word_text_of c.edition (token_text c t) t.kind
 
 -- the text of the next token, where it is a name or a keyword; else nothing
 unfoldable pub word_text : Cursor → List ℕ

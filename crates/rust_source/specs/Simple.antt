@@ -1,5 +1,5 @@
 -- Types and expressions that have none within them, and what stands before a type or an operand.
-use Rattle.std.specs.Prelude.{ℕ, zero, suc, ◌-◌, ◌==◌, ◌||◌, ◌&&◌, Bool, true, false, not, List, [], ◌∷◌, ◌++◌, drop, nat_lt, Option, None, Some, Result, Ok, Err, if◌then◌else◌}
+use Rattle.std.specs.Prelude.{ℕ, zero, suc, ◌-◌, ◌==◌, ◌||◌, ◌&&◌, Bool, true, false, not, codes, List, [], ◌∷◌, ◌++◌, drop, nat_lt, Option, None, Some, Result, Ok, Err, if◌then◌else◌}
 use Rattle.rust_source.specs.declared.fault.SourceFault.{SourceFault}
 use Rattle.rust_source.specs.declared.fault.SourceFaultKind.{SourceFaultKind}
 use Rattle.rust_source.specs.declared.fault.SourceFaultKind.TheVariants.{BadCharacter, BadNumber, ExpectedExpression, ExpectedType, TooDeep}
@@ -15,15 +15,17 @@ use Rattle.rust_source.specs.declared.syntax.Unary.TheVariants.{Minus, Not}
 use Rattle.rust_source.specs.declared.syntax.Unevaluated.TheVariants as other
 use Rattle.rust_source.specs.declared.tokens.keyword.Keyword.{Keyword}
 use Rattle.rust_source.specs.declared.tokens.keyword.Keyword.TheVariants as keyword
+use Rattle.rust_source.specs.declared.tokens.token.Bracket.TheVariants as bracket
 use Rattle.rust_source.specs.declared.tokens.token.Token.{Token}
 use Rattle.rust_source.specs.declared.tokens.token.TokenKind.{TokenKind}
 use Rattle.rust_source.specs.declared.tokens.token.TokenKind.TheVariants as kind
-use Rattle.rust_source.specs.Cursor.{fault, is_lifetime, is_name, is_next, is_nth, is_nth_pair, is_pair, is_same_word, is_keyword_next, next_kind, nth, passed, place, token_text, tree_passed}
+use Rattle.rust_source.specs.Cursor.{fault, is_group, is_lifetime, is_name, is_next, is_nth, is_nth_pair, is_pair, is_same_word, is_keyword_next, next_kind, nth, passed, place, token_text, tree_passed}
+use Rattle.rust_source.specs.Editions.{is_before_2021}
 use Rattle.rust_source.specs.Lifetimes.{hashes_passed}
 use Rattle.rust_source.specs.Literals.{char_code, number_written}
 use Rattle.rust_source.specs.Operators.{with_operators}
 use Rattle.rust_source.specs.Passing.{angles_passed, bounds}
-use Rattle.rust_source.specs.Reading.{is_path_name, read_as}
+use Rattle.rust_source.specs.Reading.{is_named, is_path_name, read_as}
 use Rattle.rust_source.specs.Texts.{text_length}
 use Rattle.rust_source.specs.Syntax.{ExprRead, PathRead, TypeRead, bool, char, dyn, integer, named, never, other_expr, other_type, pointer, reference, text}
 
@@ -143,9 +145,13 @@ abbrev pub ends_variadic : Option Cursor → Bool
 ends_variadic None = false
 ends_variadic (Some i) = is_variadic (record i { at = i.end - 3 })
 
+-- a trait's object, and what follows its bounds, which are next
+abbrev pub object_read : Cursor → TypeRead × Cursor
+object_read c = (dyn, (bounds c).1)
+
 -- the type that begins with this keyword, and is no path and no function pointer
 abbrev pub worded : Cursor → Keyword → Result (TypeRead × Cursor) SourceFault
-worded c keyword.Dyn = Ok (dyn, (bounds c).1)
+worded c keyword.Dyn = Ok (object_read c)
 worded c keyword.Impl = Ok (other_type other.Impl (place c), (bounds c).1)
 worded c keyword.Underscore = Ok (other_type other.Inferred (place c), passed c 1)
 worded c _ = Err (fault c ExpectedType)
@@ -162,9 +168,37 @@ simple_by c _ = Err (fault c ExpectedType)
 unfoldable pub simple : Cursor → Result (TypeRead × Cursor) SourceFault
 simple c = simple_by c (next_kind c)
 
--- the type that a path is, which began there, or the call of the macro that it names
+-- a bound is next, as one stands behind `dyn`: a name of a path, a lifetime, `?`, `for` or parentheses
+unfoldable pub begins_bound : Cursor → Bool
+begins_bound c =
+    is_path_name c || is_lifetime (next_kind c) || is_next c 63 || is_keyword_next c keyword.For || is_group c bracket.Round
+
+-- a trait's object is next in the edition of 2015, in which `dyn` is a name, unless a bound stands behind it (Rust Reference,
+-- "Keywords", "Weak keywords")
+unfoldable pub begins_dyn : Cursor → Bool
+begins_dyn c = is_named c (codes "dyn") && begins_bound (passed c 1)
+
+-- parentheses are next, in an edition in which a trait's name alone may be its object: what its functions take stands in them,
+-- as in `Fn(A) -> B`
+unfoldable pub has_inputs : Cursor → Bool
+has_inputs c = is_before_2021 c.edition && is_group c bracket.Round
+
+-- the type that a path is, which began there, or the call of the macro that it names, or the object of a trait whose functions
+-- take what stands in parentheses
 unfoldable pub after_path : Cursor → PathRead → Place → TypeRead × Cursor
-after_path c p at = if is_next c 33 then (other_type other.Macro at, tree_passed (passed c 1)) else (named p, c)
+after_path c p at =
+    if is_next c 33 then (other_type other.Macro at, tree_passed (passed c 1))
+    else (if has_inputs c then object_read c else (named p, c))
+
+-- the type is a path
+abbrev pub is_path : TypeRead → Bool
+is_path (named p) = true
+is_path _ = false
+
+-- a path with the bounds behind it is a trait's object, in an edition in which that needs no `dyn`: `A + B` (Rust Reference,
+-- "Trait objects")
+unfoldable pub with_bounds : TypeRead → Cursor → TypeRead × Cursor
+with_bounds t c = if is_before_2021 c.edition && is_next c 43 && is_path t then object_read c else (t, c)
 
 -- a path is next
 unfoldable pub begins_path : Cursor → Bool

@@ -5,7 +5,7 @@ use Rattle.rust_source.specs.declared.fault.SourceFaultKind.{SourceFaultKind}
 use Rattle.rust_source.specs.declared.fault.SourceFaultKind.TheVariants.{BadNumber, ExpectedAngle, ExpectedExpression, ExpectedName, ExpectedSemicolon, ExpectedType, OutOfMemory, TooDeep, VariadicPointer}
 use Rattle.rust_source.specs.declared.place.Place.{Place}
 use Rattle.rust_source.specs.declared.place.Symbol.{Symbol}
-use Rattle.rust_source.specs.declared.place.TheConstants.Symbol.{UNDERSCORE}
+use Rattle.rust_source.specs.declared.place.TheConstants.Symbol.{CRATE, UNDERSCORE}
 use Rattle.rust_source.specs.declared.reader.cursor.Cursor.{Cursor}
 use Rattle.rust_source.specs.declared.reader.operators.Waiting.{Waiting}
 use Rattle.rust_source.specs.declared.syntax.Binary.{Binary}
@@ -18,13 +18,14 @@ use Rattle.rust_source.specs.declared.tokens.token.TokenKind.{TokenKind}
 use Rattle.rust_source.specs.declared.tokens.token.TokenKind.TheVariants as kind
 use Rattle.rust_source.specs.Cursor.{behind_group, comma_passed, expected, fault, inside, is_done, is_group, is_lifetime, is_named_next, is_next, is_nth, is_nth_pair, is_pair, is_keyword_next, next_kind, passed, place}
 use Rattle.rust_source.specs.CfgCalls.{cfg_call, is_cfg_call}
+use Rattle.rust_source.specs.Editions.{is_2015, is_before_2021}
 use Rattle.rust_source.specs.Operators.{all_joined, next_operator, operator_put, with_operators}
 use Rattle.rust_source.specs.Lifetimes.{lifetimes_given}
 use Rattle.rust_source.specs.Matches.{bound_path, compared, ends_pattern}
 use Rattle.rust_source.specs.Passing.{bounds}
 use Rattle.rust_source.specs.Reading.{Reading, read_on, name, path_name, read_as}
-use Rattle.rust_source.specs.Simple.{after_path, before_function, begins_function, begins_path, ends_variadic, is_extern, is_literal, is_variadic, literal_read, most_nested, parameter_begun, pointed, pointings, signed_literal, signs, simple}
-use Rattle.rust_source.specs.Syntax.{ArgumentRead, ExprRead, PathRead, SegmentRead, TypeRead, arguments, array, binary, binding, bool, call, cast, choice, constant, dyn, exprs, function, local, method, of_const, of_type, other_expr, other_type, path, segment, segments, slice, tuple, type_list, with_segment}
+use Rattle.rust_source.specs.Simple.{after_path, before_function, begins_dyn, begins_function, begins_path, ends_variadic, is_extern, is_literal, is_variadic, literal_read, most_nested, object_read, parameter_begun, pointed, pointings, signed_literal, signs, simple, with_bounds}
+use Rattle.rust_source.specs.Syntax.{ArgumentRead, ExprRead, PathRead, SegmentRead, TypeRead, arguments, array, binary, binding, bool, call, cast, choice, constant, exprs, function, local, method, of_const, of_type, other_expr, other_type, path, segment, segments, slice, tuple, type_list, with_segment}
 
 -- names that have numbers
 abbrev pub Known : Type 0
@@ -118,6 +119,14 @@ expr_on go_on os ws c (Some o) names =
 abbrev pub constant_read : Cursor → Result (ArgumentRead × Cursor) SourceFault
 constant_read c = read_as (λ (e : ExprRead × Cursor). (of_const e.0, e.1)) (signed_literal c)
 
+-- a path is next that begins at the root of the crate by its `::`, as in the edition of 2015
+abbrev pub begins_at_root : Cursor → Bool
+begins_at_root c = is_pair c 58 58 && is_2015 c.edition
+
+-- the name `crate` there
+abbrev pub crate_at : Place → SegmentRead
+crate_at at = segment CRATE.0 at 0 (arguments [])
+
 -- the call of a method is next, behind what it is called on: `.name(..)`
 unfoldable pub is_method_next : Cursor → Bool
 is_method_next c = is_next c 46 && is_named_next c && is_group (passed c 2) bracket.Round
@@ -129,12 +138,16 @@ module _ (R : Readers) where
       if is_done c then fault_next ExpectedExpression c names
       else (let read = R.expr_in c names in all_read_by c read.0 read.1)
 
+  -- the type that is next, with the bounds behind it where these make it a trait's object
+  abbrev pub bounded_read : Reader TypeRead
+  bounded_read c names = read_on (λ (t : TypeRead × Cursor) ns. done (with_bounds t.0 t.1) ns) (R.type_in c names)
+
   -- an argument, which stands in these braces, or in none
   abbrev pub argument_by : Cursor → Option Cursor → Known → Reading (ArgumentRead × Cursor)
   argument_by c (Some i) names = read_on (λ (e : ExprRead × Cursor) ns. done (of_const e.0, behind_group c) ns) (whole i names)
   argument_by c None names =
       if is_literal c || is_next c 45 then (constant_read c, names)
-      else read_on (λ (t : TypeRead × Cursor) ns. done (argument_behind (place c) t.0 t.1) ns) (R.type_in c names)
+      else read_on (λ (t : TypeRead × Cursor) ns. done (argument_behind (place c) t.0 t.1) ns) (bounded_read c names)
 
   -- the argument that is next, which is no lifetime
   unfoldable pub argument : Reader ArgumentRead
@@ -176,11 +189,11 @@ module _ (R : Readers) where
   path_from in_type is_global (suc limit) all c names =
       read_on (λ (s : SegmentRead × Cursor) ns. path_on (path_from in_type is_global limit) is_global (all ++ s.0 ∷ []) s.1 ns) (segment_read in_type c names)
 
-  -- the path that is next
+  -- the path that is next; behind a `::` it begins at the root of the crate in the edition of 2015 (Rust Reference, "Paths")
   unfoldable pub path_read : (in_type : Bool) → Reader PathRead
   path_read in_type c names =
       let d = if is_pair c 58 58 then passed c 2 else c in
-      path_from in_type (is_pair c 58 58) (d.end - d.at) [] d names
+      path_from in_type (is_pair c 58 58 && not (begins_at_root c)) (d.end - d.at) (if begins_at_root c then crate_at (place c) ∷ [] else []) d names
 
   abbrev pub qualified_on : PathRead → Reader PathRead
   qualified_on p c names =
@@ -199,7 +212,7 @@ module _ (R : Readers) where
   tuple_behind zero all c names = done (tuple (type_list all)) names
   tuple_behind (suc limit) all c names =
       if is_done c then done (tuple (type_list all)) names
-      else read_on (λ (t : TypeRead × Cursor) ns. tuple_on (tuple_behind limit) all t.0 t.1 ns) (R.type_in c names)
+      else read_on (λ (t : TypeRead × Cursor) ns. tuple_on (tuple_behind limit) all t.0 t.1 ns) (bounded_read c names)
 
   -- the type that stands in these parentheses
   unfoldable pub tuple_read : Cursor → Known → Reading TypeRead
@@ -259,15 +272,16 @@ module _ (R : Readers) where
       let d = before_function c in
       if is_keyword_next d keyword.Fn
       then read_on (λ (s : List TypeRead × Cursor) ns. done (function (type_list s.0), s.1) ns) (pointer_read (is_extern c) (passed d 1) names)
-      else done (dyn, (bounds d).1) names
+      else (if is_before_2021 c.edition then done (object_read d) names else fault_next ExpectedType d names)
 
   -- a type that no `&` or `*` stands before, which stands in these brackets, or in none
   abbrev pub pointee_in : Cursor → (round square : Option Cursor) → Known → Reading (TypeRead × Cursor)
   pointee_in c (Some i) square names = read_on (λ t ns. done (t, behind_group c) ns) (tuple_read i names)
   pointee_in c None (Some i) names = read_on (λ t ns. done (t, behind_group c) ns) (list_read i names)
   pointee_in c None None names =
-      if begins_path c then read_on (λ (p : PathRead × Cursor) ns. done (after_path p.1 p.0 (place c)) ns) (path_read true c names)
-      else (if begins_function c then function_read c names else (simple c, names))
+      if begins_dyn c then done (object_read c) names
+      else (if begins_path c then read_on (λ (p : PathRead × Cursor) ns. done (after_path p.1 p.0 (place c)) ns) (path_read true c names)
+      else (if begins_function c then function_read c names else (simple c, names)))
 
   unfoldable pub pointee_read : Reader TypeRead
   pointee_read c names = pointee_in c (inside c bracket.Round) (inside c bracket.Square) names

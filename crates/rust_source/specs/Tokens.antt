@@ -1,6 +1,7 @@
 -- The tokens of a source: the longest that its bytes begin with, and so on behind it, and each bracket with its partner.
 use Rattle.std.specs.Prelude.{◌≡◌, ◌⊎◌, ℕ, zero, suc, ◌+◌, ◌-◌, ◌^◌, ◌==◌, ◌&&◌, ◌||◌, Bool, true, false, not, List, [], ◌∷◌, ◌++◌, drop, take, length, nat_lt, slice_get, Option, None, Some, Result, Ok, Err, if◌then◌else◌}
 use Rattle.std.specs.Char.{is_ascii_digit, is_ascii_punctuation}
+use Rattle.rust_source.specs.declared.edition.Edition.{Edition}
 use Rattle.rust_source.specs.declared.fault.SourceFault.{SourceFault}
 use Rattle.rust_source.specs.declared.fault.SourceFaultKind.{SourceFaultKind}
 use Rattle.rust_source.specs.declared.fault.SourceFaultKind.TheVariants.{BadNumber, OutOfMemory, TooDeep, TooLong, UnclosedComment, UnknownCharacter, UnknownPrefix, UnmatchedBracket}
@@ -14,7 +15,8 @@ use Rattle.rust_source.specs.declared.tokens.token.TokenKind.{TokenKind}
 use Rattle.rust_source.specs.declared.tokens.token.TokenKind.TheVariants as kind
 use Rattle.rust_source.specs.Characters.{byte_at, name_length}
 use Rattle.rust_source.specs.Blanks.{blank_length, head_length, run_length}
-use Rattle.rust_source.specs.Keywords.{keyword_of}
+use Rattle.rust_source.specs.Editions.{is_before_2021}
+use Rattle.rust_source.specs.Keywords.{word_of_edition}
 use Rattle.rust_source.specs.Numerals.{begins_fraction, has_base, number_length}
 use Rattle.rust_source.specs.Quoted.{Lexed, prefixed_token, quote_token, string_token}
 
@@ -42,12 +44,20 @@ word_kind (Some k) = kind.Keyword k
 abbrev pub follows_prefix : ℕ → Bool
 follows_prefix b = (b == 34) || (b == 35) || (b == 39)
 
--- the name or the keyword that the bytes begin with, which is no prefix (Rust Reference, "Reserved prefixes")
-unfoldable pub word_token : List ℕ → Lexed
-word_token bytes =
+-- a word right before this byte is a prefix, since the edition of 2021 (Rust Reference, "Reserved prefixes")
+abbrev pub makes_prefix : Edition → ℕ → Bool
+makes_prefix e b = not (is_before_2021 e) && follows_prefix b
+
+-- the name or the keyword that the bytes begin with, which is no prefix
+unfoldable pub word_token : Edition → List ℕ → Lexed
+word_token e bytes =
     let n = name_length bytes in
     if n == 0 then Err UnknownCharacter
-    else (if follows_prefix (byte_at bytes n) then Err UnknownPrefix else Ok (word_kind (keyword_of (take n bytes)), n))
+    else (if makes_prefix e (byte_at bytes n) then Err UnknownPrefix else Ok (word_kind (word_of_edition e (take n bytes)), n))
+
+-- the literal or the raw name that the bytes begin with by a letter; C's strings are literals since the edition of 2021
+abbrev pub literal_token : Edition → List ℕ → Option Lexed
+literal_token e bytes = if is_before_2021 e && (byte_at bytes 0 == 99) then None else prefixed_token bytes
 
 -- the number that the bytes begin with by a digit; one in another base than ten has no fraction
 unfoldable pub number_token : List ℕ → Lexed
@@ -65,13 +75,13 @@ prefixed_or None other = other
 prefixed_or (Some token) other = token
 
 -- the token that the bytes begin with
-unfoldable pub first_token : List ℕ → Lexed
-first_token bytes =
+unfoldable pub first_token : Edition → List ℕ → Lexed
+first_token e bytes =
     let b = byte_at bytes 0 in
     if is_ascii_digit b then number_token bytes
     else (if b == 34 then string_token bytes 0
     else (if b == 39 then quote_token bytes
-    else single_or (kind_of_byte b) (prefixed_or (prefixed_token bytes) (word_token bytes))))
+    else single_or (kind_of_byte b) (prefixed_or (literal_token e bytes) (word_token e bytes))))
 
 -- a fault behind so many bytes
 abbrev pub fault_behind : (bytes : ℕ) → SourceFaultKind → SourceFault
@@ -83,15 +93,15 @@ token_at start (Ok t) = Ok (Some (record { kind = t.0; start = start; end = star
 token_at start (Err k) = Err (fault_behind start k)
 
 -- the token behind so many bytes and then these spaces and comments; none where nothing follows
-abbrev pub token_behind : (text : List ℕ) → (before : ℕ) → (blank : Result ℕ ℕ) → Result (Option Token) SourceFault
-token_behind text before (Err more) = Err (fault_behind (before + more) UnclosedComment)
-token_behind text before (Ok blank) =
+abbrev pub token_behind : Edition → (text : List ℕ) → (before : ℕ) → (blank : Result ℕ ℕ) → Result (Option Token) SourceFault
+token_behind e text before (Err more) = Err (fault_behind (before + more) UnclosedComment)
+token_behind e text before (Ok blank) =
     if length (drop (before + blank) text) == 0 then Ok None
-    else token_at (before + blank) (first_token (drop (before + blank) text))
+    else token_at (before + blank) (first_token e (drop (before + blank) text))
 
 -- the next token behind so many bytes, spaces and comments aside; none where nothing follows
-unfoldable pub next_token : (text : List ℕ) → (before : ℕ) → Result (Option Token) SourceFault
-next_token text before = token_behind text before (blank_length (drop before text))
+unfoldable pub next_token : Edition → (text : List ℕ) → (before : ℕ) → Result (Option Token) SourceFault
+next_token e text before = token_behind e text before (blank_length (drop before text))
 
 -- two brackets are of one kind
 abbrev pub is_same : Bracket → Bracket → Bool
@@ -150,16 +160,16 @@ where_ok (Ok a) next = next a
 where_ok (Err fault) next = Err fault
 
 -- the tokens with those behind so many bytes; there are at most as many more as `limit` has
-abbrev pub tokens_from : (limit : List ℕ) → (text : List ℕ) → Found → (before : ℕ) → Result (List Token) SourceFault
-tokens_from [] text found before = all_closed found.0 (slice_get found.1 (length found.1 - 1))
-tokens_from (l ∷ ls) text found before =
-    tokens_by found (λ t. where_ok (token_put found t) (λ more. tokens_from ls text more t.end)) (next_token text before)
+abbrev pub tokens_from : Edition → (limit : List ℕ) → (text : List ℕ) → Found → (before : ℕ) → Result (List Token) SourceFault
+tokens_from e [] text found before = all_closed found.0 (slice_get found.1 (length found.1 - 1))
+tokens_from e (l ∷ ls) text found before =
+    tokens_by found (λ t. where_ok (token_put found t) (λ more. tokens_from e ls text more t.end)) (next_token e text before)
 
--- the tokens of a text, or its first fault; it has at most 2 ^ 30 bytes
-unfoldable pub tokens : (text : List ℕ) → Result (List Token) SourceFault
-tokens text =
+-- the tokens of a text of the edition, or its first fault; it has at most 2 ^ 30 bytes
+unfoldable pub tokens : Edition → (text : List ℕ) → Result (List Token) SourceFault
+tokens e text =
     if nat_lt (2 ^ 30) (length text) then Err (fault_behind (2 ^ 30) TooLong)
-    else tokens_from text text ([], []) (head_length text)
+    else tokens_from e text text ([], []) (head_length text)
 
 -- the answer, want of memory aside: the same value, or the same fault
 abbrev pub Yields : {A B : Type 0} → (A → B) → (answer : Result B SourceFault) → Result A SourceFault → Type 0

@@ -1,5 +1,6 @@
 -- The names of traits, whose items aren't read.
-use Rattle.std.specs.Prelude.{codes, false, None, Some, Result, if◌then◌else◌}
+use Rattle.std.specs.Prelude.{codes, false, true, None, Some, Result, if◌then◌else◌}
+use Rattle.rust_source.specs.declared.edition.Edition.{Edition}
 use Rattle.rust_source.specs.declared.fault.SourceFault.{SourceFault}
 use Rattle.rust_source.specs.declared.item.Module.{Module}
 use Rattle.rust_source.specs.declared.place.Place.{Place}
@@ -20,20 +21,22 @@ before_trait c =
     if is_named d (codes "auto") then passed d 1 else d
 
 -- a trait of this name, as a module whose items aren't read: its name is one of types and modules
-abbrev pub trait_of : Standing → Symbol → Module
-trait_of standing name = record {
+abbrev pub trait_of : Edition → Standing → Symbol → Module
+trait_of e standing name = record {
   name = name;
   parent = Some standing.«module»;
   visible_in = standing.visible_in;
   path = None;
   shares_macros = false;
   entry = None;
+  edition = e;
+  is_trait = true;
 }
 
 -- the trait whose name is next goes behind the modules
 abbrev pub trait_on : Standing → Cursor → Having → Result (Unit {0}) SourceFault × Having
 trait_on standing c known =
-    read_on (λ (n : (Symbol × Place) × Cursor) ns. done tt (ns.0, with_module (trait_of standing n.0.0) false ns.1)) (by_names known.1 (name c known.0))
+    read_on (λ (n : (Symbol × Place) × Cursor) ns. done tt (ns.0, with_module (trait_of c.edition standing n.0.0) false ns.1)) (by_names known.1 (name c known.0))
 
 -- the trait that is next, if one is, by its name
 unfoldable pub trait_read : Standing → Cursor → Having → Result (Unit {0}) SourceFault × Having

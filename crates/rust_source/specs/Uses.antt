@@ -1,15 +1,16 @@
 -- What `use` brings in.
-use Rattle.std.specs.Prelude.{ℕ, zero, suc, ◌-◌, ◌==◌, ◌&&◌, Bool, true, false, List, [], ◌∷◌, ◌++◌, length, nat_lt, slice_get, take, Option, None, Some, Result, if◌then◌else◌}
+use Rattle.std.specs.Prelude.{ℕ, zero, suc, ◌-◌, ◌==◌, ◌&&◌, Bool, true, false, List, [], ◌∷◌, ◌++◌, length, nat_le, nat_lt, slice_get, take, Option, None, Some, Result, if◌then◌else◌}
 use Rattle.rust_source.specs.declared.fault.SourceFault.{SourceFault}
 use Rattle.rust_source.specs.declared.fault.SourceFaultKind.TheVariants.{ExpectedUse, TooDeep}
 use Rattle.rust_source.specs.declared.item.UsedName.{UsedName}
 use Rattle.rust_source.specs.declared.place.Place.{Place}
 use Rattle.rust_source.specs.declared.place.Symbol.{Symbol}
+use Rattle.rust_source.specs.declared.place.TheConstants.Symbol.{CRATE}
 use Rattle.rust_source.specs.declared.reader.cursor.Cursor.{Cursor}
 use Rattle.rust_source.specs.declared.reader.uses.UsePlace.{UsePlace}
 use Rattle.rust_source.specs.declared.tokens.keyword.Keyword.TheVariants as keyword
 use Rattle.rust_source.specs.declared.tokens.token.Bracket.TheVariants as bracket
-use Rattle.rust_source.specs.Cursor.{behind_group, comma_passed, inside, is_done, is_next, is_pair, is_keyword_next, passed}
+use Rattle.rust_source.specs.Cursor.{behind_group, comma_passed, inside, is_done, is_next, is_pair, is_keyword_next, passed, place}
 use Rattle.rust_source.specs.Fields.{by_names}
 use Rattle.rust_source.specs.Items.{UseRead}
 use Rattle.rust_source.specs.Reading.{read_on, is_path_name, name, path_name}
@@ -44,12 +45,30 @@ last path = slice_get path (length path - 1)
 abbrev pub without_self : List UsedName → List UsedName
 without_self path = if nat_lt 1 (length path) && is_named_self (last path) then take (length path - 1) path else path
 
+-- a path says by its first name where it begins: `crate`, `self`, `super` and `Self` are the first names
+abbrev pub says_where : List UsedName → Bool
+says_where [] = false
+says_where (n ∷ path) = nat_le n.name.0 3
+
+-- where a path begins: its first name, or what is next where it has none
+abbrev pub place_of_path : Cursor → List UsedName → Place
+place_of_path c [] = place c
+place_of_path c (n ∷ path) = n.at
+
+-- the path from the root of the crate on: with `crate` in front, unless its first name says where it begins
+abbrev pub from_root : Cursor → List UsedName → List UsedName
+from_root c path = if says_where path then path else record { name = CRATE; at = place_of_path c path } ∷ path
+
+-- the path as it is meant where it stands: from the root of the crate on, in the edition of 2015 (Rust Reference, "Use declarations")
+abbrev pub path_meant : UsePlace → Cursor → List UsedName → List UsedName
+path_meant place c path = if place.is_from_root then from_root c path else path
+
 -- a path, brought in as its last name or another one
 abbrev pub use_of_path : UsePlace → (path : List UsedName) → Option UsedName → Cursor → Using → Result Cursor SourceFault × Using
 use_of_path place path None c known = fault_next ExpectedUse c known
 use_of_path place path (Some n) c known =
     read_on (λ (r : Option Symbol × Cursor) ns.
-    done r.1 (with_use (record { inside = place.«module»; visible_in = place.visible_in; is_global = place.is_global; path = path; name = r.0; is_glob = false }) ns))
+    done r.1 (with_use (record { inside = place.«module»; visible_in = place.visible_in; is_global = place.is_global; path = path_meant place c path; name = r.0; is_glob = false }) ns))
     (by_names known.1 (rename_read (Some n.name) c known.0))
 
 -- a path, whose last name stands before
@@ -108,7 +127,7 @@ module _ (T : UsePlace → List UsedName → Cursor → Using → Result Cursor 
   abbrev pub tree_on : UsePlace → UsedNames → Cursor → Using → Result Cursor SourceFault × Using
   tree_on place n c known =
       if n.1 then path_used place n.0 c known
-      else (if is_next c 42 then done (passed c 1) (with_use (glob place n.0) known) else group_by place n.0 c (inside c bracket.Curly) known)
+      else (if is_next c 42 then done (passed c 1) (with_use (glob place (path_meant place c n.0)) known) else group_by place n.0 c (inside c bracket.Curly) known)
 
   -- what is brought in behind the names before a group
   unfoldable pub tree_with : UsePlace → List UsedName → Cursor → Using → Result Cursor SourceFault × Using

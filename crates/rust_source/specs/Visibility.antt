@@ -9,11 +9,12 @@ use Rattle.rust_source.specs.declared.reader.attributes.Rules.{Rules}
 use Rattle.rust_source.specs.declared.reader.cursor.Cursor.{Cursor}
 use Rattle.rust_source.specs.declared.tokens.keyword.Keyword.TheVariants as keyword
 use Rattle.rust_source.specs.declared.tokens.token.Bracket.TheVariants as bracket
-use Rattle.rust_source.specs.Cursor.{behind_group, fault, inside, is_done, is_keyword_next, passed}
+use Rattle.rust_source.specs.Cursor.{behind_group, fault, inside, is_done, is_keyword_next, is_pair, passed}
+use Rattle.rust_source.specs.Editions.{is_2015}
 use Rattle.rust_source.specs.Fields.{is_restriction}
 use Rattle.rust_source.specs.Reading.{Reading, read_on}
 use Rattle.rust_source.specs.Terms.{Known, Reader, done}
-use Rattle.rust_source.specs.Uses.{UsedNames, names_read}
+use Rattle.rust_source.specs.Uses.{UsedNames, from_root, names_read}
 
 -- the module that this one is in
 abbrev pub parent_by : Option Module → Option ℕ
@@ -99,15 +100,17 @@ module _ (modules : List Module) where
   restricted_by outside number None = if is_in_crate number then Err outside else Ok (root_around number)
   restricted_by outside number (Some named) = Ok named
 
-  -- the module that the path names that is all that is left
+  -- the module that the path names that is all that is left, with the `::` that may stand before it in the edition of 2015: there it begins at
+  -- the root of the crate
   unfoldable pub path_restricts : (number : ℕ) → Cursor → Known → Reading ℕ
   path_restricts number c names =
       read_on (λ (n : UsedNames × Cursor) ns. (
-        if n.0.1 && is_done n.1 then restricted_by (fault c VisibilityOutside) number (module_named number n.0.0)
+        if n.0.1 && is_done n.1
+            then restricted_by (fault c VisibilityOutside) number (module_named number (if is_2015 c.edition then from_root n.1 n.0.0 else n.0.0))
             else Err (fault c VisibilityOutside),
         ns,
       ))
-      (names_read [] c names)
+      (names_read [] (if is_2015 c.edition && is_pair c 58 58 then passed c 2 else c) names)
 
   -- what stands in the parentheses behind `pub`: a path, with `in` before it or not
   abbrev pub restriction_read : (number : ℕ) → Cursor → Known → Reading ℕ

@@ -1,5 +1,6 @@
 //! Items as they are written.
 
+use crate::edition::Edition;
 use crate::fault::SourceFault;
 use crate::place::{Place, Symbol};
 use crate::syntax::{Expr, IntegerKind, Path, Type};
@@ -168,7 +169,8 @@ pub struct Use {
     pub is_glob: bool,
 }
 
-/// A module of a source, by its name and the one around it (Rust Reference, "Modules").
+/// A module of a source, by its name and the one around it (Rust Reference, "Modules"); or a trait, of which the name alone is
+/// read.
 #[derive(Clone, Copy, PartialEq, Eq)]
 pub struct Module {
     /// Its name; of a source's root that of the source.
@@ -183,6 +185,10 @@ pub struct Module {
     pub shares_macros: bool,
     /// Where the root's source names the module of another file that it is, or stands in; none where it stands in that source.
     pub entry: Option<Place>,
+    /// The edition that it is read by.
+    pub edition: Edition,
+    /// Whether it is a trait.
+    pub is_trait: bool,
 }
 
 /// A module whose items stand in another file: `mod name;`.

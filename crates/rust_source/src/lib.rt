@@ -3,6 +3,7 @@
 #![tactic(auto)]
 
 // What a source is made of.
+mod edition;
 mod fault;
 mod item;
 mod names;
@@ -14,6 +15,7 @@ mod target;
 mod reader;
 mod tokens;
 
+pub use edition::Edition;
 pub use fault::{SourceFault, SourceFaultKind};
 pub use item::{
     Const, Enum, Field, FieldName, Fields, Item, ItemKind, Items, Macro, Module, Outline,

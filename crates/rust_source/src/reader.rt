@@ -48,6 +48,7 @@ ghost use Rattle.rust_source.specs.Syntax.{type_of};
 ghost use Rattle.rust_source.specs.Terms.{type_read};
 ghost use Rattle.rust_source.specs.Tokens.{Yields};
 
+use crate::edition::Edition;
 use crate::fault::{SourceFault, SourceFaultKind};
 use crate::item::{Items, Macro};
 use crate::names::Names;
@@ -114,11 +115,16 @@ impl Items {
     }
 }
 
-/// The tokens of a text whose first byte has this place.
-fn tokens_at(alloc: Global, text: &str, start: Place) -> Result<Vec<Token>, SourceFault>
-    ensures { Yields (λ found. found.items) (tokens_at start.0 text.now) result }
+/// The tokens of a text of an edition whose first byte has this place.
+fn tokens_at(
+    alloc: Global,
+    edition: Edition,
+    text: &str,
+    start: Place,
+) -> Result<Vec<Token>, SourceFault>
+    ensures { Yields (λ found. found.items) (tokens_at edition start.0 text.now) result }
 {
-    match tokens(alloc, text.as_bytes()) {
+    match tokens(alloc, edition, text.as_bytes()) {
         Ok(found) => Ok(found),
         Err(fault) => Err(SourceFault {
             at: Place(start.0.saturating_add(fault.at.0)),
@@ -127,26 +133,28 @@ fn tokens_at(alloc: Global, text: &str, start: Place) -> Result<Vec<Token>, Sour
     }
 }
 
-/// A cursor at the first token of a text, of whose calls of `cfg!` these are decided.
+/// A cursor at the first token of a text of an edition, of whose calls of `cfg!` these are decided.
 fn cursor_at_start<'a>(
+    edition: Edition,
     text: &'a str,
     start: Place,
     tokens: &'a [Token],
     calls: &'a [CfgCall],
 ) -> Cursor<'a>
-    ensures { StandsBefore result text.now start.0 tokens.now calls.now }
+    ensures { StandsBefore result edition text.now start.0 tokens.now calls.now }
 {
     Cursor {
         text,
         tokens,
         calls,
+        edition,
         start: start.0,
         at: 0,
         end: tokens.len(),
     }
 }
 
-/// Reads a source. Its items go behind those that are there, in a new root module or in one whose items stand in another
+/// Reads a source, by the edition that the target says. Its items go behind those that are there, in a new root module or in one whose items stand in another
 /// file, and the answer is the module's number. What `cfg` takes out is left out, and so are constants of types that can't
 /// be read. A `mod name;` makes a module without items, and an outline. The modules, the items and the uses that are there
 /// stay in front.
@@ -169,10 +177,11 @@ pub fn read_items(
     ensures read { MeansItems target.now source.entry (texts names.old, items_as_read items.old)
         (texts names.new, items_as_read items.new) result }
 {
-    let found = tokens_at(alloc, source.text, source.start)?;
-    let undecided = cursor_at_start(source.text, source.start, &found, &[]);
+    let edition = target.edition;
+    let found = tokens_at(alloc, edition, source.text, source.start)?;
+    let undecided = cursor_at_start(edition, source.text, source.start, &found, &[]);
     let calls = calls_of(alloc, target, &undecided)?;
-    let mut cursor = cursor_at_start(source.text, source.start, &found, &calls);
+    let mut cursor = cursor_at_start(edition, source.text, source.start, &found, &calls);
     let rules = Rules {
         target: *target,
         is_trusted: source.is_trusted,
@@ -196,19 +205,20 @@ fn read_alone(names: &mut Names, cursor: &mut Cursor<'_>) -> Result<Type, Source
     }
 }
 
-/// Reads a type, which is all of the text, as `Option<Header>`. The first fault is reported, at its place, the text's first
+/// Reads a type, which is all of the text of an edition, as `Option<Header>`. The first fault is reported, at its place, the text's first
 /// byte having the place `start`. `OutOfMemory` comes where a growth of memory was refused.
 pub fn read_type(
     alloc: Global,
     names: &mut Names,
+    edition: Edition,
     text: &str,
     start: Place,
 ) -> Result<Type, SourceFault>
-    ensures means { MeansType text.now start.0 (texts names.old) (texts names.new) result }
+    ensures means { MeansType edition text.now start.0 (texts names.old) (texts names.new) result }
     ensures strength { OperatorsBindByStrength }
     ensures one { OneJoiningByStrength }
 {
-    let found = tokens_at(alloc, text, start)?;
-    let mut cursor = cursor_at_start(text, start, &found, &[]);
+    let found = tokens_at(alloc, edition, text, start)?;
+    let mut cursor = cursor_at_start(edition, text, start, &found, &[]);
     read_alone(names, &mut cursor)
 }

@@ -1,5 +1,7 @@
 //! What `cfg` asks of a target.
 
+use crate::edition::Edition;
+
 /// The family of a target's system, for which `unix` and `windows` ask.
 #[derive(Clone, Copy, PartialEq, Eq)]
 pub enum Family {
@@ -18,7 +20,8 @@ pub struct CfgOption<'a> {
     pub value: Option<&'a str>,
 }
 
-/// What the predicates of `cfg` know of a target (Rust Reference, "Conditional compilation").
+/// What the predicates of `cfg` know of a target (Rust Reference, "Conditional compilation"), and by which edition a crate is
+/// read.
 #[derive(Clone, Copy)]
 pub struct CfgTarget<'a> {
     /// `target_pointer_width`, as `64`.
@@ -46,4 +49,6 @@ pub struct CfgTarget<'a> {
     pub crate_features: &'a [&'a str],
     /// What is set beside: a name that the target has itself keeps its meaning.
     pub options: &'a [CfgOption<'a>],
+    /// The edition that the crate is written in.
+    pub edition: Edition,
 }

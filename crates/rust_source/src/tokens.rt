@@ -11,16 +11,16 @@ pub(crate) mod token;
 
 ghost use Rattle.std.specs.Prelude.{◌≡◌, ◌+◌, ◌-◌, ◌<◌, ◌≤◌, ◌^◌, IfOk, IfSome, length, min};
 ghost use Rattle.rust_source.specs.Characters.{byte_at};
-ghost use Rattle.rust_source.specs.Quoted.{prefixed_token};
-ghost use Rattle.rust_source.specs.Tokens.{Yields, fault_behind, first_token, follows_prefix, is_punctuation, next_token, number_token, prefixed_or, kind_of_byte, single_or, token_at, tokens, word_kind, word_token};
+ghost use Rattle.rust_source.specs.Tokens.{Yields, fault_behind, first_token, follows_prefix, is_punctuation, literal_token, makes_prefix, next_token, number_token, prefixed_or, kind_of_byte, single_or, token_at, tokens, word_kind, word_token};
 
+use crate::edition::Edition;
 use crate::fault::{SourceFault, SourceFaultKind};
 use crate::place::Place;
 use crate::tokens::blank::{blank_length, head_length};
 use crate::tokens::brackets::{Opened, close_all, put_token};
 use crate::tokens::characters::name_length;
 pub(crate) use crate::tokens::characters::{byte_at, bytes_after, first_char};
-use crate::tokens::keyword::{Keyword, keyword_of};
+use crate::tokens::keyword::{Keyword, word_of_edition};
 pub(crate) use crate::tokens::number::has_base;
 use crate::tokens::number::{begins_fraction, number_length};
 pub(crate) use crate::tokens::quoted::escaped_length;
@@ -59,20 +59,28 @@ fn follows_prefix(byte: u8) -> bool
     byte == b'"' || byte == b'#' || byte == b'\''
 }
 
+/// Whether a word right before this byte is a prefix: before the edition of 2021 it is a token of its own.
+fn makes_prefix(edition: Edition, byte: u8) -> bool
+    ensures { result ≡ makes_prefix edition byte }
+{
+    !edition.is_before_2021() && follows_prefix(byte)
+}
+
 /// The token that a name or a keyword is, which is no prefix of a literal.
 #[tactic(auto, unfolding(crate::specs::Tokens::word_token))]
-fn word_token(rest: &[u8]) -> Lexed
-    ensures same { result ≡ word_token rest.now }
+fn word_token(edition: Edition, rest: &[u8]) -> Lexed
+    ensures same { result ≡ word_token edition rest.now }
     ensures bounded { IfOk result (λ token. token.1 ≤ length rest.now + 4) }
 {
     let length = name_length(rest);
     if length == 0 {
         return Err(SourceFaultKind::UnknownCharacter);
     }
-    if follows_prefix(byte_at(rest, length)) {
+    if makes_prefix(edition, byte_at(rest, length)) {
         return Err(SourceFaultKind::UnknownPrefix);
     }
-    Ok((word_kind(keyword_of(&rest[..length])), length))
+    let keyword = word_of_edition(edition, &rest[..length]);
+    Ok((word_kind(keyword), length))
 }
 
 /// Whether a byte is a token of punctuation by itself.
@@ -103,18 +111,29 @@ fn single_kind(byte: u8) -> Option<TokenKind>
     }
 }
 
+/// The literal or the raw name that the bytes begin with by a letter. C's strings are literals since the edition of 2021.
+fn literal_token(edition: Edition, rest: &[u8]) -> Option<Lexed>
+    ensures same { result ≡ literal_token edition rest.now }
+    ensures bounded { IfSome result (λ lexed. IfOk lexed (λ token. token.1 ≤ length rest.now + 4)) }
+{
+    if edition.is_before_2021() && byte_at(rest, 0) == b'c' {
+        return None;
+    }
+    prefixed_token(rest)
+}
+
 /// The token that the bytes begin with by a character that is no digit and no quote.
-fn other_token(rest: &[u8]) -> Lexed
+fn other_token(edition: Edition, rest: &[u8]) -> Lexed
     ensures same { result ≡ single_or (kind_of_byte (byte_at rest.now 0))
-        (prefixed_or (prefixed_token rest.now) (word_token rest.now)) }
+        (prefixed_or (literal_token edition rest.now) (word_token edition rest.now)) }
     ensures bounded { IfOk result (λ token. token.1 ≤ length rest.now + 4) }
 {
     if let Some(kind) = single_kind(byte_at(rest, 0)) {
         return Ok((kind, 1));
     }
-    match prefixed_token(rest) {
+    match literal_token(edition, rest) {
         Some(token) => token,
-        None => word_token(rest),
+        None => word_token(edition, rest),
     }
 }
 
@@ -132,15 +151,15 @@ fn number_token(rest: &[u8]) -> Lexed
 
 /// The token that the bytes begin with, which is no space, and how many bytes it has.
 #[tactic(auto, unfolding(crate::specs::Tokens::first_token))]
-fn first_token(rest: &[u8]) -> Lexed
-    ensures same { result ≡ first_token rest.now }
+fn first_token(edition: Edition, rest: &[u8]) -> Lexed
+    ensures same { result ≡ first_token edition rest.now }
     ensures bounded { IfOk result (λ token. token.1 ≤ length rest.now + 4) }
 {
     match byte_at(rest, 0) {
         b'0'..=b'9' => number_token(rest),
         b'"' => string_token(rest, 0),
         b'\'' => quote_token(rest),
-        _ => other_token(rest),
+        _ => other_token(edition, rest),
     }
 }
 
@@ -174,10 +193,10 @@ fn token_at(start: usize, lexed: Lexed) -> Result<Option<Token>, SourceFault>
 
 /// The token of what follows `before` bytes of the text, spaces and comments aside. None where nothing follows.
 #[tactic(auto, unfolding(crate::specs::Tokens::next_token))]
-fn next_token(text: &[u8], before: usize) -> Result<Option<Token>, SourceFault>
+fn next_token(edition: Edition, text: &[u8], before: usize) -> Result<Option<Token>, SourceFault>
     requires short { length text.now ≤ 2 ^ 30 }
     requires near { before ≤ 2 ^ 30 + 4 }
-    ensures same { result ≡ next_token text.now before }
+    ensures same { result ≡ next_token edition text.now before }
     ensures near { IfOk result (λ found. IfSome found (λ token. token.end ≤ 2 ^ 30 + 4)) }
 {
     let blank = match blank_length(bytes_after(text, before)) {
@@ -188,17 +207,21 @@ fn next_token(text: &[u8], before: usize) -> Result<Option<Token>, SourceFault>
     if rest.is_empty() {
         return Ok(None);
     }
-    token_at(before + blank, first_token(rest))
+    token_at(before + blank, first_token(edition, rest))
 }
 
-/// The tokens of a text, in its order. Places in them are numbers of bytes of the text.
+/// The tokens of a text of an edition, in its order. Places in them are numbers of bytes of the text.
 ///
 /// The first fault of the text is reported: `TooLong` where it has more than 2^30 bytes, `UnclosedComment`, `UnclosedText`,
 /// `BadCharacter`, `UnknownCharacter`, `UnmatchedBracket`, and `TooDeep` at a bracket in more than 200 others.
 /// `OutOfMemory` comes where a growth of memory was refused.
 #[tactic(auto, unfolding(crate::specs::Tokens::tokens))]
-pub(crate) fn tokens(alloc: Global, text: &[u8]) -> Result<Vec<Token>, SourceFault>
-    ensures { Yields (λ found. found.items) (tokens text.now) result }
+pub(crate) fn tokens(
+    alloc: Global,
+    edition: Edition,
+    text: &[u8],
+) -> Result<Vec<Token>, SourceFault>
+    ensures { Yields (λ found. found.items) (tokens edition text.now) result }
 {
     if text.len() > MOST_BYTES {
         return Err(fault_at(MOST_BYTES, SourceFaultKind::TooLong));
@@ -207,7 +230,7 @@ pub(crate) fn tokens(alloc: Global, text: &[u8]) -> Result<Vec<Token>, SourceFau
     let mut open: Vec<Opened> = Vec::new(alloc);
     let mut before = head_length(text);
     for _byte in text {
-        let Some(token) = next_token(text, before)? else {
+        let Some(token) = next_token(edition, text, before)? else {
             return close_all(found, &open);
         };
         before = token.end as usize;

@@ -441,6 +441,7 @@ impl SourceSet<'_> {
         let features = package.features_on(alloc)?;
         let cfg = CfgTarget {
             crate_features: features.as_slice(),
+            edition: package.edition,
             ..*cx.cfg
         };
         let cx = ReadContext { alloc, cfg: &cfg };
@@ -1295,6 +1296,7 @@ impl FileReport {
                     };
                     let cfg = CfgTarget {
                         crate_features: file.features,
+                        edition: file.edition,
                         options: options.cfg_options.as_slice(),
                         ..target.cfg
                     };

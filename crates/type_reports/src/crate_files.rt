@@ -4,7 +4,7 @@ use crate::file_source::FileSource;
 use crate::module_files::{ModuleName, file_name, module_files};
 use crate::package_crates::PackageCrate;
 use abi_rust::{FaultPlace, Sources};
-use rust_source::{Outline, Place};
+use rust_source::{Edition, Outline, Place};
 use std::alloc::{AllocError, Global};
 
 /// How many files a crate may have.
@@ -24,6 +24,8 @@ pub struct SourceFile<'a> {
     pub is_root: bool,
     /// The features of its crate that are on.
     pub features: &'a [&'a str],
+    /// The edition of its crate.
+    pub edition: Edition,
     /// Its crate, and behind it those that it depends on, where that is known.
     pub crates: &'a [PackageCrate],
 }

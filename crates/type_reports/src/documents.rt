@@ -88,6 +88,7 @@ fn report_of_root(
         text: root.text,
         is_root: options.is_root || is_root(name),
         features: options.features.as_slice(),
+        edition: options.edition,
         crates: &[],
     };
     match answer_source(alloc, from, &options.report, file, &[]) {

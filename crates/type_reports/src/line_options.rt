@@ -3,6 +3,7 @@
 use crate::options::{DEFAULT_TARGET, Form, ReportOptions, put_cfg, put_features};
 use crate::sorting::Selection;
 use abi_rust::{Target, nearest_triple, target_named};
+use rust_source::Edition;
 use std::alloc::{AllocError, Global};
 
 /// A longer text is like no triple. In bytes.
@@ -15,6 +16,8 @@ pub(crate) struct LineOptions<'a> {
     pub(crate) report: ReportOptions<'a>,
     /// The features of the crate that are on.
     pub(crate) features: Vec<&'a str>,
+    /// The edition of the crate.
+    pub(crate) edition: Edition,
     /// Whether the first file is the root of a crate, whatever it is called.
     pub(crate) is_root: bool,
 }
@@ -27,6 +30,8 @@ pub(crate) enum LineFault<'a> {
     UnknownTarget(&'a str, Option<&'static str>),
     /// What `cfg` is to find set is no name, alone or with a value in quotes.
     BadCfg(&'a str),
+    /// No edition has this name.
+    UnknownEdition(&'a str),
     /// Nothing is asked by this line.
     UnknownLine(&'a str),
 }
@@ -50,6 +55,9 @@ impl LineFault<'_> {
             }
             LineFault::BadCfg(text) => {
                 format!(in alloc; "cfg sets a name or a name=\"value\", and not {text}")
+            }
+            LineFault::UnknownEdition(name) => {
+                format!(in alloc; "no edition is called '{name}'; 2015, 2018, 2021 and 2024 are")
             }
             LineFault::UnknownLine(line) => {
                 format!(in alloc; "nothing is asked by the line '{line}'")
@@ -82,6 +90,7 @@ pub(crate) fn no_options<'a>(alloc: Global) -> LineOptions<'a> {
             is_strict: false,
         },
         features: Vec::new(alloc),
+        edition: Edition::Rust2021,
         is_root: false,
     }
 }
@@ -114,6 +123,10 @@ impl<'a> LineOptions<'a> {
             }
             "type" => self.report.types.push(rest).map_err(AllocError::from)?,
             "features" => put_features(&mut self.features, rest)?,
+            "edition" => match Edition::of_name(rest) {
+                Some(edition) => self.edition = edition,
+                None => return Err(LineFault::UnknownEdition(rest)),
+            },
             "cfg" => {
                 if !put_cfg(&mut self.report.cfg_options, &mut self.features, rest)? {
                     return Err(LineFault::BadCfg(rest));
@@ -163,7 +176,7 @@ impl<'a> LineOptions<'a> {
 }
 
 /// What lines ask for: `target TRIPLE`, `type TYPE`, `features NAMES` and `cfg NAME` or `cfg NAME="VALUE"`, each as often as is
-/// wanted, and `root`, `bytes`, `waste` and `strict`, as the command's options of these names; and `parts`.
+/// wanted, `edition NAME`, of several the last, and `root`, `bytes`, `waste` and `strict`, as the command's options of these names; and `parts`.
 pub(crate) fn options_in<'a>(
     alloc: Global,
     lines: &'a str,

@@ -2,6 +2,7 @@
 
 ghost use Rattle.std.specs.Prelude.{◌≡◌, ◌∷◌, [], IfOk, map, string_bytes};
 
+use rust_source::Edition;
 use std::alloc::{AllocError, Global};
 
 /// A crate of a run: a package's, whose sources are read.
@@ -11,6 +12,8 @@ pub struct PackageCrate {
     pub root: String,
     /// The features that are on.
     pub features: Vec<String>,
+    /// The edition that it is written in.
+    pub edition: Edition,
     /// The crates that its sources know: the name of each there, and its number.
     pub crates: Vec<(String, usize)>,
 }

@@ -3,7 +3,8 @@
 
 use crate::disk_files::is_there;
 use crate::options::is_manifest;
-use cargo_manifest::{Dependency, Features, Manifest, ManifestError};
+use cargo_manifest::{Dependency, Features, Manifest, ManifestError, PackageEdition};
+use rust_source::Edition;
 use std::alloc::{AllocError, Global};
 use std::io::ErrorKind;
 use std::{fs, io};
@@ -143,6 +144,17 @@ pub(crate) fn read_manifest(rt: &HostRuntime, path: String) -> Result<ManifestFi
     }
 }
 
+/// The edition that a manifest says; none where that is the workspace's.
+fn edition_said(said: PackageEdition) -> Option<Edition> {
+    match said {
+        PackageEdition::Rust2015 => Some(Edition::Rust2015),
+        PackageEdition::Rust2018 => Some(Edition::Rust2018),
+        PackageEdition::Rust2021 => Some(Edition::Rust2021),
+        PackageEdition::Rust2024 => Some(Edition::Rust2024),
+        PackageEdition::Inherited => None,
+    }
+}
+
 /// How many folders around a package's may hold its workspace.
 const MOST_AROUND: usize = 32;
 
@@ -188,8 +200,21 @@ impl ManifestFile {
         self.manifest.workspace_dependencies(alloc)
     }
 
-    /// Whether the package asks its workspace for a dependency.
+    /// The edition that it says of its package; none where the workspace says it.
+    pub(crate) fn edition(&self) -> Option<Edition> {
+        edition_said(self.manifest.edition())
+    }
+
+    /// The edition that it says of the packages of its workspace.
+    pub(crate) fn workspace_edition(&self) -> Option<Edition> {
+        edition_said(self.manifest.workspace_edition())
+    }
+
+    /// Whether the package asks its workspace for a dependency, or for its edition.
     pub(crate) fn is_of_workspace(&self, alloc: Global) -> Result<bool, AllocError> {
+        if self.edition().is_none() {
+            return Ok(true);
+        }
         for dependency in &self.manifest.dependencies(alloc)? {
             if dependency.is_inherited() {
                 return Ok(true);

@@ -22,13 +22,14 @@ mod page_marks;
 // Types side by side.
 mod compare;
 
-use crate::cargo::{CargoFailure, manifest_path};
+use crate::cargo::{CargoFailure, fault_of, manifest_path};
 use crate::compare::{Column, write_comparison};
 use crate::disk_files::DiskFiles;
 use crate::options::{OptionFault, Options, command, options_of};
 use crate::packages::packages_of;
 use crate::page::page_of;
 use abi_rust::known_triples;
+use rust_source::Edition;
 use serde_json::Value;
 use std::alloc::AllocError;
 use std::collections::HashSet;
@@ -86,6 +87,9 @@ fn report_option(rt: &HostRuntime, fault: OptionFault<'_>) -> Outcome {
         }
         OptionFault::BadCfg(text) => {
             eprintln!(rt; "types: --cfg sets a name or a name=\"value\", and not {text}")
+        }
+        OptionFault::UnknownEdition(name) => {
+            eprintln!(rt; "types: no edition is called '{name}'; 2015, 2018, 2021 and 2024 are")
         }
         OptionFault::UnknownList(name) => {
             eprintln!(rt; "types: no '{name}' can be listed; 'targets' can")
@@ -333,6 +337,8 @@ struct SourceName<'a> {
     is_root: bool,
     /// The features of its crate that are on.
     features: &'a [&'a str],
+    /// The edition of its crate.
+    edition: Edition,
     /// The packages of its crate under each target, where it has a manifest.
     packages: &'a [PackageSet],
 }
@@ -358,6 +364,7 @@ fn report_source(
         text: source.as_str(),
         is_root: root.is_root,
         features: root.features,
+        edition: root.edition,
         crates: &[],
     };
     let from = DiskFiles::new(rt, options.report.is_quiet);
@@ -387,6 +394,10 @@ fn report_package(
     progress: &mut Progress,
     path: &str,
 ) -> Result<Outcome, CargoFailure> {
+    if options.edition.is_some() {
+        let text = "it says the edition of its package, which --edition can't change";
+        return Err(fault_of(rt.alloc(), path, text));
+    }
     let sets = packages_of(rt, options, path)?;
     if !options.report.is_quiet {
         print_package_notes(rt, &sets)?;
@@ -397,6 +408,7 @@ fn report_package(
             name: Some(package.root.as_str()),
             is_root: true,
             features: on.as_slice(),
+            edition: package.edition,
             packages: &sets,
         };
         return Ok(report_source(rt, options, progress, root));
@@ -438,6 +450,7 @@ fn report_file(
         name,
         is_root: options.are_roots || is_root(name),
         features: options.features.as_slice(),
+        edition: options.edition.unwrap_or(Edition::Rust2021),
         packages: &[],
     };
     report_source(rt, options, progress, root)

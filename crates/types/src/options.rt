@@ -2,7 +2,7 @@
 
 use abi_rust::{Target, nearest_triple, target_named};
 use clap::{Arg, ArgAction, ArgMatches, Command};
-use rust_source::CfgOption;
+use rust_source::{CfgOption, Edition};
 use std::alloc::{AllocError, Global};
 use type_reports::{
     Assertion, Form, ReportOptions, Selection, TypeOrder, assertion_in, default_targets,
@@ -30,6 +30,8 @@ pub(crate) struct Options<'a> {
     pub(crate) with_default_features: bool,
     /// Whether all features of packages are on.
     pub(crate) with_all_features: bool,
+    /// The edition of sources that stand in no package, where one was named.
+    pub(crate) edition: Option<Edition>,
     /// The folder of vendored packages, where one was named.
     pub(crate) vendor: Option<&'a str>,
     /// The files, and the folders or manifests of packages, in the order in which they were named; standard input is read
@@ -85,6 +87,17 @@ fn cfg_option<'a>(alloc: Global) -> Arg<'a> {
         .value_name("NAME[=\"VALUE\"]")
         .action(ArgAction::Append)
         .help("sets a name, alone or with a value, that `cfg` asks for, as rustc takes it")
+}
+
+/// The option that names an edition.
+fn edition_option<'a>(alloc: Global) -> Arg<'a> {
+    Arg::new(alloc, "edition")
+        .long("edition")
+        .value_name("EDITION")
+        .action(ArgAction::Set)
+        .help(
+            "reads sources by this edition, 2015, 2018, 2021 or 2024 [default: 2021]; a package has the one that its Cargo.toml says",
+        )
 }
 
 /// The option that names a manifest.
@@ -313,6 +326,7 @@ fn with_source_options<'a>(alloc: Global, command: Command<'a>) -> Result<Comman
     let command = command
         .arg(manifest_option(alloc))?
         .arg(vendor_option(alloc))?
+        .arg(edition_option(alloc))?
         .arg(root)?
         .arg(strict)?
         .arg(file_argument(alloc))?;
@@ -342,6 +356,8 @@ pub(crate) enum OptionFault<'a> {
     UnknownTarget(&'a str, Option<&'static str>),
     /// What `cfg` is to find set is no name, alone or with a value in quotes.
     BadCfg(&'a str),
+    /// No edition has this name.
+    UnknownEdition(&'a str),
     /// Nothing of this name can be listed.
     UnknownList(&'a str),
     /// A picture shows one type, and none was named, or more than one.
@@ -414,6 +430,17 @@ fn cfg_options_of<'a>(
         }
     }
     Ok(all)
+}
+
+/// The edition that was named.
+fn edition_of<'a>(matches: &ArgMatches<'a>) -> Result<Option<Edition>, OptionFault<'a>> {
+    match matches.get_str("edition") {
+        None => Ok(None),
+        Some(name) => match Edition::of_name(name) {
+            Some(edition) => Ok(Some(edition)),
+            None => Err(OptionFault::UnknownEdition(name)),
+        },
+    }
 }
 
 /// The form that was picked.
@@ -607,6 +634,7 @@ pub(crate) fn options_of<'a>(
         features,
         with_default_features: !matches.get_flag("no-default-features"),
         with_all_features: matches.get_flag("all-features"),
+        edition: edition_of(matches)?,
         vendor: matches.get_str("vendor"),
         files,
         are_roots: matches.get_flag("root"),

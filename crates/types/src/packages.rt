@@ -9,6 +9,7 @@ use crate::requests::{
 use crate::vendored::Vendored;
 use abi_rust::Target;
 use cargo_manifest::FeatureRequest;
+use rust_source::Edition;
 use std::alloc::{AllocError, Global};
 use std::fs;
 use std::io::ErrorKind;
@@ -37,6 +38,8 @@ struct Package {
     workspace: Option<ManifestFile>,
     /// The path of its root file.
     root: String,
+    /// The edition that it is written in.
+    edition: Edition,
     /// The features that are asked of it, and whether the default ones are, or all.
     asked: Vec<String>,
     with_default: bool,
@@ -56,7 +59,7 @@ struct PackageContext<'a> {
     vendored: &'a Vendored,
 }
 
-/// The manifest of a package's workspace, where the package asks that for a dependency.
+/// The manifest of a package's workspace, where the package asks that for a dependency or for its edition.
 fn workspace_of(
     rt: &HostRuntime,
     own: &ManifestFile,
@@ -67,6 +70,14 @@ fn workspace_of(
     match own.workspace_path(rt)? {
         Some(path) => Ok(Some(read_manifest(rt, path)?)),
         None => Ok(None),
+    }
+}
+
+/// The edition of a package; none where its workspace should say it, and doesn't.
+fn edition_of(own: &ManifestFile, workspace: Option<&ManifestFile>) -> Option<Edition> {
+    match own.edition() {
+        Some(edition) => Some(edition),
+        None => workspace?.workspace_edition(),
     }
 }
 
@@ -106,11 +117,16 @@ impl Package {
         let alloc = rt.alloc();
         let own = read_manifest(rt, path)?;
         let workspace = workspace_of(rt, &own)?;
+        let Some(edition) = edition_of(&own, workspace.as_ref()) else {
+            let text = "its workspace, which should say its edition, doesn't";
+            return Err(fault_of(alloc, own.path(), text));
+        };
         Ok(Package {
             key,
             own,
             workspace,
             root: String::new(alloc),
+            edition,
             asked: Vec::new(alloc),
             with_default: false,
             with_all: false,
@@ -175,6 +191,7 @@ impl Package {
     fn into_crate(self, alloc: Global) -> Result<PackageCrate, AllocError> {
         let Package {
             root,
+            edition,
             on,
             links,
             ..
@@ -188,6 +205,7 @@ impl Package {
         Ok(PackageCrate {
             root,
             features: on,
+            edition,
             crates,
         })
     }

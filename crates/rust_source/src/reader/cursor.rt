@@ -5,6 +5,7 @@ ghost use Rattle.rust_source.specs.Reading.{read_as};
 ghost use Rattle.rust_source.specs.Until.{until, up_to};
 ghost use Rattle.rust_source.specs.Cursor.{behind_group, comma_passed, fault, group_passed, inside, is_cut, is_done, is_group, is_lifetime, is_named_next, is_next, is_nth, is_nth_pair, is_pair, is_punct, is_keyword_next, kind_of_token, next_kind, nth, passed, place, place_behind, place_behind_start, token_text, touch, tree_passed};
 
+use crate::edition::Edition;
 use crate::fault::{SourceFault, SourceFaultKind};
 use crate::place::Place;
 use crate::tokens::keyword::Keyword;
@@ -28,6 +29,8 @@ pub(crate) struct Cursor<'a> {
     pub tokens: &'a [Token],
     /// Those of its calls of `cfg!` that are decided.
     pub calls: &'a [CfgCall],
+    /// The edition that it is read by.
+    pub edition: Edition,
     /// The place of the source's first byte.
     pub start: u32,
     /// The index of the next token.

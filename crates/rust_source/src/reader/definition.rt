@@ -21,7 +21,7 @@ use crate::reader::fields::{read_fields, read_value, read_variants};
 use crate::reader::generics::{pass_asked, read_parameters, read_where};
 use crate::reader::lifetimes::lifetimes_declared;
 use crate::reader::naming::{is_named, take_name};
-use crate::reader::types::read_type;
+use crate::reader::types::{read_type, with_bounds};
 use crate::tokens::keyword::Keyword;
 use crate::tokens::token::Bracket;
 
@@ -184,7 +184,8 @@ fn read_alias(names: &mut Names, cursor: &mut Cursor<'_>) -> Result<Definition, 
         (texts names.new) result }
 {
     let head = read_alias_head(names, cursor)?;
-    let ty = read_type(names, cursor, most_nested())?;
+    let first = read_type(names, cursor, most_nested())?;
+    let ty = with_bounds(cursor, first);
     expect(cursor, b';', SourceFaultKind::ExpectedSemicolon)?;
     let kind = ItemKind::Alias(ty);
     Ok(Definition { head, kind })

@@ -21,7 +21,7 @@ use crate::reader::depth::most_nested;
 use crate::reader::expressions::read_whole;
 use crate::reader::naming::take_name;
 use crate::reader::repeated::{refuse_repeated_fields, refuse_repeated_variants};
-use crate::reader::types::read_type;
+use crate::reader::types::{read_type, with_bounds};
 use crate::syntax::Expr;
 use crate::tokens::as_place;
 use crate::tokens::keyword::Keyword;
@@ -76,7 +76,8 @@ fn read_field_type(
         (field_typed name at cursor.old (texts names.old)) (texts names.new) result }
 {
     let start = place(cursor);
-    let ty = read_type(names, cursor, most_nested())?;
+    let first = read_type(names, cursor, most_nested())?;
+    let ty = with_bounds(cursor, first);
     let end = place_behind(cursor);
     Ok(Field {
         name,

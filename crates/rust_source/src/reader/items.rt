@@ -5,12 +5,13 @@ ghost use Rattle.rust_source.specs.Cursor.{inside, next_kind};
 ghost use Rattle.rust_source.specs.Growth.{KeepsItems};
 ghost use Rattle.rust_source.specs.Having.{item_of_module, with_item};
 ghost use Rattle.rust_source.specs.Items.{item_of, items_as_read};
-ghost use Rattle.rust_source.specs.Modules.{all_read, call_read, items_of_call, is_item_word, is_macro, is_passed_over, item_read, items_within, may_have_repr, module_by, module_of, module_read, module_within, next_read, one_read, other_read, over_passed, passes_kind, path_passed, renames_crate, repr_judged, root_read, standing_read, use_read};
+ghost use Rattle.rust_source.specs.Modules.{all_read, call_read, items_of_call, is_item_word, is_macro, is_passed_over, item_read, items_within, may_have_repr, module_by, module_of, module_read, module_within, names_crate, next_read, one_read, other_read, over_passed, passes_kind, path_passed, place_of_use, repr_judged, root_read, standing_read, use_read};
 ghost use Rattle.rust_source.specs.Names.{texts};
 ghost use Rattle.rust_source.specs.Reading.{Reads};
 ghost use Rattle.rust_source.specs.Simple.{most_nested};
 ghost use Rattle.rust_source.specs.Definition.{definition_of};
 
+use crate::edition::Edition;
 use crate::fault::{SourceFault, SourceFaultKind};
 use crate::item::{Item, Items, Module};
 use crate::names::Names;
@@ -36,7 +37,7 @@ use crate::reader::repr::refuse_repr;
 use crate::reader::traits::read_trait;
 use crate::reader::unread::{one_item, pass_unread, put_unread};
 use crate::reader::uses::{UseContext, UsePlace, read_tree};
-use crate::reader::visibility::{Standing, read_visibility, rules_in};
+use crate::reader::visibility::{Standing, is_in_crate, read_visibility, rules_in};
 use crate::reader::wrappers::{MacroPlace, read_macro, wrapped_items};
 use crate::tokens::as_place;
 use crate::tokens::keyword::Keyword;
@@ -98,19 +99,36 @@ pub(crate) fn put_item(
     Ok(())
 }
 
-/// Whether another crate is next under a name of its own: `extern crate a as b`.
-#[tactic(auto, unfolding(crate::specs::Modules::renames_crate))]
-fn renames_crate(cursor: &Cursor<'_>) -> bool
-    ensures { result ≡ renames_crate cursor.now }
+/// Whether another crate is next by its name: `extern crate a`, which `as b` may follow.
+#[tactic(auto, unfolding(crate::specs::Modules::names_crate))]
+fn names_crate(cursor: &Cursor<'_>) -> bool
+    ensures { result ≡ names_crate cursor.now }
 {
     let mut behind_extern = *cursor;
-    let mut behind_name = *cursor;
     pass(&mut behind_extern, 1);
-    pass(&mut behind_name, 3);
     is_word(cursor, Keyword::Extern)
         && is_word(&behind_extern, Keyword::Crate)
         && is_named_next(&behind_extern)
-        && is_word(&behind_name, Keyword::As)
+}
+
+/// Where the path of a `use` begins, or of an `extern crate`, which is global. Where the root of the crate isn't read, one that
+/// begins there has no names but those of other crates.
+fn place_of_use(
+    modules: &[Module],
+    edition: Edition,
+    standing: Standing,
+    is_global: bool,
+) -> UsePlace
+    ensures { result ≡ place_of_use modules.now edition standing is_global }
+{
+    let is_old = !is_global && edition.is_2015();
+    let is_known = is_in_crate(modules, standing.module);
+    UsePlace {
+        module: standing.module,
+        visible_in: standing.visible_in,
+        is_global: is_global || is_old && !is_known,
+        is_from_root: is_old && is_known,
+    }
 }
 
 /// Reads what is brought in, behind `use`, or behind `extern crate`, whose path is global.
@@ -126,11 +144,7 @@ fn read_use(
     ensures read { Reads (λ _. cursor.new) (use_read is_global standing cursor.old (texts names.old, items_as_read items.old))
         (texts names.new, items_as_read items.new) result }
 {
-    let place = UsePlace {
-        module: standing.module,
-        visible_in: standing.visible_in,
-        is_global,
-    };
+    let place = place_of_use(&items.modules, cursor.edition, standing, is_global);
     let context = UseContext {
         place,
         depth_left: most_nested(),
@@ -237,7 +251,7 @@ fn read_other(
     if take_word(cursor, Keyword::Use) {
         return read_use(names, items, standing, false, cursor);
     }
-    if renames_crate(cursor) {
+    if names_crate(cursor) {
         pass(cursor, 2);
         return read_use(names, items, standing, true, cursor);
     }
@@ -297,11 +311,12 @@ fn refuse_misplaced_repr(said: &Attributes, cursor: &Cursor<'_>) -> Result<(), S
 /// A module of this name, in the one that it stands in.
 fn module_of(
     modules: &[Module],
+    edition: Edition,
     context: &ItemContext,
     name: Symbol,
     path: Option<Symbol>,
 ) -> Module
-    ensures { result ≡ module_of modules.now context.now.standing context.now.said.uses_macros name path }
+    ensures { result ≡ module_of modules.now edition context.now.standing context.now.said.uses_macros name path }
 {
     let outer = context.standing.module;
     Module {
@@ -311,6 +326,8 @@ fn module_of(
         path,
         shares_macros: context.said.uses_macros && shares_macros(modules, outer),
         entry: entry_of(modules, outer),
+        edition,
+        is_trait: false,
     }
 }
 
@@ -376,7 +393,7 @@ fn read_module(
     let (name, at) = take_name(names, cursor)?;
     let path = add_path(names, cursor, context.said.path)?;
     let named = NamedModule {
-        module: module_of(&items.modules, context, name, path),
+        module: module_of(&items.modules, cursor.edition, context, name, path),
         at,
         depth_left: context.depth_left,
     };
@@ -596,7 +613,7 @@ pub(crate) fn read_root(
     ensures read { Reads (λ root. root) (root_read rules.now root cursor.old (texts names.old, items_as_read items.old))
         (texts names.new, items_as_read items.new) result }
 {
-    let module = open_root(items, root)?;
+    let module = open_root(items, cursor.edition, root)?;
     read_module_items(rules, names, items, module, cursor)?;
     Ok(module.number)
 }

@@ -9,6 +9,7 @@ ghost use Rattle.rust_source.specs.Names.{texts};
 ghost use Rattle.rust_source.specs.Outlines.{number_of_root, outline_read, path_named, quote_at, room_in, room_of_root, root_room, unquoted, with_root};
 ghost use Rattle.rust_source.specs.Reading.{Reads};
 
+use crate::edition::Edition;
 use crate::fault::{SourceFault, SourceFaultKind};
 use crate::item::{Items, Module, Outline};
 use crate::names::Names;
@@ -183,12 +184,12 @@ fn mark_read(are_read: &mut Vec<bool>, number: u32)
     }
 }
 
-/// Begins a root module of this name.
-fn begin_root(items: &mut Items, name: Symbol) -> Result<u32, SourceFault>
+/// Begins a root module of this name, whose source is of the edition.
+fn begin_root(items: &mut Items, edition: Edition, name: Symbol) -> Result<u32, SourceFault>
     ensures kept { KeepsItems items.old items.new }
     ensures number { IfOk result (λ number. number ≡ next_module (items_as_read items.old)) }
     ensures ok { IfOk result (λ _. items_as_read items.new
-        ≡ with_root (SourceRoot.New name) (items_as_read items.old)) }
+        ≡ with_root edition (SourceRoot.New name) (items_as_read items.old)) }
     ensures err { IfErr result (λ fault. fault.kind ≡ SourceFaultKind.OutOfMemory) }
 {
     let one = Module {
@@ -198,21 +199,27 @@ fn begin_root(items: &mut Items, name: Symbol) -> Result<u32, SourceFault>
         path: None,
         shares_macros: true,
         entry: None,
+        edition,
+        is_trait: false,
     };
     begin_module(items, one, true)
 }
 
-/// The module into which a source's items go, which is begun where it is a new one.
-pub(crate) fn open_root(items: &mut Items, root: SourceRoot) -> Result<OpenModule, SourceFault>
+/// The module into which the items of a source of the edition go, which is begun where it is a new one.
+pub(crate) fn open_root(
+    items: &mut Items,
+    edition: Edition,
+    root: SourceRoot,
+) -> Result<OpenModule, SourceFault>
     ensures kept { KeepsItems items.old items.new }
     ensures number { IfOk result (λ found. found.number ≡ number_of_root root (items_as_read items.old)) }
     ensures room { IfOk result (λ found. found.depth_left ≡ room_of_root root (items_as_read items.old)) }
-    ensures ok { IfOk result (λ _. items_as_read items.new ≡ with_root root (items_as_read items.old)) }
+    ensures ok { IfOk result (λ _. items_as_read items.new ≡ with_root edition root (items_as_read items.old)) }
     ensures err { IfErr result (λ fault. fault.kind ≡ SourceFaultKind.OutOfMemory) }
 {
     match root {
         SourceRoot::New(name) => {
-            let number = begin_root(items, name)?;
+            let number = begin_root(items, edition, name)?;
             Ok(OpenModule {
                 number,
                 depth_left: root_room(),

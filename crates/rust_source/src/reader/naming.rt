@@ -5,26 +5,27 @@ ghost use Rattle.rust_source.specs.Cursor.{next_kind, nth, token_text};
 ghost use Rattle.rust_source.specs.Names.{texts};
 ghost use Rattle.rust_source.specs.Reading.{Reads, bare_or, bare_text, is_named, is_path_name, name, name_in, name_text, path_name, path_word, word_in, word_text};
 
+use crate::edition::Edition;
 use crate::fault::{SourceFault, SourceFaultKind};
 use crate::names::Names;
 use crate::place::{Place, Symbol};
 use crate::reader::cursor::{Cursor, fault, is_cut, next_kind, nth, pass, place, text_of};
-use crate::tokens::keyword::{Keyword, keyword_of};
+use crate::tokens::keyword::{Keyword, word_of_edition};
 use crate::tokens::token::{Token, TokenKind};
 
 /// How many bytes `r#` has.
 const RAW_MARK: usize = 2;
 
-/// The text of a raw name, without its `r#` where it is no keyword.
+/// The text of a raw name, without its `r#` where it is no keyword of the edition.
 #[tactic(auto, unfolding(crate::specs::Reading::bare_text))]
-fn bare_text(text: &str) -> &str
-    ensures { result.now ≡ bare_text text.now }
+fn bare_text(edition: Edition, text: &str) -> &str
+    ensures { result.now ≡ bare_text edition text.now }
 {
     if !is_cut(text, RAW_MARK) {
         return text;
     }
     let bare = &text[RAW_MARK..];
-    match keyword_of(bare.as_bytes()) {
+    match word_of_edition(edition, bare.as_bytes()) {
         Some(_) => text,
         None => bare,
     }
@@ -32,11 +33,11 @@ fn bare_text(text: &str) -> &str
 
 /// The text of a name, without its `r#` where it is no keyword.
 fn name_text<'a>(cursor: &Cursor<'a>, token: Token) -> &'a str
-    ensures { result.now ≡ name_text (token_text cursor.now token) token.kind }
+    ensures { result.now ≡ name_text cursor.now.edition (token_text cursor.now token) token.kind }
 {
     let text = text_of(cursor, token);
     match token.kind {
-        TokenKind::RawName => bare_text(text),
+        TokenKind::RawName => bare_text(cursor.edition, text),
         _ => text,
     }
 }
@@ -74,7 +75,7 @@ pub(crate) fn word_text<'a>(cursor: &Cursor<'a>) -> &'a str
     match nth(cursor, 0) {
         Some(token) => match token.kind {
             TokenKind::Name | TokenKind::Keyword(_) => text_of(cursor, token),
-            TokenKind::RawName => bare_text(text_of(cursor, token)),
+            TokenKind::RawName => bare_text(cursor.edition, text_of(cursor, token)),
             _ => "",
         },
         None => "",

@@ -9,11 +9,11 @@ ghost use Rattle.rust_source.specs.Reading.{Reads};
 ghost use Rattle.rust_source.specs.Simple.{is_literal};
 ghost use Rattle.rust_source.specs.Tokens.{Yields};
 ghost use Rattle.rust_source.specs.Syntax.{argument_of, path, path_as_read, segment_of, segments as segments_of, type_of, with_segment};
-ghost use Rattle.rust_source.specs.Terms.{argument, argument_behind, argument_more, arguments_begin, arguments_by, arguments_read, constant_read, readers, is_binding, path_read, qualified_on, segment_read, value_path};
+ghost use Rattle.rust_source.specs.Terms.{argument, argument_behind, argument_more, arguments_begin, arguments_by, arguments_read, constant_read, crate_at, readers, is_binding, path_read, qualified_on, segment_read, value_path};
 
 use crate::fault::{SourceFault, SourceFaultKind};
 use crate::names::Names;
-use crate::place::Place;
+use crate::place::{Place, Symbol};
 use crate::reader::cursor::{
     Cursor, expect, fault, is_lifetime, is_next, is_nth, is_nth_pair, is_pair, pass, place, take,
     take_group, take_pair,
@@ -22,7 +22,7 @@ use crate::reader::expressions::{is_literal, read_signed, read_whole};
 use crate::reader::lifetimes::lifetimes_next;
 use crate::reader::naming::take_path_name;
 use crate::reader::passing::pass_bounds;
-use crate::reader::types::read_type;
+use crate::reader::types::{read_type, with_bounds};
 use crate::syntax::{Argument, Path, Segment, Type};
 use crate::tokens::token::Bracket;
 use std::alloc::Global;
@@ -60,6 +60,24 @@ fn path_of(is_global: bool, segments: Vec<Segment>) -> Path
     }
 }
 
+/// The name that a path begins with, behind which those stand that are written: `crate`, or none.
+fn begin_path(alloc: Global, is_from_root: bool, at: Place) -> Result<Vec<Segment>, SourceFault>
+    ensures ok { IfOk result (λ all. map segment_of all.items ≡ (if is_from_root then crate_at at ∷ [] else [])) }
+    ensures err { IfErr result (λ fault. fault.kind ≡ SourceFaultKind.OutOfMemory) }
+{
+    let mut all = Vec::new(alloc);
+    if is_from_root {
+        let one = Segment {
+            name: Symbol::CRATE,
+            at,
+            lifetimes: 0,
+            arguments: Vec::new(alloc),
+        };
+        push_segment(&mut all, one)?;
+    }
+    Ok(all)
+}
+
 /// A path. In a type its arguments need no `::` before them.
 #[cycle(terms)]
 #[tactic(auto, unfolding(crate::specs::Terms::path_read), using(crate::proofs::Depths::path_more, crate::proofs::Depths::path_done))]
@@ -72,8 +90,9 @@ pub(crate) fn read_path(
     ensures { Reads (λ path. (path_as_read path, cursor.new))
         (path_read (readers depth_left) in_type cursor.old (texts names.old)) (texts names.new) result }
 {
-    let is_global = take_pair(cursor, b':', b':');
-    let mut segments = Vec::new(names.alloc());
+    let is_from_root = is_pair(cursor, b':', b':') && cursor.edition.is_2015();
+    let mut segments = begin_path(names.alloc(), is_from_root, place(cursor))?;
+    let is_global = take_pair(cursor, b':', b':') && !is_from_root;
     let turns = cursor.end.saturating_sub(cursor.at);
     for turn in 0..turns {
         let one = read_segment(names, cursor, in_type, depth_left)?;
@@ -291,6 +310,7 @@ pub(crate) fn read_argument(
         return read_constant(names.alloc(), cursor);
     }
     let at = place(cursor);
-    let ty = read_type(names, cursor, depth_left)?;
+    let first = read_type(names, cursor, depth_left)?;
+    let ty = with_bounds(cursor, first);
     Ok(argument_behind(cursor, ty, at))
 }

@@ -195,7 +195,7 @@ fn read_signature(
     Ok(all)
 }
 
-/// A function pointer, or a trait behind `for<'a>`.
+/// A function pointer, or a trait behind `for<'a>`, where that needs no `dyn`.
 #[cycle(terms)]
 #[tactic(auto, unfolding(crate::specs::Terms::function_read))]
 pub(crate) fn read_function_pointer(
@@ -208,6 +208,9 @@ pub(crate) fn read_function_pointer(
 {
     let is_extern = pass_before_function(cursor);
     if !take_word(cursor, Keyword::Fn) {
+        if !cursor.edition.is_before_2021() {
+            return Err(fault(cursor, SourceFaultKind::ExpectedType));
+        }
         let _ = pass_bounds(cursor);
         return Ok(Type::Dyn);
     }

@@ -7,6 +7,7 @@ ghost use Rattle.rust_source.specs.Names.{texts};
 ghost use Rattle.rust_source.specs.Reading.{Reads};
 ghost use Rattle.rust_source.specs.Traits.{before_trait, trait_of, trait_read};
 
+use crate::edition::Edition;
 use crate::fault::SourceFault;
 use crate::item::{Items, Module};
 use crate::names::Names;
@@ -29,8 +30,8 @@ fn pass_before_trait(cursor: &mut Cursor<'_>)
 }
 
 /// A trait of this name, as a module whose items aren't read: its name is one of types and modules.
-fn trait_of(standing: Standing, name: Symbol) -> Module
-    ensures { result ≡ trait_of standing name }
+fn trait_of(edition: Edition, standing: Standing, name: Symbol) -> Module
+    ensures { result ≡ trait_of edition standing name }
 {
     Module {
         name,
@@ -39,6 +40,8 @@ fn trait_of(standing: Standing, name: Symbol) -> Module
         path: None,
         shares_macros: false,
         entry: None,
+        edition,
+        is_trait: true,
     }
 }
 
@@ -59,7 +62,9 @@ pub(crate) fn read_trait(
     if !take_word(&mut ahead, Keyword::Trait) {
         return Ok(());
     }
+    let edition = ahead.edition;
     let (name, _at) = take_name(names, &mut ahead)?;
-    let _number = begin_module(items, trait_of(standing, name), false)?;
+    let one = trait_of(edition, standing, name);
+    let _number = begin_module(items, one, false)?;
     Ok(())
 }

@@ -4,7 +4,7 @@ ghost use Rattle.std.specs.Prelude.{◌≡◌, [], ◌∷◌, ◌++◌, false, I
 ghost use Rattle.rust_source.specs.Reading.{Reads, read_as};
 ghost use Rattle.rust_source.specs.Names.{texts};
 ghost use Rattle.rust_source.specs.Terms.{readers, has_none, list_read, pointee_read, tuple_read, type_read, type_next};
-ghost use Rattle.rust_source.specs.Simple.{after_path, associated_passed, begins_path, lifetime_passed, pointed, pointing, pointing_to, pointings, simple, worded};
+ghost use Rattle.rust_source.specs.Simple.{after_path, associated_passed, begins_bound, begins_dyn, begins_path, has_inputs, is_path, lifetime_passed, object_read, pointed, pointing, pointing_to, pointings, simple, with_bounds, worded};
 ghost use Rattle.rust_source.specs.Syntax.{other_type, path_as_read, tuple, type_of, type_list};
 ghost use Rattle.rust_source.specs.Tokens.{Yields};
 ghost use Rattle.rust_source.specs.Cursor.{is_done, place};
@@ -13,12 +13,12 @@ use crate::fault::{SourceFault, SourceFaultKind};
 use crate::names::Names;
 use crate::place::Place;
 use crate::reader::cursor::{
-    Cursor, expect, expect_comma, fault, is_done, is_lifetime, is_next, is_pair, next_kind, pass,
-    pass_tree, place, take, take_group, take_pair, take_word,
+    Cursor, expect, expect_comma, fault, is_done, is_group, is_lifetime, is_next, is_pair, is_word,
+    next_kind, pass, pass_tree, place, take, take_group, take_pair, take_word,
 };
 use crate::reader::depth::{most_nested, one_level_deeper};
 use crate::reader::expressions::read_whole;
-use crate::reader::naming::is_path_name;
+use crate::reader::naming::{is_named, is_path_name};
 use crate::reader::passing::{pass_angles, pass_bounds};
 use crate::reader::paths::read_path;
 use crate::reader::signatures::{begins_function, read_function_pointer};
@@ -167,6 +167,44 @@ fn take_simple(cursor: &mut Cursor<'_>) -> Result<Type, SourceFault>
     }
 }
 
+/// Whether a bound is next, as one stands behind `dyn`.
+#[tactic(auto, unfolding(crate::specs::Simple::begins_bound))]
+fn begins_bound(cursor: &Cursor<'_>) -> bool
+    ensures { result ≡ begins_bound cursor.now }
+{
+    is_path_name(cursor)
+        || is_lifetime(cursor)
+        || is_next(cursor, b'?')
+        || is_word(cursor, Keyword::For)
+        || is_group(cursor, Bracket::Round)
+}
+
+/// Whether a trait's object is next in the edition of 2015, in which `dyn` is a name, unless a bound stands behind it.
+#[tactic(auto, unfolding(crate::specs::Simple::begins_dyn))]
+fn begins_dyn(cursor: &Cursor<'_>) -> bool
+    ensures { result ≡ begins_dyn cursor.now }
+{
+    let mut behind = *cursor;
+    pass(&mut behind, 1);
+    is_named(cursor, "dyn") && begins_bound(&behind)
+}
+
+/// A trait's object, whose bounds are passed over.
+fn take_object(cursor: &mut Cursor<'_>) -> Type
+    ensures { (type_of result, cursor.new) ≡ object_read cursor.old }
+{
+    let _ = pass_bounds(cursor);
+    Type::Dyn
+}
+
+/// Whether the types that a trait's functions take stand behind its name, where that alone may be its object: `Fn(A) -> B`.
+#[tactic(auto, unfolding(crate::specs::Simple::has_inputs))]
+fn has_inputs(cursor: &Cursor<'_>) -> bool
+    ensures { result ≡ has_inputs cursor.now }
+{
+    cursor.edition.is_before_2021() && is_group(cursor, Bracket::Round)
+}
+
 /// The type that a path is, or the call of the macro that it names.
 #[tactic(auto, unfolding(crate::specs::Simple::after_path))]
 fn after_path(cursor: &mut Cursor<'_>, path: Path, at: Place) -> Type
@@ -174,10 +212,33 @@ fn after_path(cursor: &mut Cursor<'_>, path: Path, at: Place) -> Type
 {
     if take(cursor, b'!') {
         pass_tree(cursor);
-        Type::Unevaluated(Unevaluated::Macro, at)
-    } else {
-        Type::Path(path)
+        return Type::Unevaluated(Unevaluated::Macro, at);
     }
+    if has_inputs(cursor) {
+        return take_object(cursor);
+    }
+    Type::Path(path)
+}
+
+/// Whether a type is a path.
+fn is_path(ty: &Type) -> bool
+    ensures { result ≡ is_path (type_of ty.now) }
+{
+    match ty {
+        Type::Path(_) => true,
+        _ => false,
+    }
+}
+
+/// The type with the bounds behind it, which make it a trait's object where that needs no `dyn`: `A + B`.
+#[tactic(auto, unfolding(crate::specs::Simple::with_bounds))]
+pub(crate) fn with_bounds(cursor: &mut Cursor<'_>, ty: Type) -> Type
+    ensures { (type_of result, cursor.new) ≡ with_bounds (type_of ty) cursor.old }
+{
+    if cursor.edition.is_before_2021() && is_next(cursor, b'+') && is_path(&ty) {
+        return take_object(cursor);
+    }
+    ty
 }
 
 /// Whether a path is next.
@@ -236,6 +297,9 @@ fn read_target(
     if let Some(mut inside) = take_group(cursor, Bracket::Square) {
         return read_list(names, &mut inside, depth_left);
     }
+    if begins_dyn(cursor) {
+        return Ok(take_object(cursor));
+    }
     if begins_path(cursor) {
         let at = place(cursor);
         let path = read_path(names, cursor, true, depth_left)?;
@@ -289,7 +353,8 @@ fn read_tuple(
         if is_done(inside) {
             return Ok(tuple(all));
         }
-        let one = read_type(names, inside, depth_left)?;
+        let first = read_type(names, inside, depth_left)?;
+        let one = with_bounds(inside, first);
         if is_alone(&all, inside) {
             return Ok(one);
         }

@@ -6,26 +6,29 @@ ghost use Rattle.rust_source.specs.Growth.{BeginsWith};
 ghost use Rattle.rust_source.specs.Items.{use_of};
 ghost use Rattle.rust_source.specs.Names.{texts};
 ghost use Rattle.rust_source.specs.Reading.{Reads};
-ghost use Rattle.rust_source.specs.Uses.{begins_globally, glob, group_read, is_named_self, last, names_read, path_used, used_place, rename_read, tree_on, tree_read, tree_with, without_self};
+ghost use Rattle.rust_source.specs.Uses.{begins_globally, from_root, glob, group_read, is_named_self, last, names_read, path_meant, path_used, place_of_path, says_where, used_place, rename_read, tree_on, tree_read, tree_with, without_self};
 
 use crate::fault::{SourceFault, SourceFaultKind};
 use crate::item::{Use, UsedName};
 use crate::names::Names;
-use crate::place::Symbol;
+use crate::place::{Place, Symbol};
 use crate::reader::cursor::{
-    Cursor, expect_comma, fault, is_done, take, take_group, take_pair, take_word,
+    Cursor, expect_comma, fault, is_done, is_next, pass, place, take_group, take_pair, take_word,
 };
 use crate::reader::depth::one_level_deeper;
 use crate::reader::naming::{is_path_name, take_name, take_path_name};
 use crate::tokens::keyword::Keyword;
 use crate::tokens::token::Bracket;
 
-/// Where a `use` stands and what it brings in may be used, and whether its path begins with `::`.
+/// Where a `use` stands and what it brings in may be used, and where its path begins.
 #[derive(Clone, Copy)]
 pub(crate) struct UsePlace {
     pub module: u32,
     pub visible_in: Option<u32>,
+    /// Whether the path begins with `::`.
     pub is_global: bool,
+    /// Whether it begins at the root of the crate, with `::` or without, as in the edition of 2015.
+    pub is_from_root: bool,
 }
 
 /// Where what a `use` brings in is read.
@@ -97,6 +100,54 @@ fn put_use(uses: &mut Vec<Use>, one: Use) -> Result<(), SourceFault>
     Ok(())
 }
 
+/// Whether a path says by its first name where it begins: `crate`, `self`, `super` or `Self`.
+fn says_where(path: &[UsedName]) -> bool
+    ensures { result ≡ says_where path.now }
+{
+    match path.first() {
+        Some(first) => first.name.0 <= Symbol::SELF_TYPE.0,
+        None => false,
+    }
+}
+
+/// Where a path begins: its first name, or what is next where it has none.
+fn place_of_path(cursor: &Cursor<'_>, path: &[UsedName]) -> Place
+    ensures { result ≡ place_of_path cursor.now path.now }
+{
+    match path.first() {
+        Some(first) => first.at,
+        None => place(cursor),
+    }
+}
+
+/// The path from the root of the crate on: with `crate` in front, unless its first name says where it begins.
+pub(crate) fn put_root(cursor: &Cursor<'_>, path: &mut Vec<UsedName>) -> Result<(), SourceFault>
+    ensures ok { IfOk result (λ _. path.new.items ≡ from_root cursor.now path.old.items) }
+    ensures err { IfErr result (λ fault. fault.kind ≡ SourceFaultKind.OutOfMemory) }
+{
+    if !says_where(path) {
+        let at = place_of_path(cursor, path);
+        let name = Symbol::CRATE;
+        path.insert(0, UsedName { name, at })?;
+    }
+    Ok(())
+}
+
+/// The path as it is meant where it stands: from the root of the crate on, if it begins there.
+fn put_begin(
+    place: UsePlace,
+    cursor: &Cursor<'_>,
+    path: &mut Vec<UsedName>,
+) -> Result<(), SourceFault>
+    ensures ok { IfOk result (λ _. path.new.items ≡ path_meant place cursor.now path.old.items) }
+    ensures err { IfErr result (λ fault. fault.kind ≡ SourceFaultKind.OutOfMemory) }
+{
+    if place.is_from_root {
+        put_root(cursor, path)?;
+    }
+    Ok(())
+}
+
 /// Puts a path of a `use`, behind its last name, into the uses.
 #[tactic(auto, unfolding(crate::specs::Uses::path_used))]
 fn put_path(
@@ -115,6 +166,7 @@ fn put_path(
     let Some(last) = last_name(&path) else {
         return Err(fault(cursor, SourceFaultKind::ExpectedUse));
     };
+    put_begin(place, cursor, &mut path)?;
     let name = read_rename(names, cursor, Some(last.name))?;
     let one = Use {
         module: place.module,
@@ -226,7 +278,10 @@ fn read_glob_or_group(
         (tree_on (tree_read context.depth_left) context.place (path.items, false) cursor.old (texts names.old, map use_of uses.old.items))
         (texts names.new, map use_of uses.new.items) result }
 {
-    if take(cursor, b'*') {
+    if is_next(cursor, b'*') {
+        let mut path = path;
+        put_begin(context.place, cursor, &mut path)?;
+        pass(cursor, 1);
         return put_use(uses, glob(context.place, path));
     }
     let Some(mut inside) = take_group(cursor, Bracket::Curly) else {

@@ -10,9 +10,9 @@ use crate::item::{Module, UsedName};
 use crate::names::Names;
 use crate::place::Symbol;
 use crate::reader::attributes::Rules;
-use crate::reader::cursor::{Cursor, fault, is_done, take_group, take_word};
+use crate::reader::cursor::{Cursor, fault, is_done, take_group, take_pair, take_word};
 use crate::reader::fields::is_restriction;
-use crate::reader::uses::read_names;
+use crate::reader::uses::{put_root, read_names};
 use crate::tokens::keyword::Keyword;
 use crate::tokens::token::Bracket;
 
@@ -114,7 +114,7 @@ fn steps(
 }
 
 /// Whether the source that the module with this number stands in is the root of a crate, which `crate` names.
-fn is_in_crate(modules: &[Module], number: u32) -> bool
+pub(crate) fn is_in_crate(modules: &[Module], number: u32) -> bool
     ensures { result ≡ is_in_crate modules.now number }
 {
     has_name(modules, root_around(modules, number), Symbol::CRATE)
@@ -185,7 +185,7 @@ fn restricted(
     }
 }
 
-/// The module that the path names which is all that is left.
+/// The module that the path names which is all that is left; it begins at the root of the crate in the edition of 2015.
 #[tactic(auto, unfolding(crate::specs::Visibility::path_restricts))]
 fn read_restricting(
     names: &mut Names,
@@ -198,7 +198,14 @@ fn read_restricting(
 {
     let outside = fault(cursor, SourceFaultKind::VisibilityOutside);
     let mut path = Vec::new(names.alloc());
+    let is_from_root = cursor.edition.is_2015();
+    if is_from_root {
+        let _ = take_pair(cursor, b':', b':');
+    }
     let is_whole = read_names(names, cursor, &mut path)?;
+    if is_from_root {
+        put_root(cursor, &mut path)?;
+    }
     if is_whole && is_done(cursor) {
         restricted(modules, number, &path, outside)
     } else {

@@ -1,13 +1,16 @@
 //! Keywords.
 
 ghost use Rattle.std.specs.Prelude.{◌≡◌, map};
-ghost use Rattle.rust_source.specs.Keywords.{keyword_entry, keyword_in, keyword_of};
+ghost use Rattle.rust_source.specs.Keywords.{is_keyword_of, keyword_entry, keyword_in, keyword_of, word_of_edition};
+
+use crate::edition::Edition;
 
 /// A keyword of the language.
 #[derive(Clone, Copy, PartialEq, Eq)]
 pub(crate) enum Keyword {
     As,
     Async,
+    Await,
     Const,
     Crate,
     Dyn,
@@ -17,6 +20,7 @@ pub(crate) enum Keyword {
     False,
     Fn,
     For,
+    Gen,
     If,
     Impl,
     In,
@@ -32,6 +36,7 @@ pub(crate) enum Keyword {
     Super,
     Trait,
     True,
+    Try,
     Type,
     Underscore,
     Unsafe,
@@ -42,7 +47,7 @@ pub(crate) enum Keyword {
 }
 
 /// How many words are keywords.
-const COUNT: usize = 52;
+const COUNT: usize = 53;
 
 /// The keywords, as they are written.
 static WORDS: [(&str, Keyword); COUNT] = [
@@ -75,7 +80,7 @@ static WORDS: [(&str, Keyword); COUNT] = [
     ("unsafe", Keyword::Unsafe),
     ("use", Keyword::Use),
     ("where", Keyword::Where),
-    ("await", Keyword::Reserved),
+    ("await", Keyword::Await),
     ("break", Keyword::Reserved),
     ("continue", Keyword::Reserved),
     ("let", Keyword::Let),
@@ -94,10 +99,11 @@ static WORDS: [(&str, Keyword); COUNT] = [
     ("macro", Keyword::Reserved),
     ("override", Keyword::Reserved),
     ("priv", Keyword::Reserved),
-    ("try", Keyword::Reserved),
+    ("try", Keyword::Try),
     ("typeof", Keyword::Reserved),
     ("unsized", Keyword::Reserved),
     ("virtual", Keyword::Reserved),
+    ("gen", Keyword::Gen),
 ];
 
 /// The first keyword of a table that a word is.
@@ -112,9 +118,32 @@ fn keyword_in(table: &[(&'static str, Keyword)], word: &[u8]) -> Option<Keyword>
     None
 }
 
-/// The keyword that a word is.
+/// The keyword that a word is in some edition.
 pub(crate) fn keyword_of(word: &[u8]) -> Option<Keyword>
     ensures { result ≡ keyword_of word.now }
 {
     keyword_in(&WORDS, word)
+}
+
+/// Whether a keyword is one in an edition (Rust Reference, "Keywords").
+fn is_keyword_of(edition: Edition, keyword: Keyword) -> bool
+    ensures { result ≡ is_keyword_of edition keyword }
+{
+    match keyword {
+        Keyword::Async | Keyword::Await | Keyword::Dyn | Keyword::Try => !edition.is_2015(),
+        Keyword::Gen => edition.is_2024(),
+        _ => true,
+    }
+}
+
+/// The keyword that a word is in an edition.
+pub(crate) fn word_of_edition(edition: Edition, word: &[u8]) -> Option<Keyword>
+    ensures { result ≡ word_of_edition edition word.now }
+{
+    let keyword = keyword_of(word)?;
+    if is_keyword_of(edition, keyword) {
+        Some(keyword)
+    } else {
+        None
+    }
 }
