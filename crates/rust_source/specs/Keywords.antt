@@ -1,5 +1,5 @@
 -- The keywords of the language.
-use Rattle.std.specs.Prelude.{ℕ, Bool, true, not, codes, List, [], ◌∷◌, Option, None, Some, if◌then◌else◌}
+use Rattle.std.specs.Prelude.{ℕ, ◌==◌, Bool, true, not, codes, List, [], ◌∷◌, length, Option, None, Some, if◌then◌else◌}
 use Rattle.std.specs.Borrow.{Bor}
 use Rattle.std.specs.Str.{bytes_eq}
 use Rattle.rust_source.specs.declared.edition.Edition.{Edition}
@@ -7,63 +7,79 @@ use Rattle.rust_source.specs.declared.tokens.keyword.Keyword.{Keyword}
 use Rattle.rust_source.specs.declared.tokens.keyword.Keyword.TheVariants as keyword
 use Rattle.rust_source.specs.Editions.{is_2015, is_2024}
 
--- the keywords of all editions, as they are written
-unfoldable pub keywords : List (List ℕ × Keyword)
-keywords =
+-- the keywords of all editions that have so many letters, as they are written
+unfoldable pub keywords : (letters : ℕ) → List (List ℕ × Keyword)
+keywords letters =
+    if letters == 1 then
+    (codes "_", keyword.Underscore) ∷
+    []
+    else (if letters == 2 then
     (codes "as", keyword.As) ∷
-    (codes "async", keyword.Async) ∷
-    (codes "const", keyword.Const) ∷
-    (codes "crate", keyword.Crate) ∷
-    (codes "dyn", keyword.Dyn) ∷
-    (codes "else", keyword.Else) ∷
-    (codes "enum", keyword.Enum) ∷
-    (codes "extern", keyword.Extern) ∷
-    (codes "false", keyword.False) ∷
+    (codes "do", keyword.Reserved) ∷
     (codes "fn", keyword.Fn) ∷
-    (codes "for", keyword.For) ∷
     (codes "if", keyword.If) ∷
-    (codes "impl", keyword.Impl) ∷
     (codes "in", keyword.In) ∷
+    []
+    else (if letters == 3 then
+    (codes "box", keyword.Reserved) ∷
+    (codes "dyn", keyword.Dyn) ∷
+    (codes "for", keyword.For) ∷
+    (codes "gen", keyword.Gen) ∷
+    (codes "let", keyword.Let) ∷
     (codes "mod", keyword.Mod) ∷
     (codes "mut", keyword.Mut) ∷
     (codes "pub", keyword.Pub) ∷
+    (codes "ref", keyword.Reserved) ∷
+    (codes "try", keyword.Try) ∷
+    (codes "use", keyword.Use) ∷
+    []
+    else (if letters == 4 then
+    (codes "else", keyword.Else) ∷
+    (codes "enum", keyword.Enum) ∷
+    (codes "impl", keyword.Impl) ∷
+    (codes "loop", keyword.Reserved) ∷
+    (codes "move", keyword.Reserved) ∷
+    (codes "priv", keyword.Reserved) ∷
     (codes "self", keyword.SelfValue) ∷
     (codes "Self", keyword.SelfType) ∷
-    (codes "static", keyword.Static) ∷
-    (codes "struct", keyword.Struct) ∷
-    (codes "super", keyword.Super) ∷
-    (codes "trait", keyword.Trait) ∷
     (codes "true", keyword.True) ∷
     (codes "type", keyword.Type) ∷
-    (codes "_", keyword.Underscore) ∷
-    (codes "unsafe", keyword.Unsafe) ∷
-    (codes "use", keyword.Use) ∷
-    (codes "where", keyword.Where) ∷
+    []
+    else (if letters == 5 then
+    (codes "async", keyword.Async) ∷
     (codes "await", keyword.Await) ∷
     (codes "break", keyword.Reserved) ∷
-    (codes "continue", keyword.Reserved) ∷
-    (codes "let", keyword.Let) ∷
-    (codes "loop", keyword.Reserved) ∷
-    (codes "match", keyword.Match) ∷
-    (codes "move", keyword.Reserved) ∷
-    (codes "ref", keyword.Reserved) ∷
-    (codes "return", keyword.Reserved) ∷
-    (codes "while", keyword.Reserved) ∷
-    (codes "yield", keyword.Reserved) ∷
-    (codes "become", keyword.Reserved) ∷
-    (codes "abstract", keyword.Reserved) ∷
-    (codes "box", keyword.Reserved) ∷
-    (codes "do", keyword.Reserved) ∷
+    (codes "const", keyword.Const) ∷
+    (codes "crate", keyword.Crate) ∷
+    (codes "false", keyword.False) ∷
     (codes "final", keyword.Reserved) ∷
     (codes "macro", keyword.Reserved) ∷
-    (codes "override", keyword.Reserved) ∷
-    (codes "priv", keyword.Reserved) ∷
-    (codes "try", keyword.Try) ∷
+    (codes "match", keyword.Match) ∷
+    (codes "super", keyword.Super) ∷
+    (codes "trait", keyword.Trait) ∷
+    (codes "where", keyword.Where) ∷
+    (codes "while", keyword.Reserved) ∷
+    (codes "yield", keyword.Reserved) ∷
+    []
+    else (if letters == 6 then
+    (codes "become", keyword.Reserved) ∷
+    (codes "extern", keyword.Extern) ∷
+    (codes "return", keyword.Reserved) ∷
+    (codes "static", keyword.Static) ∷
+    (codes "struct", keyword.Struct) ∷
     (codes "typeof", keyword.Reserved) ∷
+    (codes "unsafe", keyword.Unsafe) ∷
+    []
+    else (if letters == 7 then
     (codes "unsized", keyword.Reserved) ∷
     (codes "virtual", keyword.Reserved) ∷
-    (codes "gen", keyword.Gen) ∷
     []
+    else (if letters == 8 then
+    (codes "abstract", keyword.Reserved) ∷
+    (codes "continue", keyword.Reserved) ∷
+    (codes "override", keyword.Reserved) ∷
+    []
+    else [])))))))
 
 -- what a table of the program has at a place
 abbrev pub keyword_entry : Bor (List ℕ) × Keyword → List ℕ × Keyword
@@ -76,7 +92,7 @@ keyword_in (k ∷ ks) word = if bytes_eq k.0 word then Some k.1 else keyword_in 
 
 -- the keyword that the word is in some edition
 unfoldable pub keyword_of : (word : List ℕ) → Option Keyword
-keyword_of word = keyword_in keywords word
+keyword_of word = keyword_in (keywords (length word)) word
 
 -- a keyword is one in the edition: `async`, `await`, `dyn` and `try` since that of 2018, `gen` since that of 2024 (Rust Reference, "Keywords")
 abbrev pub is_keyword_of : Edition → Keyword → Bool

@@ -1,7 +1,7 @@
 //! Keywords.
 
 ghost use Rattle.std.specs.Prelude.{◌≡◌, map};
-ghost use Rattle.rust_source.specs.Keywords.{is_keyword_of, keyword_entry, keyword_in, keyword_of, word_of_edition};
+ghost use Rattle.rust_source.specs.Keywords.{is_keyword_of, keyword_entry, keyword_in, keyword_of, keywords, word_of_edition};
 
 use crate::edition::Edition;
 
@@ -46,65 +46,106 @@ pub(crate) enum Keyword {
     Reserved,
 }
 
-/// How many words are keywords.
-const COUNT: usize = 53;
+/// The keywords of one letter.
+static OF_ONE: [(&str, Keyword); 1] = [("_", Keyword::Underscore)];
 
-/// The keywords, as they are written.
-static WORDS: [(&str, Keyword); COUNT] = [
+/// The keywords of two letters.
+static OF_TWO: [(&str, Keyword); 5] = [
     ("as", Keyword::As),
-    ("async", Keyword::Async),
-    ("const", Keyword::Const),
-    ("crate", Keyword::Crate),
-    ("dyn", Keyword::Dyn),
-    ("else", Keyword::Else),
-    ("enum", Keyword::Enum),
-    ("extern", Keyword::Extern),
-    ("false", Keyword::False),
+    ("do", Keyword::Reserved),
     ("fn", Keyword::Fn),
-    ("for", Keyword::For),
     ("if", Keyword::If),
-    ("impl", Keyword::Impl),
     ("in", Keyword::In),
+];
+
+/// The keywords of three letters.
+static OF_THREE: [(&str, Keyword); 11] = [
+    ("box", Keyword::Reserved),
+    ("dyn", Keyword::Dyn),
+    ("for", Keyword::For),
+    ("gen", Keyword::Gen),
+    ("let", Keyword::Let),
     ("mod", Keyword::Mod),
     ("mut", Keyword::Mut),
     ("pub", Keyword::Pub),
+    ("ref", Keyword::Reserved),
+    ("try", Keyword::Try),
+    ("use", Keyword::Use),
+];
+
+/// The keywords of four letters.
+static OF_FOUR: [(&str, Keyword); 10] = [
+    ("else", Keyword::Else),
+    ("enum", Keyword::Enum),
+    ("impl", Keyword::Impl),
+    ("loop", Keyword::Reserved),
+    ("move", Keyword::Reserved),
+    ("priv", Keyword::Reserved),
     ("self", Keyword::SelfValue),
     ("Self", Keyword::SelfType),
-    ("static", Keyword::Static),
-    ("struct", Keyword::Struct),
-    ("super", Keyword::Super),
-    ("trait", Keyword::Trait),
     ("true", Keyword::True),
     ("type", Keyword::Type),
-    ("_", Keyword::Underscore),
-    ("unsafe", Keyword::Unsafe),
-    ("use", Keyword::Use),
-    ("where", Keyword::Where),
+];
+
+/// The keywords of five letters.
+static OF_FIVE: [(&str, Keyword); 14] = [
+    ("async", Keyword::Async),
     ("await", Keyword::Await),
     ("break", Keyword::Reserved),
-    ("continue", Keyword::Reserved),
-    ("let", Keyword::Let),
-    ("loop", Keyword::Reserved),
-    ("match", Keyword::Match),
-    ("move", Keyword::Reserved),
-    ("ref", Keyword::Reserved),
-    ("return", Keyword::Reserved),
-    ("while", Keyword::Reserved),
-    ("yield", Keyword::Reserved),
-    ("become", Keyword::Reserved),
-    ("abstract", Keyword::Reserved),
-    ("box", Keyword::Reserved),
-    ("do", Keyword::Reserved),
+    ("const", Keyword::Const),
+    ("crate", Keyword::Crate),
+    ("false", Keyword::False),
     ("final", Keyword::Reserved),
     ("macro", Keyword::Reserved),
-    ("override", Keyword::Reserved),
-    ("priv", Keyword::Reserved),
-    ("try", Keyword::Try),
+    ("match", Keyword::Match),
+    ("super", Keyword::Super),
+    ("trait", Keyword::Trait),
+    ("where", Keyword::Where),
+    ("while", Keyword::Reserved),
+    ("yield", Keyword::Reserved),
+];
+
+/// The keywords of six letters.
+static OF_SIX: [(&str, Keyword); 7] = [
+    ("become", Keyword::Reserved),
+    ("extern", Keyword::Extern),
+    ("return", Keyword::Reserved),
+    ("static", Keyword::Static),
+    ("struct", Keyword::Struct),
     ("typeof", Keyword::Reserved),
+    ("unsafe", Keyword::Unsafe),
+];
+
+/// The keywords of seven letters.
+static OF_SEVEN: [(&str, Keyword); 2] = [
     ("unsized", Keyword::Reserved),
     ("virtual", Keyword::Reserved),
-    ("gen", Keyword::Gen),
 ];
+
+/// The keywords of eight letters.
+static OF_EIGHT: [(&str, Keyword); 3] = [
+    ("abstract", Keyword::Reserved),
+    ("continue", Keyword::Reserved),
+    ("override", Keyword::Reserved),
+];
+
+/// The keywords of all editions that have so many letters, as they are written: most words are looked for among a few.
+#[tactic(auto, unfolding(crate::specs::Keywords::keywords))]
+fn keywords(letters: usize) -> &'static [(&'static str, Keyword)]
+    ensures { map keyword_entry result.now ≡ keywords letters }
+{
+    match letters {
+        1 => &OF_ONE,
+        2 => &OF_TWO,
+        3 => &OF_THREE,
+        4 => &OF_FOUR,
+        5 => &OF_FIVE,
+        6 => &OF_SIX,
+        7 => &OF_SEVEN,
+        8 => &OF_EIGHT,
+        _ => &[],
+    }
+}
 
 /// The first keyword of a table that a word is.
 fn keyword_in(table: &[(&'static str, Keyword)], word: &[u8]) -> Option<Keyword>
@@ -119,10 +160,11 @@ fn keyword_in(table: &[(&'static str, Keyword)], word: &[u8]) -> Option<Keyword>
 }
 
 /// The keyword that a word is in some edition.
+#[tactic(auto, unfolding(crate::specs::Keywords::keyword_of))]
 pub(crate) fn keyword_of(word: &[u8]) -> Option<Keyword>
     ensures { result ≡ keyword_of word.now }
 {
-    keyword_in(&WORDS, word)
+    keyword_in(keywords(word.len()), word)
 }
 
 /// Whether a keyword is one in an edition (Rust Reference, "Keywords").
