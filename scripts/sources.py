@@ -14,7 +14,7 @@ from breaking import break_text
 from schemas import faults_in
 
 # The options that both have: those with a word behind them, and those alone.
-NAMED, ALONE = ("--target", "--type", "--features", "--cfg"), ("--root", "--bytes", "--waste", "--strict")
+NAMED, ALONE = ("--target", "--type", "--features", "--cfg"), ("--root", "--bytes", "--waste", "--instances", "--strict")
 # Those that the program alone has, and that leave a document as it is.
 FORMS = ("--json", "--map", "--pretty", "--html", "--quiet")
 VALUES = 8

@@ -156,9 +156,9 @@ struct rustc_abi_file {
 
 /* Asks for the JSON document that `./types --json` writes of a crate's types (docs/types.schema.json), whose files these are, the
    root first; no other file is looked for. `asked` is lines, as the options of `./types`: `target TRIPLE`, `type TYPE`,
-   `features NAMES`, `cfg NAME` and `cfg NAME="VALUE"`, each as often as is wanted, `edition EDITION`, `root`, `bytes`, `waste`
-   and `strict`; and `parts`, which puts to each type what its parts are called. Answers the status: 0 where each type is
-   reported on, 1 where a layout is refused or memory was wanting, 2 where a source, a type or what is asked has a fault. What
+   `features NAMES`, `cfg NAME` and `cfg NAME="VALUE"`, each as often as is wanted, `edition EDITION`, `root`, `bytes`, `waste`,
+   `instances` and `strict`; and `parts`, which puts to each type what its parts are called. Answers the status: 0 where each type
+   is reported on, 1 where a layout is refused or memory was wanting, 2 where a source, a type or what is asked has a fault. What
    stops `./types` without a document is a fault in one without types here.
 
    `*needed` and `output` are as those of `abi_c_layout`. */

@@ -76,13 +76,13 @@ class Layouts:
             call.argtypes = [ctypes.POINTER(_File), *call.argtypes[1:]]
 
     def source(self, source: Source, target: str = "x86_64-unknown-linux-gnu", *, types: Sequence[str] = (), features: Sequence[str] = (),
-               cfg: Sequence[str] = (), edition: str = "2021", root: bool = False) -> Module:
+               cfg: Sequence[str] = (), edition: str = "2021", root: bool = False, instances: bool = False) -> Module:
         """The types of a Rust source, by their names, under a target: of its text, of a file at a path (beside a `lib.rs` or a
         `main.rs` all `.rs` files in its folder are read), or of files by their paths, the root first. `types` are asked for alone,
         `features` and `cfg` set, as `./types` has them, `edition` is the crate's, and `root` takes the first file for a crate's root,
-        whatever it is called.
+        whatever it is called; `instances` adds the instances of generic types that the types use, as `Pair<u8, u16>`.
         `SourceFault` where no type is told of for a fault that lies in none, `OSError` where a file can't be read."""
-        lines = [f"target {target}", f"edition {edition}", "bytes", "parts", *(["root"] if root else [])]
+        lines = [f"target {target}", f"edition {edition}", "bytes", "parts", *(["root"] if root else []), *(["instances"] if instances else [])]
         lines += [f"{word} {it}" for word, all in (("type", types), ("features", features), ("cfg", cfg)) for it in all]
         if any("\n" in it for it in lines):
             raise ValueError("what is asked for is one line each")
@@ -679,6 +679,8 @@ class Field:
     name: str
     #: Its type as it is written.
     type: str
+    #: The type that this means, with what parameters are given put in.
+    resolved: str
     #: In bytes.
     offset: int
     #: In bytes.
@@ -1098,7 +1100,7 @@ _Place = tuple[str, int, int, Optional[int], _Tree]
 
 
 def _fields_of(told: Mapping[str, Any]) -> dict[str, Field]:
-    return {it["name"]: Field(it["name"], it["type"], it["offset"], it["size"]) for it in told.get("fields", [])}
+    return {it["name"]: Field(it["name"], it["type"], it["resolved"], it["offset"], it["size"]) for it in told.get("fields", [])}
 
 
 def _bits_of(scalar: Scalar, module: Module) -> int:

@@ -87,8 +87,8 @@ pub extern "C" fn abi_c_map(
 /// Answers the JSON document that the program `types` writes with `--json` of a crate's types, whose files these are, the root
 /// first, and its status: 0 where each is reported on, 1 where a layout is refused, 2 where a source or a type has a fault, 3
 /// where what is asked of types isn't so. What stops the program is a fault in a document without types. `asked` is lines:
-/// `target TRIPLE`, `type TYPE`, `features NAMES`, `cfg NAME` or `cfg NAME="VALUE"`, `edition EDITION`, `root`, `bytes`, `waste`
-/// and `strict`, as the program's options; and `parts`, for what the parts of types are called.
+/// `target TRIPLE`, `type TYPE`, `features NAMES`, `cfg NAME` or `cfg NAME="VALUE"`, `edition EDITION`, `root`, `bytes`, `waste`,
+/// `instances` and `strict`, as the program's options; and `parts`, for what the parts of types are called.
 ///
 /// `needed` is the length of the document in bytes. It stands at the front of `output` where it fits, and nothing behind it
 /// changes; else `output` stays as it was. Where memory is wanting the document says so, and the status is 1.

@@ -1,6 +1,6 @@
 -- Lists of copies, one copy more.
 use Rattle.std.proofs.Common.{◌≡◌, ℕ, ◌+◌, ◌<◌, ◌≤◌, List, [], ◌∷◌, ◌++◌, length, map, take, get_or, refl, ap}
-use Rattle.std.proofs.lemmas.List.{map-append, take_all, take_more}
+use Rattle.std.proofs.lemmas.List.{length-map, map-append, take_all, take_more}
 use Rattle.abi_rust.specs.declared.ty.GenericArg.{GenericArg}
 use Rattle.abi_rust.specs.declared.ty.Ty.{Ty}
 use Rattle.abi_rust.specs.Types.{given_of, ty_of}
@@ -11,6 +11,9 @@ module _ {A B : Type 0} (f : A → B) where
 
   pub map_all : (xs : List A) (i : ℕ) → length xs ≤ i → map f (take i xs) ≡ map f xs
   map_all xs i done = ap (map f) (take_all i xs done)
+
+pub given_length : (xs : List GenericArg) → length (map given_of xs) ≡ length xs
+given_length xs = length-map xs given_of
 
 pub tys_more : (xs : List Ty) (i : ℕ) (x : Ty) → i < length xs → x ≡ get_or xs i x → map ty_of (take (i + 1) xs) ≡ map ty_of (take i xs) ++ ty_of x ∷ []
 tys_more = map_more ty_of

@@ -5,6 +5,7 @@ pub mod CopyLists
 pub mod Early
 pub mod ExternLemmas
 pub mod Facts
+pub mod FieldTypes
 pub mod FormedLists
 pub mod GlobLemmas
 pub mod KeptValues
@@ -25,6 +26,8 @@ pub mod Same
 pub mod ScopeLemmas
 pub mod StandingLemmas
 pub mod TargetLemmas
+pub mod Told
 pub mod Trees
+pub mod Used
 pub mod WayLemmas
 pub mod Written

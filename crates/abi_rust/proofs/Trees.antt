@@ -74,11 +74,11 @@ behind_one view made (Err e) rest = refl
 behind_one view made (Ok a) rest = behind_more view made a (rest a)
 
 module _ {A B : Type 0} (f : A → Meaning B) where
-  each_more : (all : List A) (i : ℕ) (made : List B) (a : A) → i < length all → a ≡ get_or all i a
+  pub each_more : (all : List A) (i : ℕ) (made : List B) (a : A) → i < length all → a ≡ get_or all i a
       → behind made (each_meant f (drop i all)) ≡ then_meant (λ b. behind (made ++ b ∷ []) (each_meant f (drop (i + 1) all))) (f a)
   each_more all i made a more is = rw (drop-cons all i a, ← is, add-one i) (behind_one (λ b. b) made (f a) (λ b. each_meant f (drop (suc i) all)))
 
-  each_done : (all : List A) (i : ℕ) (made : List B) → length all ≤ i → behind made (each_meant f (drop i all)) ≡ Ok made
+  pub each_done : (all : List A) (i : ℕ) (made : List B) → length all ≤ i → behind made (each_meant f (drop i all)) ≡ Ok made
   each_done all i made done = rw (drop_all i all done, append_none made) refl
 
 -- ---- types

@@ -4,6 +4,7 @@ pub mod EnumGlobs
 pub mod Evaluating
 pub mod ExternCrates
 pub mod FaultTexts
+pub mod FieldTypes
 pub mod Formed
 pub mod Globs
 pub mod Imports
@@ -30,11 +31,13 @@ pub mod Sources
 pub mod Standing
 pub mod Tails
 pub mod Targets
+pub mod TypeNames
 pub mod TypeReport
 pub mod Trees
 pub mod Types
 pub mod Values
 pub mod Unread
+pub mod UsedTypes
 pub mod Visible
 pub mod Ways
 pub mod Words

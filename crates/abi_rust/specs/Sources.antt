@@ -10,7 +10,7 @@ use Rattle.abi_rust.specs.declared.fault.Stop.{Stop}
 use Rattle.abi_rust.specs.declared.fault.Stop.TheVariants.{Fault, Size}
 use Rattle.abi_rust.specs.declared.sources.Sources.{Sources}
 use Rattle.abi_rust.specs.declared.report.Subject.{Subject}
-use Rattle.abi_rust.specs.declared.report.Subject.TheVariants.{Item as ItemSubject, Written as WrittenSubject}
+use Rattle.abi_rust.specs.declared.report.Subject.TheVariants.{Written as WrittenSubject}
 use Rattle.abi_rust.specs.declared.report.TypeReport.{TypeReport}
 use Rattle.abi_rust.specs.declared.budget.Context.{Context}
 use Rattle.abi_rust.specs.Meaning.{Means}
@@ -161,7 +161,7 @@ ChecksNames s dl item result =
 -- the subject is the type that is written in a module
 abbrev pub IsWrittenIn : (inside : ℕ) → Written → Subject → Type 0
 IsWrittenIn n t (WrittenSubject m written) = (m ≡ n) × (written.now ≡ t)
-IsWrittenIn n t (ItemSubject item) = ⊥
+IsWrittenIn n t _ = ⊥
 
 -- the report on a type that was read, or the fault of reading it
 abbrev pub ReportsRead : Sources → TargetDataLayout → Measure → Result (Option TypeReport) FaultReported → Result Written SourceFault → Type 0

@@ -15,17 +15,18 @@ use Rattle.abi_rust.specs.declared.report.Label.{Label}
 use Rattle.abi_rust.specs.declared.report.ReportShape.{ReportShape}
 use Rattle.abi_rust.specs.declared.report.ReportShape.TheVariants as shape
 use Rattle.abi_rust.specs.declared.report.Subject.{Subject}
-use Rattle.abi_rust.specs.declared.report.Subject.TheVariants.{Item as ItemSubject, Written}
+use Rattle.abi_rust.specs.declared.report.Subject.TheVariants.{Item as ItemSubject, Resolved, Written}
 use Rattle.abi_rust.specs.declared.report.TypeReport.{TypeReport}
 use Rattle.abi_rust.specs.declared.report.VariantLabels.{VariantLabels}
 use Rattle.abi_rust.specs.declared.budget.Context.{Context}
 use Rattle.abi_rust.specs.declared.budget.Request.{Request}
+use Rattle.abi_rust.specs.FieldTypes.{lists_of_type, types_listed}
 use Rattle.abi_rust.specs.Kinds.{item_at, outside}
 use Rattle.abi_rust.specs.Meaning.{Meaning, then_meant, fault_at}
 use Rattle.abi_rust.specs.Measure.{Measure}
 use Rattle.abi_rust.specs.Resolving.{resolved}
 use Rattle.abi_rust.specs.Trees.{sized_tree}
-use Rattle.abi_rust.specs.Types.{TyRead, Where, adt, all_given, no_given}
+use Rattle.abi_rust.specs.Types.{TyRead, Where, adt, all_given, no_given, ty_of}
 
 -- an alias is the type that it names; any other item the type that it defines, with nothing given
 abbrev pub kind_type : Context → ℕ → Item → ItemKind → Meaning TyRead
@@ -37,9 +38,10 @@ abbrev pub item_type : Context → ℕ → Option Item → Meaning TyRead
 item_type cx n None = Ok (adt n no_given)
 item_type cx n (Some it) = kind_type cx n it it.kind
 
--- the type that is reported on: an item, or what is written in a module
+-- the type that is reported on: an item, what is written in a module, or a type whose names are resolved
 abbrev pub subject_type : Context → Subject → Meaning TyRead
 subject_type cx (Written m t) = resolved cx (outside m) t.now
+subject_type cx (Resolved t) = Ok (ty_of t.now)
 subject_type cx (ItemSubject n) = item_type cx n (item_at cx.items.now cx.scope.now n)
 
 -- ---- the names of its parts
@@ -89,7 +91,7 @@ item_shape file (Some it) = kind_shape file it.kind
 -- the item is reported on by itself, and not by an alias
 abbrev pub is_itself : Subject → (item : ℕ) → Bool
 is_itself (ItemSubject report) n = nat_eq report n
-is_itself (Written m t) n = true
+is_itself _ n = true
 
 -- the names of the parts of a type that is reported on
 abbrev pub shape_of : Context → Subject → (file : Place) → TyRead → ShapeRead
@@ -102,17 +104,30 @@ shape_of cx s file _ = no_names
 abbrev pub place_of_request : Request → Where
 place_of_request r = record { inside = r.«module»; item = r.item; given = all_given r.given.items; locals = [] }
 
+-- what is told of a type: its tree, the names of its parts, the type itself, and those of its fields
+pub record Told : Type 0 where
+  pub tree : Tree
+  pub names : ShapeRead
+  pub itself : TyRead
+  pub fields : List (List TyRead)
+
 -- what the program tells as the definitions see it
-abbrev pub report_read : TypeReport → Tree × ShapeRead
-report_read t = (tree_of t.tree, shape_read t.shape)
+abbrev pub report_read : TypeReport → Told
+report_read t = record { tree = tree_of t.tree; names = shape_read t.shape; itself = ty_of t.ty; fields = types_listed t.types.items }
 
 module _ (cx : Context) (m : Measure) where
-  -- the tree of a type that is reported on, and the names of its parts; none where its size isn't known
-  abbrev pub report_type : Subject → (file : Place) → TyRead → Meaning (Option (Tree × ShapeRead))
-  report_type s file t = then_meant (λ found. Ok (option_map (λ whole. (whole, shape_of cx s file t)) found)) (sized_tree cx m t)
+  -- what is told of a type with this tree
+  abbrev pub told_by : Subject → (file : Place) → TyRead → Option Tree → Meaning (Option Told)
+  told_by s file t None = Ok None
+  told_by s file t (Some whole) =
+      then_meant (λ types. Ok (Some (record { tree = whole; names = shape_of cx s file t; itself = t; fields = types }))) (lists_of_type cx t)
+
+  -- what is told of a type; none where its size isn't known
+  abbrev pub report_type : Subject → (file : Place) → TyRead → Meaning (Option Told)
+  report_type s file t = then_meant (told_by s file t) (sized_tree cx m t)
 
   -- the same of what is reported on, under the sizes that are known
-  unfoldable pub report_under : Subject → (file : Place) → Meaning (Option (Tree × ShapeRead))
+  unfoldable pub report_under : Subject → (file : Place) → Meaning (Option Told)
   report_under s file = then_meant (report_type s file) (subject_type cx s)
 
   abbrev pub measured_or : Place → Option Tree → Meaning (ℕ × ℕ)

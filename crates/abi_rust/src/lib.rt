@@ -32,6 +32,7 @@ mod words;
 // Types whose names are resolved.
 mod budget;
 mod copy_types;
+mod field_types;
 mod formed;
 mod kind;
 mod owned;
@@ -39,6 +40,8 @@ mod parameter_free;
 mod resolve;
 mod tail;
 mod ty;
+mod type_names;
+mod used_types;
 mod written_names;
 
 // Constants.
@@ -68,3 +71,4 @@ pub use parts::{NamedPart, PartFields};
 pub use report::{Label, ReportShape, TypeReport, VariantLabels};
 pub use sources::Sources;
 pub use targets::{Target, data_layout_of, known_triples, nearest_triple, target_named};
+pub use used_types::UsedTypes;

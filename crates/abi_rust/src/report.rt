@@ -11,8 +11,9 @@ ghost use Rattle.abi_rust.specs.Trees.{sized_tree};
 ghost use Rattle.abi_rust.specs.Types.{ty_of};
 
 use crate::above::Nesting;
-use crate::budget::{Budget, Context, Env, KnownSize, Request, most_deep};
+use crate::budget::{Budget, Context, Env, KnownSize, Request, copy_of, most_deep};
 use crate::fault::{FaultKind, Stop};
+use crate::field_types::lists_of_type;
 use crate::formed::check_formed;
 use crate::kind::outside;
 use crate::paths::item_at;
@@ -72,13 +73,18 @@ pub struct TypeReport {
     pub tree: TypeTree,
     /// The names of its parts.
     pub shape: ReportShape,
+    /// The type itself.
+    pub(crate) ty: Ty,
+    /// The types of its fields: of a struct or a union one list, and of an enum one for each variant.
+    pub(crate) types: Vec<Vec<Ty>>,
 }
 
-/// What is reported on: an item without parameters, or a type that is written in a module.
+/// What is reported on: an item without parameters, a type that is written in a module, or one whose names are resolved.
 #[derive(Clone, Copy)]
 pub(crate) enum Subject<'a> {
     Item(u32),
     Written(u32, &'a Type),
+    Resolved(&'a Ty),
 }
 
 /// A subject's type.
@@ -92,6 +98,7 @@ pub(crate) fn type_of<'a>(
     match subject {
         Subject::Written(module, ty) => resolve(cx, budget, outside(module), ty),
         Subject::Item(number) => type_of_item(cx, budget, number),
+        Subject::Resolved(ty) => copy_of(cx.alloc, budget, ty),
     }
 }
 
@@ -139,7 +146,7 @@ fn attempt<'a>(
         Means (option_map report_read) (report_under cx.now m subject.entry file) result }
 {
     let ty = type_of(cx, budget, subject)?;
-    report_type(cx, budget, subject, file, &ty)
+    report_type(cx, budget, subject, file, ty)
 }
 
 /// The report on a type. None where its size isn't known.
@@ -148,15 +155,21 @@ fn report_type<'a>(
     budget: &mut Budget<'a>,
     subject: Subject<'a>,
     file: Place,
-    ty: &Ty,
+    ty: Ty,
 ) -> Result<Option<TypeReport>, Stop>
     ensures { (m : Measure) → IsMeasure cx.now.dl.now m →
-        Means (option_map report_read) (report_type cx.now m subject.entry file (ty_of ty.now)) result }
+        Means (option_map report_read) (report_type cx.now m subject.entry file (ty_of ty)) result }
 {
-    match sized_tree(cx, budget, ty)? {
+    match sized_tree(cx, budget, &ty)? {
         Some(tree) => {
-            let shape = shape_of(cx, subject, ty, file)?;
-            Ok(Some(TypeReport { tree, shape }))
+            let shape = shape_of(cx, subject, &ty, file)?;
+            let types = lists_of_type(cx, budget, &ty)?;
+            Ok(Some(TypeReport {
+                tree,
+                shape,
+                ty,
+                types,
+            }))
         }
         None => Ok(None),
     }
@@ -396,7 +409,7 @@ fn is_itself(subject: Subject<'_>, number: u32) -> bool
 {
     match subject {
         Subject::Item(report) => report == number,
-        Subject::Written(_, _) => true,
+        _ => true,
     }
 }
 

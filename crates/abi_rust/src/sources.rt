@@ -1,6 +1,6 @@
 //! Files of Rust source, and what their types are.
 
-ghost use Rattle.std.specs.Prelude.{◌≡◌, ◌-◌, ◌<◌, ◌^◌, ◌++◌, ◌∷◌, Err, IfErr, IfOk, Ok, OnOk, Some, [], length, nat_lt, slice_get, string_bytes};
+ghost use Rattle.std.specs.Prelude.{◌≡◌, ◌-◌, ◌<◌, ◌^◌, ◌++◌, ◌∷◌, Err, IfErr, IfOk, Ok, OnOk, Some, [], length, map, nat_lt, slice_get, string_bytes, true};
 ghost use Rattle.std.specs.Option.{option_map};
 ghost use Rattle.rust_source.specs.Growth.{BeginsWith};
 ghost use Rattle.rust_source.specs.Items.{items_as_read};
@@ -10,9 +10,13 @@ ghost use Rattle.abi_rust.specs.Imports.{repeated_import};
 ghost use Rattle.abi_rust.specs.Measure.{IsMeasure, Measure};
 ghost use Rattle.abi_rust.specs.Reading.{FileRead, FileReads, HasScope, HoldsNothing, IsNamesFault, IsScopeOf, IsSourceOf, IsUnread, LibraryRead, ReadsText, Stops, file_kind, having, is_library, library_target, library_text, place_behind, root_of};
 ghost use Rattle.abi_rust.specs.ScopeNames.{repeated_of};
+ghost use Rattle.abi_rust.specs.Meaning.{is_beside};
+ghost use Rattle.abi_rust.specs.TypeNames.{crate_before, name_of_library, path_text};
+ghost use Rattle.abi_rust.specs.Types.{ty_of};
+ghost use Rattle.abi_rust.specs.UsedTypes.{AreApart, ReportsUsed, all_put, field_in, text_of_type, used_by};
 ghost use Rattle.abi_rust.specs.Sources.{ChecksNames, IsContextOver, Reports, ReportsWritten, names_checked, reported_fault, is_of_first_crate, fault_of_unread, is_reported, items_read, module_path, qualified_name, place_in_files, place_of_attribute, place_of_item, reported_place, pointer_bits};
 
-use crate::budget::Context;
+use crate::budget::{Budget, Context};
 use crate::extern_crates::ExternCrate;
 use crate::fault::{Fault, FaultKind, FaultPlace, Stop, stop_at};
 use crate::imports::repeated_import;
@@ -22,6 +26,8 @@ use crate::paths::root_of as root_module_of;
 use crate::report::{Subject, TypeReport, report_on};
 use crate::scope::Scope;
 use crate::std_source::STD_SOURCES;
+use crate::type_names::{crate_named, write_type};
+use crate::used_types::{SourceWork, UsedTypes, put_used};
 use crate::words::Words;
 use crate::written_names::check_item;
 use abi_base::TargetDataLayout;
@@ -462,6 +468,51 @@ impl Sources {
         out.push_str("::")
     }
 
+    /// The name of the item of this number, where it is the standard library's.
+    pub(crate) fn name_of_library(&self, number: u32) -> Option<Symbol>
+        ensures { result ≡ name_of_library self.now number }
+    {
+        if !self.is_of_library(number as usize) {
+            return None;
+        }
+        match self.items.items.get(number as usize) {
+            Some(item) => Some(item.name),
+            None => None,
+        }
+    }
+
+    /// Writes the name of an item's crate, with `::` behind, where it is another one than the first and has a name.
+    fn write_crate(&self, out: &mut String, item: &Item) -> Result<(), AllocError>
+        ensures { OnOk result (string_bytes out.new ≡ string_bytes out.old ++ crate_before self.now item.now) }
+    {
+        let root = root_module_of(&self.items, item.module);
+        if root == self.root {
+            return Ok(());
+        }
+        match crate_named(self.crates.as_slice(), root) {
+            Some(name) => {
+                out.push_str(self.names.text(name))?;
+                out.push_str("::")
+            }
+            None => Ok(()),
+        }
+    }
+
+    /// Writes the name that the item of this number has in types: the standard library's alone, and another one behind its
+    /// modules, and its crate where that isn't the first.
+    pub(crate) fn write_path(&self, out: &mut String, number: u32) -> Result<(), AllocError>
+        ensures { OnOk result (string_bytes out.new ≡ string_bytes out.old ++ path_text self.now number) }
+    {
+        let Some(item) = self.items.items.get(number as usize) else {
+            return Ok(());
+        };
+        if self.is_of_library(number as usize) {
+            return out.push_str(self.names.text(item.name));
+        }
+        self.write_crate(out, item)?;
+        self.write_name(out, number as usize)
+    }
+
     /// How many items of the files were passed over, since they are no types and no constants.
     pub fn passed_over(&self) -> u64
         ensures { result ≡ self.now.items.passed_over - self.now.passed_over }
@@ -618,6 +669,102 @@ impl Sources {
         match read_type(alloc, &mut self.names, edition, text, self.next) {
             Ok(ty) => self.parts(alloc, dl, Subject::Written(self.root, &ty)),
             Err(_) => Ok(Vec::new(alloc)),
+        }
+    }
+
+    /// The same of a type that others use, which is the one of this number.
+    pub fn parts_used(
+        &self,
+        alloc: Global,
+        dl: &TargetDataLayout,
+        used: &UsedTypes,
+        number: usize,
+    ) -> Result<Vec<NamedPart>, AllocError> {
+        match used.all.get(number) {
+            Some(ty) => self.parts(alloc, dl, Subject::Resolved(ty)),
+            None => Ok(Vec::new(alloc)),
+        }
+    }
+
+    /// Puts the types of the sources that a type uses which is reported on behind the others: itself, those that stand in it,
+    /// and those that stand in the types of its fields. The fault is want of memory, or of parts that may be looked at.
+    #[tactic(auto, using(crate::proofs::Used::apart_put))]
+    pub fn put_used(
+        &self,
+        alloc: Global,
+        used: &mut UsedTypes,
+        report: &TypeReport,
+    ) -> Result<(), Fault>
+        ensures used { OnOk result (map ty_of used.new.all.items
+            ≡ all_put (map ty_of used.old.all.items) (used_by self.now report.now)) }
+        ensures once { OnOk result (AreApart [] (map ty_of used.old.all.items) →
+            AreApart [] (map ty_of used.new.all.items)) }
+        ensures err { IfErr result (λ fault. (stop : Stop) ×
+            (fault ≡ reported_fault self.now stop) × (is_beside stop ≡ true)) }
+    {
+        let cx = SourceWork {
+            alloc,
+            sources: self,
+        };
+        let mut budget = Budget::new(alloc);
+        match put_used(cx, &mut budget, report, &mut used.all) {
+            Ok(()) => Ok(()),
+            Err(stop) => Err(self.fault(stop)),
+        }
+    }
+
+    /// Writes the type of this number of those that others use.
+    pub fn write_used(
+        &self,
+        out: &mut String,
+        used: &UsedTypes,
+        number: usize,
+    ) -> Result<(), AllocError>
+        ensures { OnOk result (string_bytes out.new ≡ string_bytes out.old ++
+            text_of_type self.now (slice_get used.now.all.items number)) }
+    {
+        match used.all.get(number) {
+            Some(ty) => write_type(out, self, ty),
+            None => Ok(()),
+        }
+    }
+
+    /// The type of this number of those that others use, with the names of its parts, as `type_of`. None where there is none
+    /// of this number.
+    pub fn type_used(
+        &self,
+        alloc: Global,
+        dl: &TargetDataLayout,
+        used: &UsedTypes,
+        number: usize,
+    ) -> Result<Option<TypeReport>, Fault>
+        ensures { (m : Measure) → IsMeasure dl.now m →
+            ReportsUsed self.now dl.now m (slice_get used.now.all.items number) result }
+    {
+        match used.all.get(number) {
+            Some(ty) => self.report(alloc, dl, Subject::Resolved(ty)),
+            None => Ok(None),
+        }
+    }
+
+    /// Writes the type of a field: of the one with this index in the list with this index, of those of a type that is reported
+    /// on. What parameters are given is put in, and names are told as items are.
+    pub fn write_field_type(
+        &self,
+        out: &mut String,
+        report: &TypeReport,
+        list: usize,
+        field: usize,
+    ) -> Result<(), AllocError>
+        ensures { OnOk result (string_bytes out.new ≡ string_bytes out.old ++
+            text_of_type self.now (field_in (slice_get report.now.types.items list) field)) }
+    {
+        let Some(fields) = report.types.get(list) else {
+            return Ok(());
+        };
+        match fields.get(field) {
+            Some(ty) => write_type(out, self, ty),
+            None => Ok(()),
         }
     }
 

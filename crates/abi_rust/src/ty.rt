@@ -125,7 +125,7 @@ fn same_primitive(a: Primitive, b: Primitive) -> bool
 
 /// Whether two types are one.
 #[cycle(same)]
-fn same_ty(a: &Ty, b: &Ty) -> bool
+pub(crate) fn same_ty(a: &Ty, b: &Ty) -> bool
     ensures { result ≡ same_ty (ty_of a.now) (ty_of b.now) }
 {
     match (a, b) {

@@ -27,7 +27,7 @@ use crate::waste::waste_of;
 use abi_base::TargetDataLayout;
 use abi_bytes::transmute;
 use abi_map::map_of;
-use abi_rust::{Fault, ReportShape, Sources, TypeReport, data_layout_of};
+use abi_rust::{Fault, ReportShape, Sources, TypeReport, UsedTypes, data_layout_of};
 use abi_tree::{Laid, TypeTree};
 use rust_source::{CfgTarget, Macro, Names, Outline};
 use rustc_abi::{LayError, lay_out};
@@ -110,6 +110,10 @@ pub struct FileReport {
     pub trees: Vec<TypeTree>,
     /// Lines for standard error.
     pub notes: String,
+    /// The types of the sources that those use which were told of under one target.
+    used: UsedTypes,
+    /// The numbers of those of them that were told of.
+    told: Vec<usize>,
 }
 
 impl FileReport {
@@ -124,6 +128,8 @@ impl FileReport {
             asserted: Vec::new(alloc),
             trees: Vec::new(alloc),
             notes: String::new(alloc),
+            used: UsedTypes::new(alloc),
+            told: Vec::new(alloc),
         }
     }
 }
@@ -238,6 +244,19 @@ const NO_ITEMS: &str =
 
 /// How many times the files of a crate are read, each time with the macros known that were found before.
 const MOST_READINGS: usize = 8;
+
+/// How many types are looked at that others use and that aren't told of by themselves.
+const MOST_USED: usize = 4096;
+
+/// How often it is looked what those use that were found the time before: a type that is generic may use ever larger ones, each
+/// of which takes longer.
+const MOST_ROUNDS: usize = 32;
+
+/// What is told where the types that others use are more than that.
+const TOO_MANY: &str = "more than 4096 instances of generic types are used";
+
+/// What is told where they use others ever more.
+const TOO_DEEP: &str = "instances of generic types use one another more than 32 deep";
 
 /// How many items that aren't read are told of.
 const MOST_UNREAD: usize = 1000;
@@ -655,8 +674,11 @@ fn put_context(
 /// A type that is reported on, and its name.
 #[derive(Clone, Copy)]
 struct NamedType<'a> {
+    sources: &'a Sources,
     names: &'a Names,
     name: &'a str,
+    /// Whether it is an instance of a generic type that others use.
+    is_instance: bool,
     report: &'a TypeReport,
     /// Its largest variant, where that is asked for.
     largest: Option<LargestVariant>,
@@ -671,16 +693,20 @@ struct NamePlace<'a, 'p> {
     own: Spot,
     /// What the type's parts are called, where that is asked for.
     parts: Option<&'p Value>,
+    /// Whether it is told of as an instance of a generic type that others use.
+    is_instance: bool,
 }
 
 impl<'a> ReportContext<'a> {
-    /// What types are written with, by these names.
-    fn type_context(self, alloc: Global, names: &'a Names) -> TypeContext<'a> {
+    /// What a type is written with.
+    fn type_context(self, alloc: Global, ty: NamedType<'a>) -> TypeContext<'a> {
         TypeContext {
             alloc,
             dl: self.dl,
-            names,
+            names: ty.names,
             files: self.files,
+            sources: ty.sources,
+            report: ty.report,
         }
     }
 }
@@ -694,8 +720,11 @@ fn object_of(
 ) -> Result<Value, LayError>
     requires { IsLaidOut cx.dl.now laid.now }
 {
-    let with = cx.type_context(alloc, ty.names);
+    let with = cx.type_context(alloc, ty);
     let mut object = type_value(with, ty.name, &ty.report.shape, &ty.report.tree, laid)?;
+    if ty.is_instance {
+        put_member(alloc, &mut object, "instance", Value::Bool(true))?;
+    }
     if cx.options.with_bytes {
         ByteAnswers::of(alloc, laid)?.put_members(alloc, &mut object)?;
     }
@@ -734,6 +763,21 @@ fn parts_of_text(
     Ok(Some(parts_value(alloc, sources, &parts)?))
 }
 
+/// The same of a type that others use, which is the one of this number.
+fn parts_of_used(
+    alloc: Global,
+    cx: ReportContext<'_>,
+    sources: &Sources,
+    used: &UsedTypes,
+    number: usize,
+) -> Result<Option<Value>, AllocError> {
+    if !cx.options.with_parts {
+        return Ok(None);
+    }
+    let parts = sources.parts_used(alloc, cx.dl, used, number)?;
+    Ok(Some(parts_value(alloc, sources, &parts)?))
+}
+
 /// Writes the report on a laid-out type, in the form that is asked for.
 fn write_entry(
     entry: &mut TypeEntry,
@@ -754,7 +798,7 @@ fn write_entry(
             }
         }
         Form::Pretty => {
-            let with = cx.type_context(alloc, ty.names);
+            let with = cx.type_context(alloc, ty);
             let declared = DeclaredType {
                 name,
                 shape: &ty.report.shape,
@@ -888,7 +932,7 @@ impl FileReport {
     fn put_report(
         &mut self,
         cx: ReportContext<'_>,
-        names: &Names,
+        sources: &Sources,
         place: NamePlace<'_, '_>,
         report: &mut TypeReport,
     ) -> Result<(), LayError> {
@@ -902,8 +946,10 @@ impl FileReport {
             None
         };
         let ty = NamedType {
-            names,
+            sources,
+            names: sources.names(),
             name: place.name,
+            is_instance: place.is_instance,
             report,
             largest,
             parts: place.parts,
@@ -986,6 +1032,48 @@ impl FileReport {
         Ok(self.put_fault(cx, name, at, text.as_str())?)
     }
 
+    /// Notes which types of the sources a type uses, where their instances are asked for; and that it needn't be told of as one
+    /// of these, where it is told of with its parts.
+    fn note_used(
+        &mut self,
+        cx: ReportContext<'_>,
+        sources: &Sources,
+        own: Spot,
+        report: &TypeReport,
+    ) -> Result<(), SourceFailure> {
+        if !cx.options.with_instances {
+            return Ok(());
+        }
+        if let Err(fault) = sources.put_used(self.alloc, &mut self.used, report) {
+            return Err(failure_of(self.alloc, sources, &fault, own));
+        }
+        if !matches!(report.shape, ReportShape::Plain) {
+            if let Some(number) = self.used.number_of(report) {
+                self.told.push(number).map_err(AllocError::from)?;
+            }
+        }
+        Ok(())
+    }
+
+    /// Notes which types of the sources a type uses that isn't told of, or its fault.
+    fn look_at(
+        &mut self,
+        cx: ReportContext<'_>,
+        sources: &Sources,
+        place: NamePlace<'_, '_>,
+        found: Result<Option<TypeReport>, Fault>,
+    ) -> Result<(), SourceFailure> {
+        let noted = match found {
+            Ok(Some(report)) => self.note_used(cx, sources, place.own, &report),
+            Ok(None) => Ok(()),
+            Err(fault) => Err(failure_of(self.alloc, sources, &fault, place.own)),
+        };
+        match noted {
+            Ok(()) => Ok(()),
+            Err(failure) => self.add_failure(cx, place.name, failure),
+        }
+    }
+
     /// Reports on what a type was read as, or its fault.
     fn add_found(
         &mut self,
@@ -1002,7 +1090,10 @@ impl FileReport {
                 return self.add_failure(cx, place.name, failure);
             }
         };
-        match self.put_report(cx, sources.names(), place, &mut report) {
+        if let Err(failure) = self.note_used(cx, sources, place.own, &report) {
+            return self.add_failure(cx, place.name, failure);
+        }
+        match self.put_report(cx, sources, place, &mut report) {
             Ok(()) => Ok(()),
             Err(error) => {
                 let failure = refusal_of(self.alloc, place.name, place.own, error);
@@ -1032,6 +1123,7 @@ impl FileReport {
                     name: name.as_str(),
                     own,
                     parts: told,
+                    is_instance: false,
                 };
                 let found = sources.type_of(self.alloc, cx.dl, item);
                 self.add_found(cx, sources, place, found)?;
@@ -1060,8 +1152,102 @@ impl FileReport {
                 name,
                 own,
                 parts: told,
+                is_instance: false,
             };
             self.add_found(cx, sources, place, found)?;
+        }
+        Ok(())
+    }
+
+    /// Reports on the type of this number of those that others use, where it is an instance of a generic type; and notes which
+    /// types it uses.
+    fn add_used(
+        &mut self,
+        cx: ReportContext<'_>,
+        sources: &Sources,
+        number: usize,
+        is_instance: bool,
+    ) -> Result<(), SourceFailure> {
+        let mut name = String::new(self.alloc);
+        sources.write_used(&mut name, &self.used, number)?;
+        let parts = parts_of_used(self.alloc, cx, sources, &self.used, number)?;
+        let told = parts.as_ref();
+        let place = NamePlace {
+            name: name.as_str(),
+            own: self.place_of_used(sources, number),
+            parts: told,
+            is_instance,
+        };
+        let found = sources.type_used(self.alloc, cx.dl, &self.used, number);
+        if is_instance {
+            self.add_found(cx, sources, place, found)
+        } else {
+            self.look_at(cx, sources, place, found)
+        }
+    }
+
+    /// Where the name stands of the item of the type of this number of those that others use.
+    fn place_of_used(&self, sources: &Sources, number: usize) -> Spot {
+        match self.used.item(number) {
+            Some((item, _)) => Spot::Nowhere.of(sources.place_of(item)),
+            None => Spot::Nowhere,
+        }
+    }
+
+    /// Reports why no more types that others use are looked at, from the one of this number on.
+    fn add_end(
+        &mut self,
+        cx: ReportContext<'_>,
+        sources: &Sources,
+        number: usize,
+        text: &str,
+    ) -> Result<(), SourceFailure> {
+        let mut name = String::new(self.alloc);
+        sources.write_used(&mut name, &self.used, number)?;
+        let own = self.place_of_used(sources, number);
+        let text = String::from_str(self.alloc, text)?;
+        self.add_failure(cx, name.as_str(), SourceFailure::Fault(own, text))
+    }
+
+    /// Whether the type of this number of those that others use is told of already, or would be but for its fault.
+    fn is_told(
+        &self,
+        cx: ReportContext<'_>,
+        sources: &Sources,
+        number: usize,
+        item: usize,
+    ) -> bool {
+        self.told.contains(&number) || (cx.options.types.is_empty() && sources.is_reported(item))
+    }
+
+    /// Reports on the instances of generic types that the types use which were told of, and those that these use.
+    fn add_instances(
+        &mut self,
+        cx: ReportContext<'_>,
+        sources: &Sources,
+    ) -> Result<(), SourceFailure> {
+        let mut looked = 0usize;
+        let mut rounds = 0usize;
+        let mut end = self.used.count();
+        for number in 0..usize::MAX {
+            let Some((item, given)) = self.used.item(number) else {
+                return Ok(());
+            };
+            if number == end {
+                rounds = rounds.saturating_add(1);
+                end = self.used.count();
+            }
+            if self.is_told(cx, sources, number, item) {
+                continue;
+            }
+            if rounds >= MOST_ROUNDS {
+                return self.add_end(cx, sources, number, TOO_DEEP);
+            }
+            if looked >= MOST_USED {
+                return self.add_end(cx, sources, number, TOO_MANY);
+            }
+            looked = looked.saturating_add(1);
+            self.add_used(cx, sources, number, given > 0)?;
         }
         Ok(())
     }
@@ -1204,10 +1390,15 @@ impl FileReport {
         if cx.options.transmutes {
             return self.add_transmuted(cx, sources);
         }
+        self.used = UsedTypes::new(self.alloc);
+        self.told.clear();
         if cx.options.types.is_empty() {
             self.add_all(from, cx, sources)?;
         } else {
             self.add_asked(cx, sources, &cx.options.types)?;
+        }
+        if cx.options.with_instances {
+            self.add_instances(cx, sources)?;
         }
         Ok(self.put_types(cx.options)?)
     }

@@ -182,9 +182,9 @@ fn answer_of(
 }
 
 /// The document of the types of a crate, whose root is the first of these files, by what lines ask for: `target TRIPLE`,
-/// `type TYPE`, `features NAMES` and `cfg NAME` or `cfg NAME="VALUE"`, each as often as is wanted, and `root`, `bytes`, `waste`
-/// and `strict`, as the options of these names ask of the command; and `parts`, what the parts of types are called. The files of
-/// modules are those that are handed in. What isn't UTF-8 is a fault, and so is a line that asks for nothing else. `AllocError`
+/// `type TYPE`, `features NAMES` and `cfg NAME` or `cfg NAME="VALUE"`, each as often as is wanted, and `root`, `bytes`, `waste`,
+/// `instances` and `strict`, as the options of these names ask of the command; and `parts`, what the parts of types are called.
+/// The files of modules are those that are handed in. What isn't UTF-8 is a fault, and so is a line that asks for nothing else. `AllocError`
 /// where a growth of memory was refused, here and below.
 pub fn document_of_files(
     alloc: Global,

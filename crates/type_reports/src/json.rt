@@ -11,7 +11,7 @@ use crate::options::ReportOptions;
 use crate::parts::layout_value;
 use crate::place::position_of;
 use abi_base::{Size, TargetDataLayout};
-use abi_rust::{Label, ReportShape, VariantLabels};
+use abi_rust::{Label, ReportShape, Sources, TypeReport, VariantLabels};
 use abi_scalar::{Niche, Scalar, TagEncoding, Variants};
 use abi_text::write_scalar;
 use abi_tree::{Laid, TypeTree};
@@ -31,6 +31,9 @@ pub(crate) struct TypeContext<'a> {
     pub(crate) names: &'a Names,
     /// The files, of which types are cut out as they are written.
     pub(crate) files: &'a CrateFiles<'a>,
+    pub(crate) sources: &'a Sources,
+    /// The type, whose fields are of types that are resolved.
+    pub(crate) report: &'a TypeReport,
 }
 
 /// Puts a member into an object.
@@ -75,9 +78,11 @@ pub(crate) fn size_of_tree(
     Ok(laid.layout().size.bytes())
 }
 
-/// A field: its name, its type as it is written, its offset and its size.
+/// A field, which is the one with this index in the list with this index: its name, its type as it is written and as it is
+/// resolved, its offset and its size.
 fn field_value(
     cx: TypeContext<'_>,
+    (list, index): (usize, usize),
     label: &Label,
     offset: u64,
     tree: &TypeTree,
@@ -88,6 +93,10 @@ fn field_value(
     put_member(cx.alloc, &mut object, "name", Value::String(name))?;
     let written = cx.files.text_between(label.start, label.end);
     put_text(cx.alloc, &mut object, "type", written)?;
+    let mut resolved = String::new(cx.alloc);
+    cx.sources
+        .write_field_type(&mut resolved, cx.report, list, index)?;
+    put_member(cx.alloc, &mut object, "resolved", Value::String(resolved))?;
     put_number(cx.alloc, &mut object, "offset", offset)?;
     put_number(
         cx.alloc,
@@ -98,9 +107,10 @@ fn field_value(
     Ok(Value::Object(object))
 }
 
-/// Fields, in source order.
+/// Fields, in source order: the list with this index.
 fn fields_value(
     cx: TypeContext<'_>,
+    list: usize,
     labels: &[Label],
     offsets: &[Size],
     trees: &[TypeTree],
@@ -109,7 +119,7 @@ fn fields_value(
     for (index, label) in labels.iter().enumerate() {
         if let Some(tree) = trees.get(index) {
             let offset = offset_at(offsets, index);
-            all.push(field_value(cx, label, offset, tree)?)?;
+            all.push(field_value(cx, (list, index), label, offset, tree)?)?;
         }
     }
     Ok(Value::Array(all))
@@ -152,7 +162,7 @@ fn variants_value(
             let mut object = Map::new(cx.alloc);
             put_text(cx.alloc, &mut object, "name", cx.names.text(label.name))?;
             let offsets = variant_offsets(laid, index);
-            let fields = fields_value(cx, &label.fields, offsets, fields)?;
+            let fields = fields_value(cx, index, &label.fields, offsets, fields)?;
             put_member(cx.alloc, &mut object, "fields", fields)?;
             all.push(Value::Object(object))?;
         }
@@ -281,11 +291,11 @@ fn put_parts(
             },
         ) => {
             let offsets = offsets_of(laid.layout());
-            let fields = fields_value(cx, labels, offsets, fields)?;
+            let fields = fields_value(cx, 0, labels, offsets, fields)?;
             put_member(cx.alloc, object, "fields", fields)?;
         }
         (ReportShape::Union(labels), TypeTree::Union { repr: _, fields }) => {
-            let fields = fields_value(cx, labels, &[], fields)?;
+            let fields = fields_value(cx, 0, labels, &[], fields)?;
             put_member(cx.alloc, object, "fields", fields)?;
         }
         (ReportShape::Enum(labels), TypeTree::Enum { repr: _, variants }) => {

@@ -75,6 +75,7 @@ pub(crate) fn no_options<'a>(alloc: Global) -> LineOptions<'a> {
             transmutes: false,
             with_bytes: false,
             with_savings: false,
+            with_instances: false,
             with_parts: false,
             keeps_trees: false,
             form: Form::Json,
@@ -143,6 +144,7 @@ impl<'a> LineOptions<'a> {
             "root" => self.is_root = true,
             "bytes" => self.report.with_bytes = true,
             "waste" => self.report.with_savings = true,
+            "instances" => self.report.with_instances = true,
             "parts" => self.report.with_parts = true,
             "strict" => self.report.is_strict = true,
             _ => return false,
@@ -176,7 +178,8 @@ impl<'a> LineOptions<'a> {
 }
 
 /// What lines ask for: `target TRIPLE`, `type TYPE`, `features NAMES` and `cfg NAME` or `cfg NAME="VALUE"`, each as often as is
-/// wanted, `edition NAME`, of several the last, and `root`, `bytes`, `waste` and `strict`, as the command's options of these names; and `parts`.
+/// wanted, `edition NAME`, of several the last, and `root`, `bytes`, `waste`, `instances` and `strict`, as the command's options of
+/// these names; and `parts`.
 pub(crate) fn options_in<'a>(
     alloc: Global,
     lines: &'a str,

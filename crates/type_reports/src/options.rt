@@ -32,6 +32,8 @@ pub struct ReportOptions<'a> {
     pub with_bytes: bool,
     /// Whether it is said what could be saved of each type.
     pub with_savings: bool,
+    /// Whether the instances of generic types are told of that the types use.
+    pub with_instances: bool,
     /// Whether it is said what the parts of each type are called, and what the target's data layout is.
     pub with_parts: bool,
     /// Whether the trees of the types are kept.

@@ -171,12 +171,24 @@ fn transmute_option<'a>(alloc: Global) -> Result<Arg<'a>, AllocError> {
         .conflicts_with("type")
 }
 
+/// The option that asks for the instances of generic types.
+fn instances_option<'a>(alloc: Global) -> Result<Arg<'a>, AllocError> {
+    form_option(
+        alloc,
+        "instances",
+        "tells, behind the types, of the instances of generic types that these use, as 'Pair<u8, u16>'",
+    )
+    .conflicts_with("svg")?
+    .conflicts_with("transmute")
+}
+
 /// The options that say what is laid out for which target.
 fn with_type_options<'a>(alloc: Global, command: Command<'a>) -> Result<Command<'a>, AllocError> {
     let command = command
         .arg(target_option(alloc))?
         .arg(print_option(alloc))?
         .arg(type_option(alloc))?
+        .arg(instances_option(alloc)?)?
         .arg(transmute_option(alloc)?)?;
     Ok(command)
 }
@@ -614,6 +626,7 @@ pub(crate) fn options_of<'a>(
         transmutes: matches.get_strs("transmute").is_some(),
         with_bytes: matches.get_flag("bytes"),
         with_savings: matches.get_flag("waste"),
+        with_instances: matches.get_flag("instances"),
         with_parts: false,
         keeps_trees: false,
         form: form_of(matches),
