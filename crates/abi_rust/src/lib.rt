@@ -37,6 +37,7 @@ mod owned;
 mod parameter_free;
 mod resolve;
 mod tail;
+mod trait_constants;
 mod ty;
 mod written_names;
 
