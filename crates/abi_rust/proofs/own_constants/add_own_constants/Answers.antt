@@ -27,13 +27,13 @@ loop-number-preserved c =
       own = λ k.
           let before = one_so (is_own_at items scope k) 0 (take i all) in
           c.in_ok-add_constant.ensures.ok k
-          ∙ rw (c.numbered-add_constant.ensures, c.key_of_own.ensures, c.owner_of-owner.ensures, c.own_type-ty.ensures, c.loop-number.invariant.own k)
+          ∙ rw (c.numbered-in-loop-number.ensures, c.key_of_own.ensures, c.owner_of-owner.ensures, c.own_type-ty.ensures, c.loop-number.invariant.own k)
           (ap (λ (it : Item). if is_own_at items scope k it then Some (if is_some before then several else numbered i) else before) is
           ∙ sym (ones_more (is_own_at items scope k) all i item within));
       of_traits = λ k.
           let before = one_so (is_of_trait_at items scope k) 0 (take i all) in
           c.in_ok-add_constant-2.ensures.ok k
-          ∙ rw (c.numbered-add_constant-2.ensures, c.key_of_trait.ensures, c.owner_of-owner.ensures, c.own_type-ty.ensures, c.loop-number.invariant.of_traits k)
+          ∙ rw (c.numbered-in-loop-number-2.ensures, c.key_of_trait.ensures, c.owner_of-owner.ensures, c.own_type-ty.ensures, c.loop-number.invariant.of_traits k)
           (ap (λ (it : Item). if is_of_trait_at items scope k it then Some (if is_some before then several else numbered i) else before) is
           ∙ sym (ones_more (is_of_trait_at items scope k) all i item within));
     }
