@@ -11,12 +11,12 @@ use Rattle.abi_rust.specs.declared.scope.Scope.{Scope}
 use Rattle.abi_rust.specs.declared.words.Word.TheVariants.{Prelude}
 use Rattle.abi_rust.specs.declared.ways.Glob.{Glob}
 use Rattle.abi_rust.specs.Globs.{KeepsGlobs, Leads, led_to, lists_of}
-use Rattle.abi_rust.specs.Kinds.{type_named}
+use Rattle.abi_rust.specs.Kinds.{owner_at, type_named}
 use Rattle.abi_rust.specs.Names.{named_behind, first, found_of, most_uses, own_name, target_with, targets_on, use_target, use_targets, resolution_in}
-use Rattle.abi_rust.specs.OwnConstants.{is_own, last_known, own_at, own_type, own_type_by, type_owning}
+use Rattle.abi_rust.specs.OwnConstants.{is_key, key_of_own, key_of_trait, last_known, of_trait_at, own_at, own_type, own_type_by, type_owning}
 use Rattle.abi_rust.specs.Scope.{constant_standing, crate_in, leads_nowhere, module_in, reached_from, same_key, type_standing, use_in}
 use Rattle.abi_rust.specs.ScopeNames.{HasSameNames, KeepsNames, KeepsOwn}
-use Rattle.abi_rust.specs.Standing.{ModuleName, first_so}
+use Rattle.abi_rust.specs.Standing.{ModuleName, one_so}
 use Rattle.abi_rust.specs.Words.{symbol_of}
 use Rattle.abi_rust.proofs.GlobLemmas.{names_on, reaches}
 
@@ -41,7 +41,7 @@ keeps_same items old new keeps same = record {
 
 -- the scope with what another one knows of constants of types
 abbrev with_own : (scope other : Scope) → Scope
-with_own scope other = record scope { owners = other.owners; own_constants = other.own_constants; enum_globs = other.enum_globs }
+with_own scope other = record scope { owners = other.owners; own_constants = other.own_constants; trait_constants = other.trait_constants; enum_globs = other.enum_globs }
 
 -- that tells nothing of what uses bring in
 same_targets : (items : Items) (scope other : Scope) (most : ℕ) → use_targets items (with_own scope other) most ≡ use_targets items scope most
@@ -62,12 +62,14 @@ same_types items scope other = λ i m p count. same_type items scope other m p c
 pub same_own : (items : Items) (scope other : Scope) → own_type items (with_own scope other) ≡ own_type items scope
 same_own items scope other = ap (own_type_by items) (same_types items scope other)
 
--- what is known of constants of types is what the items say
+-- what is known of constants of types and of traits is what the items say
 pub keeps_own : (items : Items) (scope other : Scope)
-    → ((k : ModuleName) → get same_key other.own_constants k ≡ own_at items scope k) → ((n : ℕ) → get nat_eq other.owners n ≡ type_owning items scope n)
+    → ((k : ModuleName) → get same_key other.own_constants k ≡ own_at items scope k) → ((k : ModuleName) → get same_key other.trait_constants k ≡ of_trait_at items scope k)
+    → ((n : ℕ) → get nat_eq other.owners n ≡ type_owning items scope n)
     → KeepsOwn items (with_own scope other)
-keeps_own items scope other constants owners = record {
-  constants = λ k. constants k ∙ ap (λ (of : Item → Option ℕ). first_so (λ (it : Item). is_own k (of it) it.name) 0 items.items.items) (sym (same_own items scope other));
+keeps_own items scope other constants traits owners = record {
+  constants = λ k. constants k ∙ ap (λ (of : Item → Option ℕ). one_so (λ (it : Item). is_key k (key_of_own (owner_at items it.kind) (of it) it.name)) 0 items.items.items) (sym (same_own items scope other));
+  of_traits = λ k. traits k ∙ ap (λ (of : Item → Option ℕ). one_so (λ (it : Item). is_key k (key_of_trait (owner_at items it.kind) (of it) it.name)) 0 items.items.items) (sym (same_own items scope other));
   owners = λ n. owners n ∙ ap (λ (of : Item → Option ℕ). last_known of 0 n items.items.items) (sym (same_own items scope other));
 }
 

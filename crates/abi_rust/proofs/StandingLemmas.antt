@@ -7,7 +7,7 @@ use Rattle.std.specs.Option.{option_or}
 use Rattle.rust_source.specs.declared.item.Item.{Item}
 use Rattle.abi_rust.specs.declared.fault.Stop.{Stop}
 use Rattle.abi_rust.specs.Scope.{numbered, several}
-use Rattle.abi_rust.specs.Standing.{ModuleName, constant_at, constructor_at, first_repeated, first_so, key_of, last_so, one_so, repeated_by, type_at}
+use Rattle.abi_rust.specs.Standing.{ModuleName, constant_at, constructor_at, first_repeated, key_of, last_so, one_so, repeated_by, type_at}
 
 -- the last of one more
 pub last_snoc : {A : Type 0} (is : A → Bool) (i : ℕ) (xs : List A) (x : A)
@@ -26,25 +26,6 @@ last_more is xs i d within =
     let long : length (take i xs) ≡ i = grind (arith, common_steps) in
     let all : take (i + 1) xs ≡ take i xs ++ get_or xs i d ∷ [] = rw add-one (take-suc xs i d within) in
     rw all (last_snoc is 0 (take i xs) (get_or xs i d) ∙ ap (λ n. if is (get_or xs i d) then Some (numbered n) else last_so is 0 (take i xs)) (rw long (zero-add i)))
-
--- the first of one more
-pub first_snoc : {A : Type 0} (is : A → Bool) (i : ℕ) (xs : List A) (x : A)
-    → first_so is i (xs ++ x ∷ []) ≡ option_or (first_so is i xs) (if is x then Some (numbered (i + length xs)) else None)
-first_snoc is i [] x = rw add-zero refl
-first_snoc is i (y ∷ xs) x =
-    let same : i + 1 + length xs ≡ i + length (y ∷ xs) = omega arith in
-    let more : first_so is (i + 1) (xs ++ x ∷ []) ≡ option_or (first_so is (i + 1) xs) (if is x then Some (numbered (i + length (y ∷ xs))) else None) =
-    first_snoc is (i + 1) xs x ∙ ap (λ n. option_or (first_so is (i + 1) xs) (if is x then Some (numbered n) else None)) same in
-    elim (is y) as (λ v. (if v then Some (numbered i) else first_so is (i + 1) (xs ++ x ∷ []))
-    ≡ option_or (if v then Some (numbered i) else first_so is (i + 1) xs) (if is x then Some (numbered (i + length (y ∷ xs))) else None)) [ true ↦ refl | false ↦ more ]
-
--- the first of those up to an index, and that one too
-pub first_more : {A : Type 0} (is : A → Bool) (xs : List A) (i : ℕ) (d : A) → i < length xs
-    → first_so is 0 (take (i + 1) xs) ≡ option_or (first_so is 0 (take i xs)) (if is (get_or xs i d) then Some (numbered i) else None)
-first_more is xs i d within =
-    let long : length (take i xs) ≡ i = grind (arith, common_steps) in
-    let all : take (i + 1) xs ≡ take i xs ++ get_or xs i d ∷ [] = rw add-one (take-suc xs i d within) in
-    rw all (first_snoc is 0 (take i xs) (get_or xs i d) ∙ ap (λ n. option_or (first_so is 0 (take i xs)) (if is (get_or xs i d) then Some (numbered n) else None)) (rw long (zero-add i)))
 
 -- that of the one of one more
 one_snoc : {A : Type 0} (is : A → Bool) (i : ℕ) (xs : List A) (x : A)

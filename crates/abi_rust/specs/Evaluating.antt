@@ -9,7 +9,6 @@ use Rattle.rust_source.specs.declared.item.UsedName.{UsedName}
 use Rattle.rust_source.specs.declared.item.Variant.{Variant}
 use Rattle.rust_source.specs.declared.place.Place.{Place}
 use Rattle.rust_source.specs.declared.place.Symbol.{Symbol}
-use Rattle.rust_source.specs.declared.syntax.Argument.{Argument, out-Argument}
 use Rattle.rust_source.specs.declared.syntax.Argument.TheOpen as layer
 use Rattle.rust_source.specs.declared.syntax.Binary.{Binary}
 use Rattle.rust_source.specs.declared.syntax.Expr.{Expr, out-Expr, Integer as IntegerExpr, Char as CharExpr, Bool as BoolExpr, Text as TextExpr, Path as PathExpr, Call', Unary', Binary', Cast', If', Let', Unevaluated as UnevaluatedExpr}
@@ -20,6 +19,7 @@ use Rattle.rust_source.specs.declared.syntax.Segment.{Segment, out-Segment}
 use Rattle.rust_source.specs.declared.syntax.«Type».{«Type» as Written, Array', Reference'}
 use Rattle.rust_source.specs.declared.syntax.Unary.{Unary}
 use Rattle.rust_source.specs.declared.syntax.Unary.TheVariants.{Minus}
+use Rattle.rust_source.specs.Syntax.{expr_of}
 use Rattle.rust_source.specs.declared.syntax.Unevaluated.TheVariants.{Associated, Expression}
 use Rattle.abi_rust.specs.declared.fault.FaultKind.{FaultKind}
 use Rattle.abi_rust.specs.declared.fault.FaultKind.TheVariants.{Ambiguous, EnumCast, Private, Unevaluated, UnknownConstant, WrongType}
@@ -40,12 +40,13 @@ use Rattle.abi_rust.specs.declared.budget.Context.{Context}
 use Rattle.abi_rust.specs.declared.words.Word.TheVariants as word
 use Rattle.abi_rust.specs.EnumGlobs.{item_found}
 use Rattle.abi_rust.specs.Int.{greatest_number, least_number}
-use Rattle.abi_rust.specs.Kinds.{FunctionRead, constant_named, constant_place, function_called, given_named, integer_call, is_shift, item_at, kind_of_names, choice_kind, is_open, kind_of_expr, kind_written, local_at, local_kind, names_method, operand_kind, outside, owner_named, parameter_named, parameter_type, result_kind, single_name}
+use Rattle.abi_rust.specs.Kinds.{FunctionRead, constant_named, constant_place, function_called, given_named, integer_call, is_shift, item_at, kind_of_names, choice_kind, is_open, kind_of_expr, kind_written, local_at, local_kind, names_method, only_type, operand_kind, outside, owner_named, parameter_named, parameter_type, result_kind, single_name}
 use Rattle.abi_rust.specs.Known.{known_at}
 use Rattle.abi_rust.specs.Meaning.{Meaning, then_meant, fault_at, too_deep}
 use Rattle.abi_rust.specs.Methods.{end_of, kind_beside, made_of_both, made_of_one}
 use Rattle.abi_rust.specs.Names.{before_last, found, found_of}
 use Rattle.abi_rust.specs.Operators.{Made, binary_of, bits_of_integer, cast_of, fitted, is_settled, is_signed, is_same_kind, unary_of}
+use Rattle.abi_rust.specs.ParameterFree.{expr_uses}
 use Rattle.abi_rust.specs.Places.{last_name, place_of_expr, place_of_path}
 use Rattle.abi_rust.specs.Scope.{enum_glob, module_in, use_in}
 use Rattle.abi_rust.specs.Types.{GenericArgRead, Where, of_value, where_of}
@@ -144,19 +145,6 @@ written_before index (v ∷ vs) = written_from index vs 0 v.discriminant
 abbrev pub variant_from : (counted_on : ℕ) → Symbol → List Variant → Option ℕ
 variant_from n name [] = None
 variant_from n name (v ∷ vs) = if is_same_name v.name name then Some n else variant_from (suc n) name vs
-
--- the type that an argument is
-abbrev pub argument_type : Argument → Option Written
-argument_type a = elim (out-Argument a) as (λ _. Option Written) [ layer.«Type» t ↦ Some t | layer.Const e ↦ None | layer.Binding at ↦ None ]
-
--- the type that is the only argument
-abbrev pub only_argument : List Argument → Option Written
-only_argument (a ∷ []) = argument_type a
-only_argument _ = None
-
--- the type that a path's last name is given, where that is all
-unfoldable pub only_type : Path → Option Written
-only_type p = option_and_then (λ s. only_argument (out-Segment s).arguments.items) (last_name p)
 
 -- the limit of this name of an integer type
 abbrev pub limit_named : Context → IntegerKind → Symbol → Option ValueRead
@@ -350,6 +338,10 @@ module _ (cx : Context) where
   abbrev pub right_kind : Where → Binary → ValueRead → Expr → Option Kind
   right_kind w b v r = if is_shift b then kind_of_expr cx.items.now cx.scope.now w r else Some (kind_read v)
 
+  -- the value of the constant of this number is calculated from a parameter of its block
+  abbrev pub is_calculated : ℕ → Item → Expr → Bool
+  is_calculated n it e = expr_uses cx (record { inside = it.«module»; item = Some n; given = []; locals = [] }) (expr_of e)
+
   -- an expression has a type of its own, as a method is called on one
   abbrev pub has_own_type : Where → Expr → Bool
   has_own_type w e = is_some (kind_of_expr cx.items.now cx.scope.now w e) || is_call e
@@ -455,7 +447,8 @@ module _ (cx : Context) where
     cast_value w e t at = cast_by w e at (kind_written cx.items.now cx.scope.now w t)
 
     abbrev pub constant_on : ℕ → Item → Place → (kind : Option Kind) → Option Expr → Meaning ValueRead
-    constant_on n it at (Some kind) (Some e) = E (constant_place cx.scope.now n it) e (Some kind)
+    constant_on n it at (Some kind) (Some e) =
+        if is_calculated n it e then fault_at at (Unevaluated Expression) else E (constant_place cx.scope.now n it) e (Some kind)
     constant_on n it at _ _ = fault_at at (Unevaluated Expression)
 
     abbrev pub constant_of_kind : ℕ → Item → Place → ItemKind → Meaning ValueRead

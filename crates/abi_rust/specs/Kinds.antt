@@ -1,10 +1,12 @@
 -- The type of a constant expression, found without its value.
-use Rattle.std.specs.Prelude.{ℕ, zero, suc, ◌-◌, ◌&&◌, ◌||◌, nat_eq, nat_lt, not, is_some, Bool, true, false, List, [], ◌∷◌, length, slice_get, Option, Some, None, if◌then◌else◌}
+use Rattle.std.specs.Prelude.{ℕ, zero, suc, ◌+◌, ◌-◌, ◌&&◌, ◌||◌, nat_eq, nat_lt, not, is_some, Bool, true, false, List, [], ◌∷◌, length, slice_get, Option, Some, None, if◌then◌else◌}
+use Rattle.std.specs.List.{list_any}
 use Rattle.std.specs.Option.{option_and_then, option_or}
 use Rattle.rust_source.specs.declared.item.Item.{Item}
 use Rattle.rust_source.specs.declared.item.ItemKind.{ItemKind}
 use Rattle.rust_source.specs.declared.item.ItemKind.TheVariants.{Alias as AliasItem, Const as ConstItem}
 use Rattle.rust_source.specs.declared.item.Items.{Items}
+use Rattle.rust_source.specs.declared.item.Owner.{Owner}
 use Rattle.rust_source.specs.declared.item.Parameter.{Parameter}
 use Rattle.rust_source.specs.declared.item.ParameterKind.{ParameterKind}
 use Rattle.rust_source.specs.declared.item.ParameterKind.TheVariants.{Const as ConstParameter, «Type» as TypeParameter}
@@ -17,13 +19,14 @@ use Rattle.rust_source.specs.declared.syntax.IntegerKind.{IntegerKind}
 use Rattle.rust_source.specs.declared.syntax.IntegerKind.TheVariants.{U32, Usize}
 use Rattle.rust_source.specs.declared.syntax.Path.{Path, out-Path}
 use Rattle.rust_source.specs.declared.syntax.Segment.{Segment, out-Segment}
+use Rattle.rust_source.specs.declared.syntax.Argument.{Argument, out-Argument}
 use Rattle.rust_source.specs.declared.syntax.Argument.TheOpen as layer
 use Rattle.rust_source.specs.declared.syntax.«Type».{«Type» as Written, Path as PathType, out-Type}
 use Rattle.abi_rust.specs.declared.calls.Function.{Function}
 use Rattle.abi_rust.specs.declared.methods.IntegerCall.{IntegerCall}
 use Rattle.abi_rust.specs.declared.methods.Method.{Method}
 use Rattle.abi_rust.specs.declared.paths.Resolution.{Resolution}
-use Rattle.abi_rust.specs.declared.paths.Resolution.TheVariants.{Item as ItemFound, Primitive as PrimitiveFound}
+use Rattle.abi_rust.specs.declared.paths.Resolution.TheVariants.{Item as ItemFound, Module as ModuleFound, Primitive as PrimitiveFound}
 use Rattle.abi_rust.specs.declared.paths.Space.TheVariants.{Types, Values}
 use Rattle.abi_rust.specs.declared.scope.Scope.{Scope}
 use Rattle.abi_rust.specs.declared.ty.Kind.{Kind}
@@ -34,7 +37,7 @@ use Rattle.abi_rust.specs.declared.words.Word.TheVariants as word
 use Rattle.abi_rust.specs.Methods.{kind_made, suffix_kind}
 use Rattle.abi_rust.specs.Names.{found, found_of, visibility_of_item}
 use Rattle.abi_rust.specs.Places.{last_name}
-use Rattle.abi_rust.specs.Scope.{own_constant, owner_of}
+use Rattle.abi_rust.specs.Scope.{numbered, own_constant, owner_of, several, trait_constant}
 use Rattle.abi_rust.specs.Types.{GenericArgRead, LocalRead, Where, of_type, primitive}
 use Rattle.abi_rust.specs.Values.{ValueRead, kind_read}
 use Rattle.abi_rust.specs.Visible.{is_visible}
@@ -157,9 +160,47 @@ is_shift _ = false
 abbrev pub operands_kind : Binary → (left right : Option Kind) → Option Kind
 operands_kind b left right = if is_shift b then left else option_or left right
 
--- a constant's type and value are found in its module, and in the type whose own it is
+-- a constant's type and value are found in its module, and in the type in whose block it stands
 abbrev pub constant_place : Scope → (constant : ℕ) → Item → Where
 constant_place s n it = record { inside = it.«module»; item = owner_of s n; given = []; locals = [] }
+
+-- the type that an argument is
+abbrev pub argument_type : Argument → Option Written
+argument_type a = elim (out-Argument a) as (λ _. Option Written) [ layer.«Type» t ↦ Some t | layer.Const e ↦ None | layer.Binding at ↦ None ]
+
+-- the type that is the only argument
+abbrev pub only_argument : List Argument → Option Written
+only_argument (a ∷ []) = argument_type a
+only_argument _ = None
+
+-- the type that a path's last name is given, where that is all
+unfoldable pub only_type : Path → Option Written
+only_type p = option_and_then (λ s. only_argument (out-Segment s).arguments.items) (last_name p)
+
+-- what a constant belongs to that is no module's
+abbrev pub owner_at : Items → ItemKind → Option Owner
+owner_at items (ConstItem c) = option_and_then (slice_get items.owners.items) c.owner
+owner_at items _ = None
+
+-- it is this number
+abbrev pub is_number : ℕ → Option ℕ → Bool
+is_number n None = false
+is_number n (Some m) = nat_eq n m
+
+-- a name is given something
+abbrev pub gives : Option Segment → Bool
+gives None = false
+gives (Some s) = is_given s
+
+-- the number of the first of these that is so, the first of which stands at this index
+abbrev pub first_so : {A : Type 0} → (A → Bool) → (index : ℕ) → List A → Option ℕ
+first_so is i [] = None
+first_so is i (x ∷ xs) = if is x then Some (numbered i) else first_so is (i + 1) xs
+
+-- the trait that is found
+abbrev pub trait_found : Option Resolution → Option ℕ
+trait_found (Some (ModuleFound m)) = Some m
+trait_found _ = None
 
 -- nothing in an expression tells its type
 abbrev pub is_open : Expr → Bool
@@ -200,6 +241,31 @@ module _ (items : Items) (scope : Scope) where
   -- the struct, enum or union that the first names of a path name, so many of them
   unfoldable pub type_named : (inside : ℕ) → Path → (count : ℕ) → Option ℕ
   type_named m p count = type_within most_aliases (found_of items scope m p count Types)
+
+  -- the type that a block names
+  abbrev pub type_of_owner : Owner → Option ℕ
+  type_of_owner o = option_and_then (λ p. type_named o.«module» p (length (out-Path p).segments.items)) o.ty
+
+  -- the trait that a path names, where it is read
+  abbrev pub trait_named : (inside : ℕ) → Path → Option ℕ
+  trait_named m p = trait_found (found items scope m p Types)
+
+  -- the trait that a block implements, or that it is
+  abbrev pub trait_of_owner : Owner → Option ℕ
+  trait_of_owner o = option_and_then (trait_named o.«module») o.of_trait
+
+  -- the trait whose the constant of this number is
+  abbrev pub trait_of : ℕ → Option ℕ
+  trait_of n = option_and_then (λ (it : Item). option_and_then trait_of_owner (owner_at items it.kind)) (item_at n)
+
+  -- a block implements the trait for the type
+  abbrev pub is_impl : (of_trait type : ℕ) → Owner → Bool
+  is_impl t n o = is_number n (type_of_owner o) && is_number t (trait_of_owner o)
+
+  -- the type implements the trait in a block that is read
+  abbrev pub implements : (type : ℕ) → (of_trait : Option ℕ) → Bool
+  implements n None = false
+  implements n (Some t) = list_any (is_impl t n) items.owners.items
 
   -- the type of constants that an item is, by the alias that it may be
   abbrev pub kind_on : (go_on : Option Resolution → Option Kind) → (inside : ℕ) → ItemKind → Option Kind
@@ -265,22 +331,112 @@ module _ (items : Items) (scope : Scope) where
   abbrev pub if_visible : (inside : ℕ) → ℕ → Option ℕ
   if_visible m n = if is_visible items (visibility_of_item items n) m then Some n else None
 
-  -- the constant of this name that is such a type's own, if it may be used in the module
+  -- the type has parameters
+  abbrev pub has_parameters : (type : ℕ) → Bool
+  has_parameters n = nat_lt 0 (length (parameters_of (item_at n)))
+
+  -- the type's blocks may have constants of any name
+  abbrev pub has_any : (type : ℕ) → Bool
+  has_any n = is_some (own_constant scope n UNDERSCORE) || is_some (trait_constant scope n UNDERSCORE)
+
+  -- the constant of this name that a trait has itself
+  abbrev pub declared : Symbol → Option ℕ
+  declared name = trait_constant scope several name
+
+  -- no trait that is read has a constant of the name but this one
+  abbrev pub is_only : (of_trait declared : Option ℕ) → Bool
+  is_only t None = true
+  is_only None (Some d) = false
+  is_only (Some t) (Some d) = is_number t (trait_of d)
+
+  abbrev pub trait_constant_by : (type : ℕ) → (in_block declared : Option ℕ) → Option ℕ
+  trait_constant_by n (Some c) d = if is_only (trait_of c) d then Some c else None
+  trait_constant_by n None (Some d) = if implements n (trait_of d) then Some d else None
+  trait_constant_by n None None = None
+
+  -- the constant of this name of a trait that a type without parameters implements: the one of a block, or the trait's own
+  abbrev pub constant_of_trait : (type : ℕ) → Symbol → Option ℕ
+  constant_of_trait n name = if has_parameters n || has_any n then None else trait_constant_by n (trait_constant scope n name) (declared name)
+
+  -- what a constant belongs to is the trait itself where no type is asked for, and else a block that implements it for the type
+  abbrev pub is_of : (of_trait : ℕ) → (type : Option ℕ) → Owner → Bool
+  is_of t None o = not (is_some o.ty) && is_number t (trait_of_owner o)
+  is_of t (Some n) o = is_impl t n o
+
+  abbrev pub is_of_owner : (of_trait : ℕ) → (type : Option ℕ) → Option Owner → Bool
+  is_of_owner t n None = false
+  is_of_owner t n (Some o) = is_of t n o
+
+  -- an item is the constant of this name of the trait: in a block of the type, or in the trait itself where none is asked for
+  abbrev pub is_constant_of : (of_trait : ℕ) → (type : Option ℕ) → Symbol → Item → Bool
+  is_constant_of t n name it = is_same_name it.name name && is_of_owner t n (owner_at items it.kind)
+
+  -- the first such item
+  abbrev pub first_of : (of_trait : ℕ) → (type : Option ℕ) → Symbol → Option ℕ
+  first_of t n name = first_so (is_constant_of t n name) 0 items.items.items
+
+  abbrev pub is_plain_by : Option Owner → Bool
+  is_plain_by None = false
+  is_plain_by (Some o) = nat_eq (length o.parameters.items) 0
+
+  -- the constant of this number stands in a block, or a trait, without parameters
+  abbrev pub is_plain : ℕ → Bool
+  is_plain d = is_plain_by (option_and_then (λ (it : Item). owner_at items it.kind) (item_at d))
+
+  abbrev pub by_declared : (of_trait type : ℕ) → Symbol → (declared : Option ℕ) → Option ℕ
+  by_declared t n name None = None
+  by_declared t n name (Some d) =
+      if is_plain d then option_or (first_of t (Some n) name) (if implements n (Some t) then Some d else None) else None
+
+  -- the constant of this name of a trait that a type implements, both without parameters
+  abbrev pub constant_by_trait : (of_trait type : ℕ) → Symbol → Option ℕ
+  constant_by_trait t n name = if has_parameters n || has_any n then None else by_declared t n name (first_of t None name)
+
+  -- a type's own constant is all that a name can mean; one of a type with parameters may stand in a block of some of its types alone
+  abbrev pub is_certain : (type : ℕ) → Symbol → Bool
+  is_certain n name = not (has_parameters n && (has_any n || is_some (declared name)))
+
+  -- the constant of this name of a type: its own one stands before a trait's (Rust Reference, "Path expressions")
+  abbrev pub constant_of_type : (inside : ℕ) → (type : ℕ) → Symbol → (own : Option ℕ) → Option ℕ
+  constant_of_type m n name (Some c) = if is_certain n name then if_visible m c else None
+  constant_of_type m n name None = constant_of_trait n name
+
+  -- the constant of this name of such a type, if it may be used in the module
   abbrev pub own_constant_by : (inside : ℕ) → Option ℕ → Option Segment → Option ℕ
-  own_constant_by m (Some t) (Some s) = option_and_then (if_visible m) (own_constant scope t (out-Segment s).name)
+  own_constant_by m (Some n) (Some s) = constant_of_type m n (out-Segment s).name (own_constant scope n (out-Segment s).name)
   own_constant_by m _ _ = None
+
+  -- the trait that a path's last name is given
+  abbrev pub trait_given : (inside : ℕ) → Option Written → Option ℕ
+  trait_given m (Some (PathType p)) = if gives (last_name p) then None else trait_named m p
+  trait_given m _ = None
+
+  abbrev pub by_trait : (of_trait type : Option ℕ) → Option Segment → Option ℕ
+  by_trait (Some t) (Some n) (Some s) = constant_by_trait t n (out-Segment s).name
+  by_trait _ _ _ = None
+
+  -- the constant of a type and a trait, `<T as R>::N`, which is `T::N::_::<R>`
+  abbrev pub named_by_trait : Where → Path → Option ℕ
+  named_by_trait w p =
+      let count = length (out-Path p).segments.items - 2 in
+      by_trait (trait_given w.inside (only_type p)) (owner_named w p count) (slice_get (out-Path p).segments.items count)
+
+  -- it is the name `_`
+  abbrev pub is_blank : Option Segment → Bool
+  is_blank None = false
+  is_blank (Some s) = is_same_name (out-Segment s).name UNDERSCORE
 
   -- the constant of a type that a path names
   unfoldable pub own_named : Where → Path → Option ℕ
   own_named w p =
       let count = length (out-Path p).segments.items - 1 in
-      own_constant_by w.inside (owner_named w p count) (last_name p)
+      if is_blank (last_name p) then named_by_trait w p else own_constant_by w.inside (owner_named w p count) (last_name p)
 
   abbrev pub constant_found : Where → Path → Option Resolution → Option ℕ
   constant_found w p (Some (ItemFound n)) = Some n
   constant_found w p _ = own_named w p
 
-  -- the constant that a path names: a module's, or a type's own
+  -- the constant that a path names: a module's, or a type's
   unfoldable pub constant_named : Where → Path → Option ℕ
   constant_named w p = constant_found w p (found items scope w.inside p Values)
 

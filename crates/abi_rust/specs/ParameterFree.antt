@@ -3,6 +3,7 @@ use Rattle.std.specs.Prelude.{ℕ, ◌&&◌, ◌||◌, not, nat_eq, nat_lt, is_s
 use Rattle.std.specs.Option.{option_and_then}
 use Rattle.rust_source.specs.Syntax.{ArgumentRead, ArgumentsRead, ExprRead, ExprsRead, PathRead, SegmentRead, SegmentsRead, TypeRead, TypesRead, array, binary, binding, bool, call, cast, char, choice, constant, dyn, expr_of, function, integer, local, more_arguments, more_exprs, more_segments, more_types, named, never, no_arguments, no_exprs, no_segments, no_types, of_const, of_type, other_expr, other_type, path, pointer, reference, segment, slice, text, tuple, unary}
 use Rattle.rust_source.specs.declared.item.Item.{Item}
+use Rattle.rust_source.specs.declared.item.Owner.{Owner}
 use Rattle.rust_source.specs.declared.item.Parameter.{Parameter}
 use Rattle.rust_source.specs.declared.item.ParameterKind.{ParameterKind}
 use Rattle.rust_source.specs.declared.item.ParameterKind.TheVariants.{Const as ConstParameter, «Type» as TypeParameter}
@@ -12,7 +13,7 @@ use Rattle.rust_source.specs.declared.syntax.Path.{Path, out-Path}
 use Rattle.rust_source.specs.declared.syntax.Segment.{Segment, out-Segment}
 use Rattle.abi_rust.specs.declared.budget.Context.{Context}
 use Rattle.abi_rust.specs.declared.fault.FaultKind.TheVariants.{ParameterInConstant}
-use Rattle.abi_rust.specs.Kinds.{item_at, parameters_of, single_name}
+use Rattle.abi_rust.specs.Kinds.{item_at, owner_at, single_name}
 use Rattle.abi_rust.specs.Known.{same_truth}
 use Rattle.abi_rust.specs.Meaning.{Meaning, fault_at}
 use Rattle.abi_rust.specs.Places.{place_of_expr}
@@ -32,6 +33,15 @@ is_among is_type name (p ∷ ps) = (nat_eq p.name.0 name && same_truth (is_of_ty
 abbrev pub is_generic : Option Item → Bool
 is_generic None = false
 is_generic (Some it) = nat_lt 0 it.lifetimes || nat_lt 0 (length it.parameters.items)
+
+-- the parameters that may be named in an item: its own, or those of the block that it stands in
+abbrev pub parameters_by : Item → (block : Option Owner) → List Parameter
+parameters_by it None = it.parameters.items
+parameters_by it (Some o) = o.parameters.items
+
+abbrev pub parameters_around : Context → Option Item → List Parameter
+parameters_around cx None = []
+parameters_around cx (Some it) = parameters_by it (owner_at cx.items.now it.kind)
 
 -- the first of these names
 abbrev pub first_of : SegmentsRead → Option ℕ
@@ -59,11 +69,11 @@ module _ (cx : Context) (w : Where) where
 
   -- a constant's parameter has the name
   abbrev pub is_constant_name : (name : ℕ) → Bool
-  is_constant_name name = is_among false name (parameters_of cx.items.now cx.scope.now item_around)
+  is_constant_name name = is_among false name (parameters_around cx item_around)
 
   -- a type's parameter has the name, or it is `Self` in an item that has parameters
   abbrev pub is_type_name : (name : ℕ) → Bool
-  is_type_name name = is_among true name (parameters_of cx.items.now cx.scope.now item_around) || (nat_eq name SELF_TYPE.0 && is_generic item_around)
+  is_type_name name = is_among true name (parameters_around cx item_around) || (nat_eq name SELF_TYPE.0 && is_generic item_around)
 
   -- a path begins with a parameter, whose first name this is: alone with a constant's, or a type's where a type is written,
   -- and else with a type's

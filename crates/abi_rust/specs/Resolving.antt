@@ -18,7 +18,7 @@ use Rattle.rust_source.specs.declared.syntax.IntegerKind.TheVariants.{Usize}
 use Rattle.rust_source.specs.declared.syntax.Path.{Path, out-Path}
 use Rattle.rust_source.specs.declared.syntax.Segment.{Segment, out-Segment}
 use Rattle.rust_source.specs.declared.syntax.«Type».{«Type» as Written, out-Type, Path as PathType}
-use Rattle.rust_source.specs.declared.syntax.Unevaluated.TheVariants.{Associated, Inferred}
+use Rattle.rust_source.specs.declared.syntax.Unevaluated.TheVariants.{Associated, Expression, Inferred}
 use Rattle.abi_rust.specs.declared.fault.FaultKind.{FaultKind}
 use Rattle.abi_rust.specs.declared.fault.FaultKind.TheVariants.{Ambiguous, Binding, NotAType, Overflow, Private, Unevaluated, UnknownOrigin, UnknownType, WrongArguments, WrongKindOfArgument, WrongType}
 use Rattle.abi_rust.specs.declared.paths.Resolution.{Resolution}
@@ -33,7 +33,7 @@ use Rattle.abi_rust.specs.declared.budget.Instance.{Instance}
 use Rattle.abi_rust.specs.declared.words.Word.{Word}
 use Rattle.abi_rust.specs.declared.words.Word.TheVariants as word
 use Rattle.abi_rust.specs.Evaluating.{evaluator, path_value}
-use Rattle.abi_rust.specs.Kinds.{given_named, is_given, item_at, kind_written, outside, single_name}
+use Rattle.abi_rust.specs.Kinds.{given_named, is_given, item_at, kind_written, outside, parameters_of, single_name}
 use Rattle.abi_rust.specs.Meaning.{Meaning, then_meant, fault_at, too_deep}
 use Rattle.abi_rust.specs.Names.{found}
 use Rattle.abi_rust.specs.Objects.{is_object}
@@ -165,8 +165,12 @@ module _ (cx : Context) where
   may_be_constant w p =
       is_some (single_name p) && (not (is_some (type_given w p)) && not (is_other (found cx.items.now cx.scope.now w.inside p Types)))
 
+  -- all parameters of the item are given something, as they aren't in a constant of a type with parameters
+  abbrev pub gives_all : Where → (item : ℕ) → Bool
+  gives_all w n = not (nat_lt (length w.given) (length (parameters_of cx.items.now cx.scope.now (item_at cx.items.now cx.scope.now n))))
+
   abbrev pub self_by : Where → Path → Option ℕ → Meaning TyRead
-  self_by w p (Some item) = Ok (adt item (givens w.given))
+  self_by w p (Some item) = if gives_all w item then Ok (adt item (givens w.given)) else fault_at (place_of_path p) (Unevaluated Expression)
   self_by w p None = fault_at (place_of_path p) (UnknownType SELF_TYPE)
 
   -- the first of several names is a parameter's, or `Self`

@@ -32,7 +32,11 @@ constant_standing s m name = get same_key s.values (m, name.0)
 unfoldable pub own_constant : Scope → (type : ℕ) → Symbol → Option ℕ
 own_constant s t name = get same_key s.own_constants (t, name.0)
 
--- the type whose own the constant of this number is
+-- the constant of this name of a trait that stands in a block of the type, which has this number
+unfoldable pub trait_constant : Scope → (type : ℕ) → Symbol → Option ℕ
+trait_constant s t name = get same_key s.trait_constants (t, name.0)
+
+-- the type in whose block the constant of this number stands
 unfoldable pub owner_of : Scope → (constant : ℕ) → Option ℕ
 owner_of s c = get nat_eq s.owners c
 
@@ -48,7 +52,7 @@ use_in s m name = get same_key s.uses (m, name.0)
 unfoldable pub enum_glob : Scope → (inside : ℕ) → Option ℕ
 enum_glob s m = get nat_eq s.enum_globs m
 
--- no use has this number, since there are fewer: it stands for several that bring in one name
+-- no use, and no item, has this number, since there are fewer: it stands for several that have one name
 abbrev pub several : ℕ
 several = 2 ^ 32 - 1
 

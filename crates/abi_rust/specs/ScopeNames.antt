@@ -6,7 +6,7 @@ use Rattle.abi_rust.specs.declared.fault.Stop.{Stop}
 use Rattle.abi_rust.specs.declared.scope.Scope.{Scope}
 use Rattle.abi_rust.specs.declared.words.Word.TheVariants.{Prelude}
 use Rattle.abi_rust.specs.EnumGlobs.{enum_brought}
-use Rattle.abi_rust.specs.OwnConstants.{own_at, type_owning}
+use Rattle.abi_rust.specs.OwnConstants.{of_trait_at, own_at, type_owning}
 use Rattle.abi_rust.specs.Scope.{module_in, same_key}
 use Rattle.abi_rust.specs.Standing.{ModuleName, constant_at, first_repeated, module_at, type_at, use_at}
 use Rattle.abi_rust.specs.Words.{symbol_of}
@@ -28,9 +28,10 @@ pub record KeepsNames (items : Items) (scope : Scope) : Type 0 where
   -- the module whose names are everywhere is called `prelude`
   pub prelude : scope.prelude ≡ module_in scope scope.std_root (symbol_of scope.words Prelude)
 
--- each constant of a type is that of the type which stands under the name, and knows its type
+-- each constant of a type, and of a trait, is the one that stands under the name, and knows the type of its block
 pub record KeepsOwn (items : Items) (scope : Scope) : Type 0 where
   pub constants : (of_type_and_name : ModuleName) → get same_key scope.own_constants of_type_and_name ≡ own_at items scope of_type_and_name
+  pub of_traits : (of_type_and_name : ModuleName) → get same_key scope.trait_constants of_type_and_name ≡ of_trait_at items scope of_type_and_name
   pub owners : (number : ℕ) → get nat_eq scope.owners number ≡ type_owning items scope number
 
 -- each module has the enum whose variants its globs bring in

@@ -25,11 +25,6 @@ abbrev pub last_so : {A : Type 0} → (A → Bool) → (index : ℕ) → List A 
 last_so is i [] = None
 last_so is i (x ∷ xs) = option_or (last_so is (i + 1) xs) (if is x then Some (numbered i) else None)
 
--- the number of the first of these that is so
-abbrev pub first_so : {A : Type 0} → (A → Bool) → (index : ℕ) → List A → Option ℕ
-first_so is i [] = None
-first_so is i (x ∷ xs) = if is x then Some (numbered i) else first_so is (i + 1) xs
-
 -- the number of the one of these that is so, the first of which stands at this index; that of several where there are
 abbrev pub one_so : {A : Type 0} → (A → Bool) → (index : ℕ) → List A → Option ℕ
 one_so is i [] = None

@@ -1,20 +1,23 @@
-//! Constants by their paths: those of modules, and those of types, as `Header::LEN`.
+//! Constants by their paths: those of modules, and those of types and of traits, as `Header::LEN`.
 
 ghost use Rattle.std.specs.Prelude.{◌≡◌};
 ghost use Rattle.std.specs.Option.{option_map};
 ghost use Rattle.abi_rust.specs.Evaluating.{value_given};
-ghost use Rattle.abi_rust.specs.Kinds.{constant_named, constant_place, if_visible, own_named, owner_named};
+ghost use Rattle.abi_rust.specs.Kinds.{constant_named, constant_of_type, constant_place, if_visible, named_by_trait, own_named, owner_named};
+ghost use Rattle.abi_rust.specs.Scope.{own_constant};
 ghost use Rattle.abi_rust.specs.Types.{where_of};
 ghost use Rattle.abi_rust.specs.Values.{value_as_read};
 
 use crate::budget::{Context, Env, most_deep};
 use crate::kind::{given_named, local_named, name_alone, parameter_named, single_name};
 use crate::paths::{Resolution, Space, find, type_named, visibility_of_item};
+use crate::sizes::only_type;
+use crate::trait_constants::{constant_by_trait, constant_of_trait, is_certain, trait_given};
 use crate::ty::{ConstValue, GenericArg};
 use crate::visible::is_visible;
 use rust_source::{Item, Path, Symbol};
 
-/// The constant that a path names: a module's, or a type's own.
+/// The constant that a path names: a module's, or a type's.
 #[tactic(auto, unfolding(crate::specs::Kinds::constant_named))]
 pub(crate) fn constant_named(cx: &Context<'_, '_>, env: Env<'_>, path: &Path) -> Option<u32>
     ensures { result ≡ constant_named cx.now.items.now cx.now.scope.now (where_of env.entry) path.now }
@@ -30,9 +33,40 @@ pub(crate) fn constant_named(cx: &Context<'_, '_>, env: Env<'_>, path: &Path) ->
 fn own_named(cx: &Context<'_, '_>, env: Env<'_>, path: &Path) -> Option<u32>
     ensures { result ≡ own_named cx.now.items.now cx.now.scope.now (where_of env.entry) path.now }
 {
-    let owner = owner_named(cx, env, path, path.segments.len().saturating_sub(1))?;
     let last = path.segments.last()?;
-    if_visible(cx, env.module, cx.scope.own_constant(owner, last.name)?)
+    if last.name == Symbol::UNDERSCORE {
+        return named_by_trait(cx, env, path);
+    }
+    let owner = owner_named(cx, env, path, path.segments.len().saturating_sub(1))?;
+    constant_of_type(cx, env.module, owner, last.name)
+}
+
+/// The constant of a type and a trait, `<T as R>::N`, which is `T::N::_::<R>`.
+fn named_by_trait(cx: &Context<'_, '_>, env: Env<'_>, path: &Path) -> Option<u32>
+    ensures { result ≡ named_by_trait cx.now.items.now cx.now.scope.now (where_of env.entry) path.now }
+{
+    let count = path.segments.len().saturating_sub(2);
+    let of_trait = trait_given(cx, env.module, only_type(path)?)?;
+    let owner = owner_named(cx, env, path, count)?;
+    let segment = path.segments.get(count)?;
+    constant_by_trait(cx, of_trait, owner, segment.name)
+}
+
+/// The constant of this name of a type, its own or a trait's, if it may be used in a module.
+fn constant_of_type(cx: &Context<'_, '_>, module: u32, owner: u32, name: Symbol) -> Option<u32>
+    ensures { result ≡ constant_of_type cx.now.items.now cx.now.scope.now «module» owner name
+        (own_constant cx.now.scope.now owner name) }
+{
+    match cx.scope.own_constant(owner, name) {
+        Some(number) => {
+            if is_certain(cx, owner, name) {
+                if_visible(cx, module, number)
+            } else {
+                None
+            }
+        }
+        None => constant_of_trait(cx, owner, name),
+    }
 }
 
 /// The constant of this number, if it may be used in a module.
@@ -81,8 +115,8 @@ pub(crate) fn value_given(cx: &Context<'_, '_>, env: Env<'_>, path: &Path) -> Op
     }
 }
 
-/// Where the value of the constant of this number stands: in its module, and in the type whose own it is. All depth is
-/// left.
+/// Where the value of the constant of this number stands: in its module, and in the type in whose block it is. All depth
+/// is left.
 pub(crate) fn inside_constant(cx: &Context<'_, '_>, number: u32, item: &Item) -> Env<'static>
     ensures { where_of result ≡ constant_place cx.now.scope.now number item.now }
 {

@@ -3,7 +3,7 @@
 ghost use Rattle.std.specs.Prelude.{◌≡◌, [], ◌∷◌, false, true, pos, IfErr, IfOk, Ok, Some, map, nat_eq, length};
 ghost use Rattle.std.specs.Option.{option_copied, option_map};
 ghost use Rattle.indexmap.specs.IndexMap.{get};
-ghost use Rattle.abi_rust.specs.Evaluating.{AreValues, argument_value, arguments_from, binary_value, bound_value, branch_of, choice_value, called_value, length_read, length_value, cast_value, cast_variant, constant_on, constant_value, counted_on, discriminant, discriminant_base, evaluator, function_value, has_own_type, is_call, let_value, end_value, both_value, method_value, one_value, operand_value, path_value, receiver_value, right_kind, second_value, typed, unary_value, value_by, value_with};
+ghost use Rattle.abi_rust.specs.Evaluating.{AreValues, argument_value, arguments_from, binary_value, bound_value, branch_of, choice_value, called_value, length_read, length_value, cast_value, cast_variant, constant_on, constant_value, counted_on, discriminant, discriminant_base, evaluator, function_value, has_own_type, is_calculated, is_call, let_value, end_value, both_value, method_value, one_value, operand_value, path_value, receiver_value, right_kind, second_value, typed, unary_value, value_by, value_with};
 ghost use Rattle.abi_rust.specs.Kinds.{constant_place, function_read, integer_call};
 ghost use Rattle.abi_rust.specs.Meaning.{Means, is_beside};
 ghost use Rattle.abi_rust.specs.Scope.{same_key};
@@ -28,6 +28,7 @@ use crate::methods::{
     IntegerCall, Method, MethodOfOne, MethodOfTwo, end_of, kind_beside, made_of_both, made_of_one,
 };
 use crate::operators::{binary, cast, fitting, is_settled, same_kind, unary};
+use crate::parameter_free::expr_uses;
 use crate::paths::item_at;
 use crate::places::{at_place, place_of, place_of_path};
 use crate::sizes::call;
@@ -888,7 +889,23 @@ fn constant_anew<'a>(
     };
     let kind = kind_written(cx, inside, &constant.ty);
     match (kind, &constant.value) {
-        (Some(_), Some(value)) => evaluate(cx, budget, inside, value, kind),
+        (Some(_), Some(value)) => {
+            if is_calculated(cx, number, item, value) {
+                return Err(stop_at(at, unevaluated));
+            }
+            evaluate(cx, budget, inside, value, kind)
+        }
         _ => Err(stop_at(at, unevaluated)),
     }
+}
+
+/// Whether the value of the constant of this number is calculated from a parameter of its block.
+fn is_calculated(cx: &Context<'_, '_>, number: u32, item: &Item, value: &Expr) -> bool
+    ensures { result ≡ is_calculated cx.now number item.now value.now }
+{
+    let block = Env {
+        item: Some(number),
+        ..outside(item.module)
+    };
+    expr_uses(cx, block, value)
 }

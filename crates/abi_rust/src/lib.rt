@@ -39,6 +39,7 @@ mod owned;
 mod parameter_free;
 mod resolve;
 mod tail;
+mod trait_constants;
 mod ty;
 mod type_names;
 mod used_types;

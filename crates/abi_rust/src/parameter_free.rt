@@ -2,14 +2,15 @@
 
 ghost use Rattle.std.specs.Prelude.{◌≡◌, map};
 ghost use Rattle.rust_source.specs.Syntax.{argument_of, arguments, expr_of, exprs, path_as_read, segment_of, segments, type_list, type_of};
-ghost use Rattle.abi_rust.specs.Kinds.{parameters_of};
-ghost use Rattle.abi_rust.specs.ParameterFree.{argument_uses, arguments_use, constant_checked, expr_uses, exprs_use, free_checked, is_among, is_generic, is_name_alone, is_of_type, is_parameter, item_around, is_constant_name, is_type_name, path_uses, segments_use, type_uses, types_use};
+ghost use Rattle.abi_rust.specs.Kinds.{owner_at};
+ghost use Rattle.abi_rust.specs.ParameterFree.{argument_uses, arguments_use, constant_checked, expr_uses, exprs_use, free_checked, is_among, is_generic, is_name_alone, is_of_type, is_parameter, item_around, is_constant_name, is_type_name, parameters_around, parameters_by, path_uses, segments_use, type_uses, types_use};
 ghost use Rattle.abi_rust.specs.Types.{where_of};
 ghost use Rattle.std.specs.Option.{option_copied};
 
 use crate::budget::{Context, Env};
 use crate::fault::{FaultKind, Stop, stop_at};
 use crate::kind::single_name;
+use crate::own_constants::owner_of;
 use crate::paths::item_at;
 use crate::places::place_of;
 use rust_source::{Argument, Expr, Item, Parameter, ParameterKind, Path, Segment, Symbol, Type};
@@ -43,12 +44,22 @@ fn item_around<'a>(cx: &Context<'a, '_>, env: Env<'_>) -> Option<&'a Item>
     item_at(cx.items, env.item?)
 }
 
-/// The parameters of the item that a constant stands in.
+/// The parameters that may be named in an item: its own, or those of the block that it stands in.
+fn parameters_in<'a>(cx: &Context<'a, '_>, item: &'a Item) -> &'a [Parameter]
+    ensures { result.now ≡ parameters_by item.now (owner_at cx.now.items.now item.now.kind) }
+{
+    match owner_of(cx.items, item) {
+        Some(owner) => owner.parameters.as_slice(),
+        None => item.parameters.as_slice(),
+    }
+}
+
+/// The parameters that may be named in the item that a constant stands in.
 fn parameters_around<'a>(cx: &Context<'a, '_>, env: Env<'_>) -> &'a [Parameter]
-    ensures { result.now ≡ parameters_of cx.now.items.now cx.now.scope.now (item_around cx.now (where_of env.entry)) }
+    ensures { result.now ≡ parameters_around cx.now (item_around cx.now (where_of env.entry)) }
 {
     match item_around(cx, env) {
-        Some(item) => item.parameters.as_slice(),
+        Some(item) => parameters_in(cx, item),
         None => &[],
     }
 }
@@ -97,7 +108,7 @@ fn is_parameter(cx: &Context<'_, '_>, env: Env<'_>, path: &Path, in_type: bool) 
 
 /// Whether a parameter is named in an expression.
 #[cycle(using_parameters)]
-fn expr_uses(cx: &Context<'_, '_>, env: Env<'_>, expr: &Expr) -> bool
+pub(crate) fn expr_uses(cx: &Context<'_, '_>, env: Env<'_>, expr: &Expr) -> bool
     ensures { result ≡ expr_uses cx.now (where_of env.entry) (expr_of expr.now) }
 {
     match expr {

@@ -7,7 +7,7 @@ ghost use Rattle.rust_source.specs.declared.syntax.Path.{out-Path};
 ghost use Rattle.rust_source.specs.declared.syntax.Segment.{out-Segment};
 ghost use Rattle.rust_source.specs.declared.syntax.«Type».{out-Type};
 ghost use Rattle.abi_rust.specs.Meaning.{Means};
-ghost use Rattle.abi_rust.specs.Resolving.{argument_given, default_given, give, given_constant, given_early, given_type, given_wrongly, inner, is_behind_type, is_other, is_self, is_wanted, item_under, item_with, length_by, length_of, may_be_constant, type_named_by, named_type, object_named, one_given, path_type, primitive_given, resolver, self_by, tuple_from, type_as_constant, type_given, type_of_layer, type_with, unknown};
+ghost use Rattle.abi_rust.specs.Resolving.{argument_given, default_given, give, given_constant, given_early, given_type, given_wrongly, inner, is_behind_type, is_other, is_self, is_wanted, item_under, item_with, length_by, length_of, may_be_constant, type_named_by, named_type, object_named, one_given, path_type, primitive_given, resolver, self_by, tuple_from, type_as_constant, type_given, type_of_layer, type_with, unknown, gives_all};
 ghost use Rattle.abi_rust.specs.Types.{all_given, given_of, ty_of, where_of};
 ghost use Rattle.abi_rust.specs.Values.{value_as_read};
 ghost use Rattle.abi_rust.specs.WrittenNames.{first_name};
@@ -283,6 +283,16 @@ fn given_wrongly<'p>(cx: &Context<'_, '_>, env: Env<'_>, path: &'p Path) -> Opti
     None
 }
 
+/// Whether all parameters of an item are given something, as they aren't in a constant of a type with parameters.
+fn gives_all(cx: &Context<'_, '_>, env: Env<'_>, item: u32) -> bool
+    ensures { result ≡ gives_all cx.now (where_of env.entry) item }
+{
+    match item_at(cx.items, item) {
+        Some(found) => !(env.given.len() < found.parameters.len()),
+        None => true,
+    }
+}
+
 /// The type that the item is, of whose definition `Self` is a part.
 fn self_type(
     cx: &Context<'_, '_>,
@@ -293,7 +303,13 @@ fn self_type(
     ensures { Means ty_of (self_by cx.now (where_of env.entry) path.now env.entry.item) result }
 {
     match env.item {
-        Some(item) => Ok(Ty::Adt(item, copies_of(cx.alloc, budget, env.given)?)),
+        Some(item) => {
+            if !gives_all(cx, env, item) {
+                let unevaluated = FaultKind::Unevaluated(Unevaluated::Expression);
+                return Err(stop_at(place_of_path(path), unevaluated));
+            }
+            Ok(Ty::Adt(item, copies_of(cx.alloc, budget, env.given)?))
+        }
         None => Err(stop_at(
             place_of_path(path),
             FaultKind::UnknownType(Symbol::SELF_TYPE),

@@ -3,14 +3,14 @@
 ghost use Rattle.std.specs.Prelude.{◌≡◌, ◌⊎◌, [], IfErr, IfOk, None, Some, false, map, not, replicate, slice_get};
 ghost use Rattle.abi_rust.specs.Globs.{AreFollowed, KeepsGlobs, Leads, glob_target, glob_to, globs_added, if_all, is_in, led_from, led_to, list_at, lists_of, lost_added, lost_target, lost_way, most_ways, with_glob, with_target, with_way, with_ways};
 ghost use Rattle.abi_rust.specs.ExternCrates.{KeepsCrates};
-ghost use Rattle.abi_rust.specs.Scope.{constant_standing, crate_in, enum_glob, leads_nowhere, module_in, own_constant, owner_of, reached_from, type_standing, use_in};
+ghost use Rattle.abi_rust.specs.Scope.{constant_standing, crate_in, enum_glob, leads_nowhere, module_in, own_constant, owner_of, reached_from, trait_constant, type_standing, use_in};
 ghost use Rattle.abi_rust.specs.ScopeNames.{HasSameNames, HasSameRoots, IsEmpty, KeepsEnums, KeepsNames, KeepsOwn, repeated_of};
 ghost use Rattle.abi_rust.specs.Standing.{IsMemory};
 
 use crate::enum_globs::add_enum_globs;
 use crate::extern_crates::{ExternCrate, add_extern_crates};
 use crate::fault::{FaultKind, Stop, stop_at};
-use crate::own_constants::add_own_constants;
+use crate::own_constants::{OwnConstants, add_own_constants};
 use crate::paths::{Resolution, Space};
 use crate::standing::{Key, add_items, add_modules, add_uses, key, numbered};
 use crate::unread::is_read;
@@ -43,7 +43,9 @@ pub(crate) struct Scope {
     values: IndexMap<Key, u32>,
     /// Constants of types: the type's number, and the constant's name.
     own_constants: IndexMap<Key, u32>,
-    /// The types whose own they are, by the constants' numbers.
+    /// Constants of traits: the number of the type in whose block they stand, or that of none, and the constant's name.
+    trait_constants: IndexMap<Key, u32>,
+    /// The types in whose blocks they stand, by the constants' numbers.
     owners: IndexMap<u32, u32>,
     /// Uses that bring in a name.
     uses: IndexMap<Key, u32>,
@@ -85,6 +87,7 @@ impl Scope {
             types: IndexMap::new(alloc),
             values: IndexMap::new(alloc),
             own_constants: IndexMap::new(alloc),
+            trait_constants: IndexMap::new(alloc),
             owners: IndexMap::new(alloc),
             uses: IndexMap::new(alloc),
             enum_globs: IndexMap::new(alloc),
@@ -112,13 +115,17 @@ impl Scope {
     {
         self.declare(items, crates)?;
         self.follow_globs(alloc, items)?;
-        let mut owners = IndexMap::new(alloc);
-        let mut own = IndexMap::new(alloc);
-        add_own_constants(&mut owners, &mut own, items, self)?;
+        let mut known = OwnConstants {
+            owners: IndexMap::new(alloc),
+            own: IndexMap::new(alloc),
+            of_traits: IndexMap::new(alloc),
+        };
+        add_own_constants(&mut known, items, self)?;
         let mut globs = IndexMap::new(alloc);
         add_enum_globs(&mut globs, items, self.use_targets.as_slice())?;
-        self.owners = owners;
-        self.own_constants = own;
+        self.owners = known.owners;
+        self.own_constants = known.own;
+        self.trait_constants = known.of_traits;
         self.enum_globs = globs;
         Ok(())
     }
@@ -286,7 +293,15 @@ impl Scope {
         self.own_constants.get(&(owner, name.0)).copied()
     }
 
-    /// The type whose own the constant of this number is.
+    /// The constant of this name of a trait that stands in a block of the type, which has this number.
+    #[tactic(auto, unfolding(crate::specs::Scope::trait_constant))]
+    pub(crate) fn trait_constant(&self, owner: u32, name: Symbol) -> Option<u32>
+        ensures { result ≡ trait_constant self.now owner name }
+    {
+        self.trait_constants.get(&(owner, name.0)).copied()
+    }
+
+    /// The type in whose block the constant of this number stands.
     #[tactic(auto, unfolding(crate::specs::Scope::owner_of))]
     pub(crate) fn owner(&self, constant: u32) -> Option<u32>
         ensures { result ≡ owner_of self.now constant }

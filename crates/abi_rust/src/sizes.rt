@@ -2,8 +2,8 @@
 
 ghost use Rattle.std.specs.Prelude.{◌≡◌, Err, IfOk, IsErr, Some};
 ghost use Rattle.std.specs.Option.{option_copied};
-ghost use Rattle.abi_rust.specs.Evaluating.{argument_type, asks_by, asks_size, call, only_argument, only_type};
-ghost use Rattle.abi_rust.specs.Kinds.{item_at};
+ghost use Rattle.abi_rust.specs.Evaluating.{asks_by, asks_size, call};
+ghost use Rattle.abi_rust.specs.Kinds.{argument_type, item_at, only_argument, only_type};
 ghost use Rattle.abi_rust.specs.Meaning.{Means};
 ghost use Rattle.abi_rust.specs.Scope.{module_in};
 ghost use Rattle.abi_rust.specs.Types.{where_of};
@@ -99,8 +99,8 @@ fn asks(cx: &Context<'_, '_>, item: &Item) -> Option<bool>
 }
 
 /// The type that a path's last name is given, where that is all.
-#[tactic(auto, unfolding(crate::specs::Evaluating::only_type))]
-fn only_type(path: &Path) -> Option<&Type>
+#[tactic(auto, unfolding(crate::specs::Kinds::only_type))]
+pub(crate) fn only_type(path: &Path) -> Option<&Type>
     ensures { option_copied result ≡ only_type path.now }
 {
     let segment = path.segments.last()?;

@@ -1,11 +1,11 @@
 -- A module one level deeper, a turn of the loops over items, and what stands at their ends.
-use Rattle.std.proofs.Common.{◌≡◌, ℕ, zero, suc, ◌+◌, ◌-◌, ◌<◌, ◌≤◌, true, false, Some, refl, ap, arith}
+use Rattle.std.proofs.Common.{◌≡◌, ℕ, zero, suc, ◌+◌, ◌-◌, ◌<◌, ◌≤◌, Some, refl, ap, arith}
 use Rattle.std.specs.Prelude.{◌||◌, if◌then◌else◌}
 use Rattle.rust_source.specs.declared.fault.SourceFaultKind.TheVariants.{TooDeep}
 use Rattle.rust_source.specs.declared.reader.attributes.Rules.{Rules}
 use Rattle.rust_source.specs.declared.reader.cursor.Cursor.{Cursor}
-use Rattle.rust_source.specs.Constants.{is_of_lifetimes, lifetimes_from, own_from, own_item}
-use Rattle.rust_source.specs.Cursor.{fault, is_done, is_next, next_kind, passed}
+use Rattle.rust_source.specs.Constants.{own_from, own_item}
+use Rattle.rust_source.specs.Cursor.{fault, is_done, is_next, passed}
 use Rattle.rust_source.specs.Having.{Having}
 use Rattle.rust_source.specs.Modules.{all_from, all_read, module_within, next_read, path_passed_from}
 use Rattle.rust_source.specs.Reading.{read_on, is_path_name}
@@ -14,12 +14,6 @@ use Rattle.rust_source.specs.Unread.{any_name, with_unread}
 use Rattle.rust_source.proofs.Turns.{none_left, turns}
 
 module _ (n i : ℕ) where
-  pub lifetimes_more : (c : Cursor) → i < n → lifetimes_from (n - i) c ≡ (if is_next c 62 then (true, passed c 1) else (if is_of_lifetimes (next_kind c) then lifetimes_from (n - (i + 1)) (passed c 1) else (false, c)))
-  lifetimes_more c more = ap (λ k. lifetimes_from k c) (turns n i more)
-
-  pub lifetimes_done : (c : Cursor) → n ≤ i → lifetimes_from (n - i) c ≡ (false, c)
-  lifetimes_done c past = ap (λ k. lifetimes_from k c) (none_left n i past)
-
   pub path_more : (c : Cursor) → i < n → path_passed_from (n - i) c ≡ (if is_path_name c || is_next c 58 then path_passed_from (n - (i + 1)) (passed c 1) else c)
   path_more c more = ap (λ k. path_passed_from k c) (turns n i more)
 

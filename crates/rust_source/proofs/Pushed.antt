@@ -1,9 +1,11 @@
 -- Paths by their parts, and with a name before or behind them.
-use Rattle.std.proofs.Common.{◌≡◌, Bool, true, false, List, [], ◌∷◌, ◌++◌, Option, None, Some, map, refl, rules, ap}
+use Rattle.std.proofs.Common.{◌≡◌, ℕ, Bool, true, false, List, [], ◌∷◌, ◌++◌, Option, None, Some, map, refl, rules, ap}
 use Rattle.rust_source.specs.declared.place.Place.{Place}
 use Rattle.rust_source.specs.declared.syntax.Argument.TheFolds.{fold_out-Segment, fold_out-Path}
 use Rattle.rust_source.specs.declared.syntax.Path.{Path, out-Path}
 use Rattle.rust_source.specs.declared.syntax.Segment.{Segment, out-Segment}
+use Rattle.std.specs.Prelude.{nat_eq}
+use Rattle.rust_source.specs.Constants.{begins_with}
 use Rattle.rust_source.specs.Matches.{place_alone, with_first}
 use Rattle.rust_source.specs.Syntax.{SegmentRead, argument_of, arguments, more_segments, path, path_as_read, segment, segment_of, segments, segments_with, with_segment}
 
@@ -44,3 +46,18 @@ alone_by false (s ∷ t ∷ ss) = rw (segment_is s) refl
 -- where a path stands that is one name
 pub alone_is : (p : Path) → place_alone (path_as_read p) ≡ alone_of (out-Path p).is_global (out-Path p).segments.items
 alone_is p = rw (path_is p) (alone_by (out-Path p).is_global (out-Path p).segments.items)
+
+-- one of these names is the first
+abbrev pub begins_of : (is_global : Bool) → (name : ℕ) → List Segment → Bool
+begins_of false name (s ∷ ss) = nat_eq (out-Segment s).name.0 name
+begins_of _ name _ = false
+
+begins_by : (is_global : Bool) (name : ℕ) (ss : List Segment) → begins_with (path is_global (segments (map segment_of ss))) name ≡ begins_of is_global name ss
+begins_by true name [] = refl
+begins_by true name (s ∷ ss) = refl
+begins_by false name [] = refl
+begins_by false name (s ∷ ss) = rw (segment_is s) refl
+
+-- a path begins with a name
+pub begins_is : (p : Path) (name : ℕ) → begins_with (path_as_read p) name ≡ begins_of (out-Path p).is_global name (out-Path p).segments.items
+begins_is p name = rw (path_is p) (begins_by (out-Path p).is_global name (out-Path p).segments.items)

@@ -1,26 +1,30 @@
--- Constants of types, in `impl` blocks that have no parameters and implement no trait.
-use Rattle.std.specs.Prelude.{ℕ, zero, suc, ◌-◌, ◌&&◌, Bool, true, false, Option, None, Some, Result, Ok, Err, if◌then◌else◌}
+-- Constants of types and traits, in `impl` blocks and in traits.
+use Rattle.std.specs.Prelude.{ℕ, zero, suc, ◌-◌, ◌||◌, nat_eq, Bool, true, false, List, [], ◌∷◌, Option, None, Some, Result, Ok, Err, if◌then◌else◌}
 use Rattle.rust_source.specs.declared.fault.SourceFault.{SourceFault}
 use Rattle.rust_source.specs.declared.fault.SourceFaultKind.{SourceFaultKind}
-use Rattle.rust_source.specs.declared.fault.SourceFaultKind.TheVariants.{OutOfMemory}
+use Rattle.rust_source.specs.declared.fault.SourceFaultKind.TheVariants.{ExpectedType, OutOfMemory}
+use Rattle.rust_source.specs.declared.place.Place.{Place}
+use Rattle.rust_source.specs.declared.place.TheConstants.Symbol.{UNDERSCORE}
 use Rattle.rust_source.specs.declared.reader.attributes.Attributes.{Attributes}
 use Rattle.rust_source.specs.declared.reader.attributes.Rules.{Rules}
 use Rattle.rust_source.specs.declared.reader.cursor.Cursor.{Cursor}
 use Rattle.rust_source.specs.declared.reader.visibility.Standing.{Standing}
+use Rattle.rust_source.specs.declared.tokens.keyword.Keyword.{Keyword}
 use Rattle.rust_source.specs.declared.tokens.keyword.Keyword.TheVariants as keyword
 use Rattle.rust_source.specs.declared.tokens.token.Bracket.TheVariants as bracket
 use Rattle.rust_source.specs.declared.tokens.token.TokenKind.{TokenKind}
 use Rattle.rust_source.specs.declared.tokens.token.TokenKind.TheVariants as kind
 use Rattle.rust_source.specs.Attributes.{part_attributes}
-use Rattle.rust_source.specs.Cursor.{inside, is_constant, is_done, is_next, is_keyword_next, next_kind, passed}
+use Rattle.rust_source.specs.Cursor.{inside, is_constant, is_done, is_keyword_next, next_kind, passed, place}
 use Rattle.rust_source.specs.Fields.{by_names, visibility_passed}
+use Rattle.rust_source.specs.Generics.{parameters_read, where_read}
 use Rattle.rust_source.specs.Having.{Having, item_of_module, next_owner, noted, with_item, with_owner, noted_within}
-use Rattle.rust_source.specs.Items.{ItemsRead}
+use Rattle.rust_source.specs.Items.{OwnerRead, ParameterRead, const_of}
 use Rattle.rust_source.specs.Passing.{item_passed}
 use Rattle.rust_source.specs.Reading.{Reading, read_on}
 use Rattle.rust_source.specs.Simple.{begins_path, most_nested}
-use Rattle.rust_source.specs.Syntax.{PathRead}
-use Rattle.rust_source.specs.Terms.{Known, done, readers, path_read}
+use Rattle.rust_source.specs.Syntax.{PathRead, function, more_segments, no_types, path, segment}
+use Rattle.rust_source.specs.Terms.{Known, Reader, done, fault_next, readers, path_read}
 use Rattle.rust_source.specs.Visibility.{visibility_read}
 use Rattle.rust_source.specs.Definition.{DefinitionRead, const_read}
 
@@ -29,58 +33,99 @@ abbrev pub is_wanting : SourceFaultKind → Bool
 is_wanting OutOfMemory = true
 is_wanting _ = false
 
--- a token of this kind may stand among lifetimes in angle brackets
-abbrev pub is_of_lifetimes : Option TokenKind → Bool
-is_of_lifetimes (Some kind.Lifetime) = true
-is_of_lifetimes (Some (kind.Punct b)) = true
-is_of_lifetimes _ = false
+-- a path begins with a name
+abbrev pub begins_with : PathRead → (name : ℕ) → Bool
+begins_with (path false (more_segments (segment first at lifetimes all) ss)) name = nat_eq first name
+begins_with _ name = false
 
--- whether all parameters up to a `>` are lifetimes, and what follows them, of at most so many tokens
-abbrev pub lifetimes_from : (limit : ℕ) → Cursor → Bool × Cursor
-lifetimes_from zero c = (false, c)
-lifetimes_from (suc limit) c =
-    if is_next c 62 then (true, passed c 1) else (if is_of_lifetimes (next_kind c) then lifetimes_from limit (passed c 1) else (false, c))
+-- a type begins with the name of one of these parameters, and so may be any
+abbrev pub is_blanket : PathRead → List ParameterRead → Bool
+is_blanket t [] = false
+is_blanket t (p ∷ ps) = begins_with t p.name.0 || is_blanket t ps
 
-unfoldable pub lifetimes_in : Cursor → Bool × Cursor
-lifetimes_in c = lifetimes_from (c.end - c.at) c
+-- the path of a type or a trait that a block names
+abbrev pub block_name : Reader PathRead
+block_name c names = if begins_path c then path_read (readers most_nested) true c names else fault_next ExpectedType c names
 
--- whether all parameters of an `impl` block are lifetimes, and what follows them
-abbrev pub lifetimes : Cursor → Bool × Cursor
-lifetimes c = if is_next c 60 then lifetimes_in (passed c 1) else (true, c)
+-- the trait that a block implements and its type, or its type alone, behind the block's parameters
+unfoldable pub names_of_block : Reader (Option PathRead × PathRead)
+names_of_block c names =
+    read_on (λ (p : PathRead × Cursor) ns.
+    if is_keyword_next p.1 keyword.For
+    then read_on (λ (t : PathRead × Cursor) ms. done ((Some p.0, t.0), t.1) ms) (block_name (passed p.1 1) ns)
+    else done ((None, p.0), p.1) ns)
+    (block_name c names)
 
--- a type, where its path could be read; what can't be read here isn't reported
-abbrev pub constant_owner_by : Result (PathRead × Cursor) SourceFault → Known → Reading (Option (PathRead × Cursor))
-constant_owner_by (Ok p) names = done (Some p) names
-constant_owner_by (Err e) names = done None names
+-- what the items of an `impl` block belong to, behind its `impl`; a fault where that may be any type
+unfoldable pub owner_read : (number : ℕ) → Reader OwnerRead
+owner_read number c names =
+    read_on (λ (ps : List ParameterRead × Cursor) ns.
+    read_on (λ (o : (Option PathRead × PathRead) × Cursor) ms.
+    read_on (λ (qs : List ParameterRead × Cursor) ls.
+    if is_blanket o.0.1 qs.0 then fault_next ExpectedType qs.1 ls
+    else done (record { inside = number; parameters = qs.0; ty = Some o.0.1; of_trait = o.0.0 }, qs.1) ls)
+    (where_read ps.0 o.1 ms))
+    (names_of_block ps.1 ns))
+    (parameters_read c names)
+
+-- what was read, where it could be; what can't be read here isn't reported
+abbrev pub if_read_by : {A : Type 0} → Result A SourceFault → Known → Reading (Option A)
+if_read_by (Ok o) names = done (Some o) names
+if_read_by (Err e) names = done None names
 
 -- the same of what was read, with what is known behind it
-abbrev pub constant_owner : Reading (PathRead × Cursor) → Reading (Option (PathRead × Cursor))
-constant_owner read = constant_owner_by read.0 read.1
+abbrev pub if_read : {A : Type 0} → Reading A → Reading (Option A)
+if_read read = if_read_by read.0 read.1
 
--- the type whose own the items of an `impl` block are, behind its `impl`, and what follows it; none where it has parameters
-unfoldable pub owner_read : Cursor → Known → Reading (Option (PathRead × Cursor))
-owner_read c names =
-    let l = lifetimes c in
-    if l.0 && begins_path l.1 then constant_owner (path_read (readers most_nested) true l.1 names) else done None names
+-- a constant of a block whose name may be any, which stands there, and has no value
+abbrev pub any_const : (owner : ℕ) → Place → DefinitionRead
+any_const owner at = record {
+  head = record { name = UNDERSCORE; at = at; lifetimes = 0; parameters = [] };
+  kind = const_of (function no_types) None (Some owner) true;
+}
 
--- a constant of a type goes behind the items, where it could be read; what can't be read here isn't reported
-abbrev pub constant_of_type_by : Standing → Attributes → ItemsRead → Result (DefinitionRead × Cursor) SourceFault → Known → Result (Unit {0}) SourceFault × Having
-constant_of_type_by standing said items (Ok w) names = done tt (names, with_item (item_of_module standing said w.0) items)
-constant_of_type_by standing said items (Err e) names = done tt (names, items)
+-- a constant, where it could be read; what can't be read here isn't reported, and may have any name
+abbrev pub const_or_any_by : (owner : ℕ) → Place → Result (DefinitionRead × Cursor) SourceFault → Known → Reading DefinitionRead
+const_or_any_by owner at (Ok w) names = done w.0 names
+const_or_any_by owner at (Err e) names = done (any_const owner at) names
 
 -- the same of what was read, with what is known behind it
-abbrev pub constant_of_type : Standing → Attributes → ItemsRead → Reading (DefinitionRead × Cursor) → Result (Unit {0}) SourceFault × Having
-constant_of_type standing said items read = constant_of_type_by standing said items read.0 read.1
+abbrev pub const_or_any : (owner : ℕ) → Place → Reading (DefinitionRead × Cursor) → Reading DefinitionRead
+const_or_any owner at read = const_or_any_by owner at read.0 read.1
 
--- the constant, behind its `const`, of the type with this number
-unfoldable pub own_const : Standing → Attributes → (owner : ℕ) → Cursor → Having → Result (Unit {0}) SourceFault × Having
-own_const standing said owner c known = constant_of_type standing said known.1 (const_read (Some owner) c known.0)
+-- the constant, behind its `const`, of the block with this number
+abbrev pub own_const : (owner : ℕ) → Cursor → Known → Reading DefinitionRead
+own_const owner c names = const_or_any owner (place c) (const_read (Some owner) c names)
+
+-- an item of a block begins with this word
+abbrev pub is_part_word : Keyword → Bool
+is_part_word keyword.Fn = true
+is_part_word keyword.Async = true
+is_part_word keyword.Unsafe = true
+is_part_word keyword.Extern = true
+is_part_word keyword.Const = true
+is_part_word keyword.«Type» = true
+is_part_word _ = false
+
+-- an item of a block is next that begins with a word: no call of a macro, whose items aren't known
+abbrev pub begins_item : Option TokenKind → Bool
+begins_item (Some (kind.Keyword word)) = is_part_word word
+begins_item _ = false
+
+-- the constant of a block that is next, or a call of a macro, which may have one of any name
+unfoldable pub own_found : (owner : ℕ) → Cursor → Known → Reading (Option DefinitionRead)
+own_found owner c names =
+    if is_constant c then read_on (λ w ns. done (Some w) ns) (own_const owner (passed c 1) names)
+    else done (if begins_item (next_kind c) then None else Some (any_const owner (place c))) names
+
+-- the constant goes behind the items, if there is one
+abbrev pub own_put : Standing → Attributes → Option DefinitionRead → (end : Cursor) → Having → Result Cursor SourceFault × Having
+own_put standing said None end known = done end known
+own_put standing said (Some w) end known = done end (known.0, with_item (item_of_module standing said w) known.1)
 
 -- the item here, behind its `pub`, where it is a constant
 abbrev pub own_on : Standing → Attributes → (owner : ℕ) → Cursor → Having → Result Cursor SourceFault × Having
-own_on standing said owner c known =
-    if is_constant c then read_on (λ _ ns. done (item_passed c) ns) (own_const standing said owner (passed c 1) known)
-    else done (item_passed c) known
+own_on standing said owner c known = read_on (λ w ns. own_put standing said w (item_passed c) ns) (by_names known.1 (own_found owner c known.0))
 
 -- the item here, behind its attributes, which no `cfg` takes out
 unfoldable pub own_said : (number : ℕ) → Attributes → (owner : ℕ) → Cursor → Having → Result Cursor SourceFault × Having
@@ -89,13 +134,13 @@ own_said number said owner c known =
     (by_names known.1 (visibility_read known.1.modules number c known.0))
 
 module _ (rules : Rules) where
-  -- the item of an `impl` block that is next
+  -- the item of a block that is next
   unfoldable pub own_item : (number owner : ℕ) → Cursor → Having → Result Cursor SourceFault × Having
   own_item number owner c known =
       read_on (λ (a : Attributes × Cursor) ns. if a.0.holds then own_said number a.0 owner a.1 ns else done (item_passed (visibility_passed a.1)) ns)
       (noted_within known.1 (part_attributes rules c (noted known)))
 
-  -- the items of an `impl` block, at most so many
+  -- the items of a block, at most so many
   abbrev pub own_from : (limit number owner : ℕ) → Cursor → Having → Result (Unit {0}) SourceFault × Having
   own_from zero number owner c known = done tt known
   own_from (suc limit) number owner c known =
@@ -104,16 +149,17 @@ module _ (rules : Rules) where
   unfoldable pub own_items : (number owner : ℕ) → Cursor → Having → Result (Unit {0}) SourceFault × Having
   own_items number owner c known = own_from (c.end - c.at) number owner c known
 
-  -- the items in these braces, of the type that the path names
-  abbrev pub impl_in : (number : ℕ) → PathRead → Option Cursor → Having → Result (Unit {0}) SourceFault × Having
-  impl_in number p None known = done tt known
-  impl_in number p (Some i) known = own_items number (next_owner known.1) i (known.0, with_owner p known.1)
+  -- the constants in these braces, which belong to this
+  abbrev pub block_in : OwnerRead → Option Cursor → Having → Result (Unit {0}) SourceFault × Having
+  block_in o None known = done tt known
+  block_in o (Some i) known = own_items o.inside (next_owner known.1) i (known.0, with_owner o known.1)
 
-  abbrev pub impl_by : (number : ℕ) → Option (PathRead × Cursor) → Having → Result (Unit {0}) SourceFault × Having
-  impl_by number None known = done tt known
-  impl_by number (Some p) known = impl_in number p.0 (inside p.1 bracket.Curly) known
+  abbrev pub block_by : Option (OwnerRead × Cursor) → Having → Result (Unit {0}) SourceFault × Having
+  block_by None known = done tt known
+  block_by (Some o) known = block_in o.0 (inside o.1 bracket.Curly) known
 
-  -- the constants of the `impl` block that is next, if one is that has no parameters and implements no trait
+  -- the constants of the `impl` block that is next, if one is
   unfoldable pub own_constants : (number : ℕ) → Cursor → Having → Result (Unit {0}) SourceFault × Having
   own_constants number c known =
-      if is_keyword_next c keyword.Impl then read_on (λ o ns. impl_by number o ns) (by_names known.1 (owner_read (passed c 1) known.0)) else done tt known
+      if is_keyword_next c keyword.Impl
+      then read_on (λ o ns. block_by o ns) (by_names known.1 (if_read (owner_read number (passed c 1) known.0))) else done tt known

@@ -8,8 +8,7 @@ use Rattle.rust_source.specs.declared.place.Place.{Place}
 use Rattle.rust_source.specs.declared.reader.attributes.Attributes.{Attributes}
 use Rattle.rust_source.specs.declared.reader.visibility.Standing.{Standing}
 use Rattle.rust_source.specs.Cfg.{Noted}
-use Rattle.rust_source.specs.Items.{ItemRead, ItemsRead, UseRead}
-use Rattle.rust_source.specs.Syntax.{PathRead}
+use Rattle.rust_source.specs.Items.{ItemRead, ItemsRead, OwnerRead, UseRead}
 use Rattle.rust_source.specs.Terms.{Known}
 use Rattle.rust_source.specs.Definition.{DefinitionRead}
 
@@ -49,9 +48,9 @@ item_of_module standing said w = record {
 abbrev pub with_item : ItemRead → ItemsRead → ItemsRead
 with_item i items = record items { items = items.items ++ i ∷ [] }
 
--- with a type more that has constants of its own
-abbrev pub with_owner : PathRead → ItemsRead → ItemsRead
-with_owner p items = record items { owners = items.owners ++ p ∷ [] }
+-- with an owner of constants more
+abbrev pub with_owner : OwnerRead → ItemsRead → ItemsRead
+with_owner o items = record items { owners = items.owners ++ o ∷ [] }
 
 -- with a macro more
 abbrev pub with_macro : Macro → ItemsRead → ItemsRead
@@ -61,7 +60,7 @@ with_macro m items = record items { macros = items.macros ++ m ∷ [] }
 abbrev pub with_known_macros : List Macro → ItemsRead → ItemsRead
 with_known_macros ms items = record items { known_macros = ms }
 
--- the number of the next such type
+-- the number of the next such owner
 abbrev pub next_owner : ItemsRead → ℕ
 next_owner items = min (length items.owners) (2 ^ 32 - 1)
 

@@ -13,6 +13,7 @@ use Rattle.rust_source.specs.declared.item.Items.{Items}
 use Rattle.rust_source.specs.declared.item.Macro.{Macro}
 use Rattle.rust_source.specs.declared.item.Module.{Module}
 use Rattle.rust_source.specs.declared.item.Outline.{Outline}
+use Rattle.rust_source.specs.declared.item.Owner.{Owner}
 use Rattle.rust_source.specs.declared.item.Parameter.{Parameter}
 use Rattle.rust_source.specs.declared.item.ParameterKind.{ParameterKind}
 use Rattle.rust_source.specs.declared.item.ParameterKind.TheVariants as parameter
@@ -56,7 +57,14 @@ pub record ParameterRead : Type 0 where
   pub may_be_unsized : Bool
   pub kind : ParameterKindRead
 
--- what an item is: a constant has the number of the type whose own it is, if it is one's
+-- what constants of an `impl` block, or of a trait, belong to, and the number of the module that this is in
+pub record OwnerRead : Type 0 where
+  pub inside : ℕ
+  pub parameters : List ParameterRead
+  pub ty : Option PathRead
+  pub of_trait : Option PathRead
+
+-- what an item is: a constant has the number of what it belongs to, if it is no module's
 pub data ItemKindRead : Type 0 where
   struct_of : FieldsRead → ItemKindRead
   enum_of : List VariantRead → ItemKindRead
@@ -95,7 +103,7 @@ pub record ItemsRead : Type 0 where
   pub outlines : List Outline
   pub items : List ItemRead
   pub uses : List UseRead
-  pub owners : List PathRead
+  pub owners : List OwnerRead
   pub macros : List Macro
   pub known_macros : List Macro
   pub passed_over : ℕ
@@ -156,6 +164,15 @@ item_of i = record {
   kind = item_kind_of i.kind;
 }
 
+-- what constants belong to
+abbrev pub owner_as_read : Owner → OwnerRead
+owner_as_read o = record {
+  inside = o.«module»;
+  parameters = map parameter_of o.parameters.items;
+  ty = option_map path_as_read o.ty;
+  of_trait = option_map path_as_read o.of_trait;
+}
+
 -- a use
 abbrev pub use_of : Use → UseRead
 use_of u = record { inside = u.«module»; visible_in = u.visible_in; is_global = u.is_global; path = u.path.items; name = u.name; is_glob = u.is_glob }
@@ -168,7 +185,7 @@ items_as_read i = record {
   outlines = i.outlines.items;
   items = map item_of i.items.items;
   uses = map use_of i.uses.items;
-  owners = map path_as_read i.owners.items;
+  owners = map owner_as_read i.owners.items;
   macros = i.macros.items;
   known_macros = i.known_macros.items;
   passed_over = i.passed_over;

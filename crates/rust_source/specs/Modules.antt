@@ -149,7 +149,7 @@ module _ (rules : Rules) where
   other_read standing said c known =
       if is_keyword_next c keyword.Use then use_read false standing (passed c 1) known
       else (if names_crate c then use_read true standing (passed c 2) known
-      else read_on (λ _ ns. read_on (λ _ ms. read_on (λ _ ls. read_on (λ _ ks. over_passed c ks) (macro_read rules standing.«module» (is_some said.unknown) c ls)) (trait_read standing c ms)) (function_read standing said c ns)) (own_constants rules standing.«module» c known))
+      else read_on (λ _ ns. read_on (λ _ ms. read_on (λ _ ls. read_on (λ _ ks. over_passed c ks) (macro_read rules standing.«module» (is_some said.unknown) c ls)) (trait_read rules standing c ms)) (function_read standing said c ns)) (own_constants rules standing.«module» c known))
 
   -- the item that is next, which this was or another one is
   abbrev pub next_item_by : Standing → Attributes → Option DefinitionRead → Cursor → Having → Result Cursor SourceFault × Having

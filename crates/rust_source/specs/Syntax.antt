@@ -1,5 +1,5 @@
 -- Types, paths and expressions as they are read.
-use Rattle.std.specs.Prelude.{ℕ, Bool, false, List, [], ◌∷◌, Option}
+use Rattle.std.specs.Prelude.{ℕ, Bool, false, List, [], ◌∷◌, Option, None, Some}
 use Rattle.rust_source.specs.declared.place.Place.{Place}
 use Rattle.rust_source.specs.declared.place.Symbol.{Symbol}
 use Rattle.rust_source.specs.declared.place.TheConstants.Symbol.{UNDERSCORE}
@@ -112,6 +112,15 @@ segments_with (more_segments r rs) s = more_segments r (segments_with rs s)
 -- a path with a name behind it
 abbrev pub with_segment : PathRead → SegmentRead → PathRead
 with_segment (path is_global ss) s = path is_global (segments_with ss s)
+
+-- the name `_` that is given a trait, behind a constant's own
+abbrev pub trait_segment : Place → (of_trait : PathRead) → SegmentRead
+trait_segment at p = segment UNDERSCORE.0 at 0 (more_arguments (of_type (named p)) no_arguments)
+
+-- a path with such a name behind it, if there is one
+abbrev pub with_trait : PathRead → Option SegmentRead → PathRead
+with_trait p None = p
+with_trait p (Some s) = with_segment p s
 
 -- the path by which a method is called: `_::name`
 abbrev pub method_path : Symbol → Place → PathRead

@@ -25,7 +25,7 @@ use Rattle.rust_source.specs.Matches.{bound_path, compared, ends_pattern}
 use Rattle.rust_source.specs.Passing.{bounds}
 use Rattle.rust_source.specs.Reading.{Reading, read_on, name, path_name, read_as}
 use Rattle.rust_source.specs.Simple.{after_path, before_function, begins_dyn, begins_function, begins_path, ends_variadic, is_extern, is_literal, is_variadic, literal_read, most_nested, object_read, parameter_begun, pointed, pointings, signed_literal, signs, simple, with_bounds}
-use Rattle.rust_source.specs.Syntax.{ArgumentRead, ExprRead, PathRead, SegmentRead, TypeRead, arguments, array, binary, binding, bool, call, cast, choice, constant, exprs, function, local, method, of_const, of_type, other_expr, other_type, path, segment, segments, slice, tuple, type_list, with_segment}
+use Rattle.rust_source.specs.Syntax.{ArgumentRead, ExprRead, PathRead, SegmentRead, TypeRead, arguments, array, binary, binding, bool, call, cast, choice, constant, exprs, function, local, method, of_const, of_type, other_expr, other_type, path, segment, segments, slice, tuple, type_list, with_segment, trait_segment, with_trait}
 
 -- names that have numbers
 abbrev pub Known : Type 0
@@ -195,16 +195,25 @@ module _ (R : Readers) where
       let d = if is_pair c 58 58 then passed c 2 else c in
       path_from in_type (is_pair c 58 58 && not (begins_at_root c)) (d.end - d.at) (if begins_at_root c then crate_at (place c) ∷ [] else []) d names
 
-  abbrev pub qualified_on : PathRead → Reader PathRead
-  qualified_on p c names =
-      if is_pair c 58 58 then read_on (λ (s : SegmentRead × Cursor) ns. done (with_segment p s.0, s.1) ns) (segment_read false (passed c 2) names)
+  -- the trait that stands behind a type and `as`, where it does, as a name behind the constant's
+  unfoldable pub trait_asked : Reader (Option SegmentRead)
+  trait_asked c names =
+      if is_keyword_next c keyword.As
+      then read_on (λ (p : PathRead × Cursor) ns. done (Some (trait_segment (place c) p.0), p.1) ns) (path_read true (passed c 1) names)
+      else done (None, c) names
+
+  abbrev pub qualified_on : PathRead → (of_trait : Option SegmentRead) → Reader PathRead
+  qualified_on p t c names =
+      if is_pair c 58 58 then read_on (λ (s : SegmentRead × Cursor) ns. done (with_trait (with_segment p s.0) t, s.1) ns) (segment_read false (passed c 2) names)
       else fault_next ExpectedName c names
 
-  -- the path of a value that is next; `<T>::N` is `T::N`
+  -- the path of a value that is next; `<T>::N` is `T::N`, and `<T as R>::N` is `T::N::_::<R>`
   unfoldable pub value_path : Reader PathRead
   value_path c names =
       if is_next c 60
-      then read_on (λ (p : PathRead × Cursor) ns. read_on (λ d ms. qualified_on p.0 d ms) (expected p.1 62 ExpectedAngle, ns)) (path_read true (passed c 1) names)
+      then read_on (λ (p : PathRead × Cursor) ns.
+      read_on (λ (t : Option SegmentRead × Cursor) ms. read_on (λ d ls. qualified_on p.0 t.0 d ls) (expected t.1 62 ExpectedAngle, ms)) (trait_asked p.1 ns))
+      (path_read true (passed c 1) names)
       else path_read false c names
 
   -- the type that stands in parentheses, behind these

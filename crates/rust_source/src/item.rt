@@ -95,17 +95,30 @@ pub struct Enum {
     pub variants: Vec<Variant>,
 }
 
-/// The type and the value of a constant, of a module's or of a type's own; or a function or a static, as constants see it.
+/// The type and the value of a constant, of a module's, a type's own or a trait's; or a function or a static, as constants see it.
 #[derive(Drop)]
 pub struct Const {
     pub ty: Type,
     /// Its value, where it has one.
     pub value: Option<Expr>,
-    /// The number of the type whose own it is among those of `Items::owners`; none where it is a module's.
+    /// The number of what it belongs to among `Items::owners`; none where it is a module's.
     pub owner: Option<u32>,
     /// Whether it is a function. Where constants may call one, its value is its body, its parameters are the item's, and
     /// its type is that of a function with its result alone; else it has no value.
     pub is_function: bool,
+}
+
+/// What constants of an `impl` block, or of a trait, belong to (Rust Reference, "Associated constants").
+#[derive(Drop)]
+pub struct Owner {
+    /// The module that the block, or the trait, stands in, by its number.
+    pub module: u32,
+    /// The parameters of it.
+    pub parameters: Vec<Parameter>,
+    /// The type that a block names; a trait has none.
+    pub ty: Option<Path>,
+    /// The trait that a block implements, or the trait itself; none where the constants are the type's own.
+    pub of_trait: Option<Path>,
 }
 
 /// What an item defines: a type, another name of one, or a constant (Rust Reference, "Items").
@@ -236,8 +249,8 @@ pub struct Items {
     /// The items, in the order of the source.
     pub items: Vec<Item>,
     pub uses: Vec<Use>,
-    /// Types that have constants of their own, as their `impl` blocks name them.
-    pub owners: Vec<Path>,
+    /// What constants in `impl` blocks and in traits belong to.
+    pub owners: Vec<Owner>,
     /// The macros that stand outside of bodies, in the order of the sources.
     pub macros: Vec<Macro>,
     /// Macros that were found by reading the same crate before: each by its name, the crate's root module, and the place in

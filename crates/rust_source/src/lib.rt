@@ -18,7 +18,7 @@ mod tokens;
 pub use edition::Edition;
 pub use fault::{SourceFault, SourceFaultKind};
 pub use item::{
-    Const, Enum, Field, FieldName, Fields, Item, ItemKind, Items, Macro, Module, Outline,
+    Const, Enum, Field, FieldName, Fields, Item, ItemKind, Items, Macro, Module, Outline, Owner,
     Parameter, ParameterKind, Repr, Use, UsedName, Variant, Wrapping,
 };
 pub use names::Names;

@@ -143,7 +143,7 @@ pub enum Expr {
     Bool(bool, Place),
     /// A string or a byte string: how many bytes it has, and where it stands.
     Text(u64, Place),
-    /// A constant, or one of a type, as `u8::MAX`.
+    /// A constant, or one of a type, as `u8::MAX`. That of a type and a trait, `<T as R>::N`, is `T::N::_::<R>`.
     Path(Path),
     /// A call of what a path names, its arguments, and where it begins. A method's, `A.name(B)`, is one of `_::name` with
     /// the arguments `A` and `B`, where the method's name stands.

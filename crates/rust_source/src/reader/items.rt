@@ -257,7 +257,7 @@ fn read_other(
     }
     read_own_constants(rules, names, items, standing.module, cursor)?;
     read_function(names, items, standing, &context.said, cursor)?;
-    read_trait(names, items, standing, cursor)?;
+    read_trait(rules, names, items, standing, cursor)?;
     let place = MacroPlace {
         module: standing.module,
         is_rewritten: context.said.unknown.is_some(),

@@ -1,6 +1,7 @@
 //! Paths and their arguments.
 
 ghost use Rattle.std.specs.Prelude.{◌≡◌, ◌||◌, [], ◌∷◌, ◌++◌, false, IfErr, IfOk, map, Some, None, if◌then◌else◌};
+ghost use Rattle.std.specs.Option.{option_map};
 ghost use Rattle.rust_source.specs.Cursor.{is_next, passed};
 ghost use Rattle.rust_source.specs.Lifetimes.{lifetimes_given};
 ghost use Rattle.rust_source.specs.Matches.{with_first};
@@ -8,15 +9,15 @@ ghost use Rattle.rust_source.specs.Names.{texts};
 ghost use Rattle.rust_source.specs.Reading.{Reads};
 ghost use Rattle.rust_source.specs.Simple.{is_literal};
 ghost use Rattle.rust_source.specs.Tokens.{Yields};
-ghost use Rattle.rust_source.specs.Syntax.{argument_of, path, path_as_read, segment_of, segments as segments_of, type_of, with_segment};
-ghost use Rattle.rust_source.specs.Terms.{argument, argument_behind, argument_more, arguments_begin, arguments_by, arguments_read, constant_read, crate_at, readers, is_binding, path_read, qualified_on, segment_read, value_path};
+ghost use Rattle.rust_source.specs.Syntax.{argument_of, path, path_as_read, segment_of, segments as segments_of, type_of, with_segment, trait_segment, with_trait};
+ghost use Rattle.rust_source.specs.Terms.{argument, argument_behind, argument_more, arguments_begin, arguments_by, arguments_read, constant_read, crate_at, readers, is_binding, path_read, qualified_on, segment_read, value_path, trait_asked};
 
 use crate::fault::{SourceFault, SourceFaultKind};
 use crate::names::Names;
 use crate::place::{Place, Symbol};
 use crate::reader::cursor::{
     Cursor, expect, fault, is_lifetime, is_next, is_nth, is_nth_pair, is_pair, pass, place, take,
-    take_group, take_pair,
+    take_group, take_pair, take_word,
 };
 use crate::reader::expressions::{is_literal, read_signed, read_whole};
 use crate::reader::lifetimes::lifetimes_next;
@@ -24,6 +25,7 @@ use crate::reader::naming::take_path_name;
 use crate::reader::passing::pass_bounds;
 use crate::reader::types::{read_type, with_bounds};
 use crate::syntax::{Argument, Path, Segment, Type};
+use crate::tokens::keyword::Keyword;
 use crate::tokens::token::Bracket;
 use std::alloc::Global;
 
@@ -129,7 +131,53 @@ fn with_segment(path: Path, one: Segment) -> Result<Path, SourceFault>
     Ok(path_of(is_global, segments))
 }
 
-/// The path of a value: `<T>::N` is `T::N`.
+/// The name `_` that is given a trait, behind a constant's own.
+fn trait_segment(alloc: Global, of_trait: Path, at: Place) -> Result<Segment, SourceFault>
+    ensures ok { IfOk result (λ one. segment_of one ≡ trait_segment at (path_as_read of_trait)) }
+    ensures err { IfErr result (λ fault. fault.kind ≡ SourceFaultKind.OutOfMemory) }
+{
+    let mut arguments = Vec::new(alloc);
+    arguments.push(Argument::Type(Type::Path(of_trait)))?;
+    Ok(Segment {
+        name: Symbol::UNDERSCORE,
+        at,
+        lifetimes: 0,
+        arguments,
+    })
+}
+
+/// The trait that stands behind a type and `as`, where it does, as a name behind the constant's.
+#[cycle(terms)]
+#[tactic(auto, unfolding(crate::specs::Terms::trait_asked))]
+fn read_asked_trait(
+    names: &mut Names,
+    cursor: &mut Cursor<'_>,
+    depth_left: u32,
+) -> Result<Option<Segment>, SourceFault>
+    ensures { Reads (λ one. (option_map segment_of one, cursor.new))
+        (trait_asked (readers depth_left) cursor.old (texts names.old)) (texts names.new) result }
+{
+    let at = place(cursor);
+    if !take_word(cursor, Keyword::As) {
+        return Ok(None);
+    }
+    let of_trait = read_path(names, cursor, true, depth_left)?;
+    Ok(Some(trait_segment(names.alloc(), of_trait, at)?))
+}
+
+/// A path with another name behind it, if there is one.
+fn with_trait(path: Path, one: Option<Segment>) -> Result<Path, SourceFault>
+    ensures ok { IfOk result
+        (λ whole. path_as_read whole ≡ with_trait (path_as_read path) (option_map segment_of one)) }
+    ensures err { IfErr result (λ fault. fault.kind ≡ SourceFaultKind.OutOfMemory) }
+{
+    match one {
+        Some(one) => with_segment(path, one),
+        None => Ok(path),
+    }
+}
+
+/// The path of a value: `<T>::N` is `T::N`, and `<T as R>::N` is `T::N::_::<R>`.
 #[cycle(terms)]
 #[tactic(auto, unfolding(crate::specs::Terms::value_path))]
 pub(crate) fn read_value_path(
@@ -144,12 +192,13 @@ pub(crate) fn read_value_path(
         return read_path(names, cursor, false, depth_left);
     }
     let ty = read_path(names, cursor, true, depth_left)?;
+    let of_trait = read_asked_trait(names, cursor, depth_left)?;
     expect(cursor, b'>', SourceFaultKind::ExpectedAngle)?;
     if !take_pair(cursor, b':', b':') {
         return Err(fault(cursor, SourceFaultKind::ExpectedName));
     }
     let name = read_segment(names, cursor, false, depth_left)?;
-    with_segment(ty, name)
+    with_trait(with_segment(ty, name)?, of_trait)
 }
 
 /// A name of a path, with its arguments.

@@ -62,13 +62,13 @@ abbrev pub decreases-expressions::read_expression : goal.decreases-expressions::
 decreases-expressions::read_expression l = 32 * l.depth_left + 0
 
 abbrev pub decreases-expressions::read_joined : goal.decreases-expressions::read_joined
-decreases-expressions::read_joined l = 32 * l.depth_left + 13
+decreases-expressions::read_joined l = 32 * l.depth_left + 14
 
 abbrev pub decreases-expressions::read_operand : goal.decreases-expressions::read_operand
-decreases-expressions::read_operand l = 32 * l.depth_left + 12
+decreases-expressions::read_operand l = 32 * l.depth_left + 13
 
 abbrev pub decreases-expressions::read_called : goal.decreases-expressions::read_called
-decreases-expressions::read_called l = 32 * l.depth_left + 11
+decreases-expressions::read_called l = 32 * l.depth_left + 12
 
 abbrev pub decreases-expressions::read_methods : goal.decreases-expressions::read_methods
 decreases-expressions::read_methods l = 32 * l.depth_left + 3
@@ -95,10 +95,10 @@ abbrev pub decreases-expressions::read_else : goal.decreases-expressions::read_e
 decreases-expressions::read_else l = 32 * l.depth_left + 3
 
 abbrev pub decreases-expressions::read_primary : goal.decreases-expressions::read_primary
-decreases-expressions::read_primary l = 32 * l.depth_left + 10
+decreases-expressions::read_primary l = 32 * l.depth_left + 11
 
 abbrev pub decreases-expressions::read_value : goal.decreases-expressions::read_value
-decreases-expressions::read_value l = 32 * l.depth_left + 9
+decreases-expressions::read_value l = 32 * l.depth_left + 10
 
 abbrev pub decreases-expressions::read_values : goal.decreases-expressions::read_values
 decreases-expressions::read_values l = 32 * l.depth_left + 1
@@ -148,7 +148,7 @@ abbrev pub decreases-blocks::read_block : goal.decreases-blocks::read_block
 decreases-blocks::read_block l = 32 * l.depth_left + 0
 
 abbrev pub decreases-blocks::read_block_within : goal.decreases-blocks::read_block_within
-decreases-blocks::read_block_within l = 32 * l.depth_left + 14
+decreases-blocks::read_block_within l = 32 * l.depth_left + 15
 
 abbrev pub decreases-blocks::read_local : goal.decreases-blocks::read_local
 decreases-blocks::read_local l = 32 * l.depth_left + 2
@@ -193,4 +193,7 @@ abbrev pub decreases-matches::read_match : goal.decreases-matches::read_match
 decreases-matches::read_match l = 32 * l.depth_left + 1
 
 abbrev pub decreases-paths::read_value_path : goal.decreases-paths::read_value_path
-decreases-paths::read_value_path l = 32 * l.depth_left + 8
+decreases-paths::read_value_path l = 32 * l.depth_left + 9
+
+abbrev pub decreases-paths::read_asked_trait : goal.decreases-paths::read_asked_trait
+decreases-paths::read_asked_trait l = 32 * l.depth_left + 8

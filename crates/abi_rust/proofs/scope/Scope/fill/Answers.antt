@@ -35,12 +35,12 @@ returns-clause-crates c = λ k. ap (λ m. get same_key m k) c.in_ok-follow_globs
 
 pub returns-clause-own : goal.returns-clause-own
 returns-clause-own c =
-    let known = record c.follow_globs.new.self { owners = c.add_own_constants.new.owners; own_constants = c.add_own_constants.new.own; enum_globs = c.add_enum_globs.new.globs } in
-    keeps_own c.args.items.now c.follow_globs.new.self known c.in_ok-add_own_constants.ensures.own c.in_ok-add_own_constants.ensures.owners
+    let known = record c.follow_globs.new.self { owners = c.add_own_constants.new.all.owners; own_constants = c.add_own_constants.new.all.own; trait_constants = c.add_own_constants.new.all.of_traits; enum_globs = c.add_enum_globs.new.globs } in
+    keeps_own c.args.items.now c.follow_globs.new.self known c.in_ok-add_own_constants.ensures.own c.in_ok-add_own_constants.ensures.of_traits c.in_ok-add_own_constants.ensures.owners
 
 pub returns-clause-globs : goal.returns-clause-globs
 returns-clause-globs c =
-    let known = record c.follow_globs.new.self { owners = c.add_own_constants.new.owners; own_constants = c.add_own_constants.new.own; enum_globs = c.add_enum_globs.new.globs } in
+    let known = record c.follow_globs.new.self { owners = c.add_own_constants.new.all.owners; own_constants = c.add_own_constants.new.all.own; trait_constants = c.add_own_constants.new.all.of_traits; enum_globs = c.add_enum_globs.new.globs } in
     keeps_globs c.args.items.now c.follow_globs.new.self known c.in_ok-follow_globs.ensures.globs
 
 pub returns-clause-enums : goal.returns-clause-enums
