@@ -16,11 +16,11 @@ use Rattle.rust_source.specs.Syntax.{ExprRead, bool, other_expr}
 
 -- a call of `cfg!` is next
 unfoldable pub is_cfg_call : Cursor → Bool
-is_cfg_call c = is_named c (codes "cfg") && is_nth c 1 33
+is_cfg_call c = is_nth c 1 33 && is_named c (codes "cfg")
 
 -- another macro of this name is defined here
 unfoldable pub defines_cfg : Cursor → Bool
-defines_cfg c = is_named c (codes "macro_rules") && (is_nth c 1 33 && is_named (passed c 2) (codes "cfg"))
+defines_cfg c = is_nth c 1 33 && (is_named c (codes "macro_rules") && is_named (passed c 2) (codes "cfg"))
 
 -- whether it holds, where it is all that is given, and each name is known
 abbrev pub if_known : (is_all is_known holds : Bool) → Option Bool

@@ -24,7 +24,7 @@ use std::alloc::Global;
 pub(crate) fn is_cfg_call(cursor: &Cursor<'_>) -> bool
     ensures { result ≡ is_cfg_call cursor.now }
 {
-    is_named(cursor, "cfg") && is_nth(cursor, 1, b'!')
+    is_nth(cursor, 1, b'!') && is_named(cursor, "cfg")
 }
 
 /// Whether another macro of this name is defined here.
@@ -32,9 +32,12 @@ pub(crate) fn is_cfg_call(cursor: &Cursor<'_>) -> bool
 fn defines_cfg(cursor: &Cursor<'_>) -> bool
     ensures { result ≡ defines_cfg cursor.now }
 {
+    if !is_nth(cursor, 1, b'!') {
+        return false;
+    }
     let mut behind = *cursor;
     pass(&mut behind, 2);
-    is_named(cursor, "macro_rules") && (is_nth(cursor, 1, b'!') && is_named(&behind, "cfg"))
+    is_named(cursor, "macro_rules") && is_named(&behind, "cfg")
 }
 
 /// Whether it holds, where it is all that is given, and each name is known.

@@ -66,14 +66,16 @@ fn is_no_call(cursor: &Cursor<'_>) -> bool
 
 /// Whether the name stands among the tokens otherwise than in `cfg_if::cfg_if` and in calls: it may be another thing's, as
 /// of a macro or a module of the source.
-#[tactic(auto, unfolding(crate::specs::CfgIf::has_own), using(crate::proofs::CfgIfTurns::own_more, crate::proofs::CfgIfTurns::own_done))]
+#[tactic(auto, unfolding(crate::specs::CfgIf::has_own, crate::specs::CfgIf::is_whole_path), using(crate::proofs::CfgIfTurns::own_more, crate::proofs::CfgIfTurns::own_done))]
 pub(crate) fn has_own(tokens: &Cursor<'_>) -> bool
     ensures { result ≡ has_own tokens.now }
 {
     let mut ahead = *tokens;
     let turns = ahead.end.saturating_sub(ahead.at);
     for turn in 0..turns {
-        if is_whole_path(&ahead) {
+        if !is_cfg_if(&ahead) {
+            pass(&mut ahead, 1);
+        } else if is_whole_path(&ahead) {
             pass(&mut ahead, 4);
         } else if is_no_call(&ahead) {
             return true;

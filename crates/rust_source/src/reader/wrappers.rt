@@ -516,9 +516,12 @@ pub(crate) fn read_macro(
 fn is_use_of_modules(cursor: &Cursor<'_>) -> bool
     ensures { result ≡ is_use_of_modules cursor.now }
 {
+    if word_text(cursor) != "macro_use" {
+        return false;
+    }
     let mut behind = *cursor;
     pass(&mut behind, 2);
-    word_text(cursor) == "macro_use" && !is_word(&behind, Keyword::Extern)
+    !is_word(&behind, Keyword::Extern)
 }
 
 /// Whether the macros of a module may stand in those around it, of these tokens.
