@@ -15,3 +15,5 @@ pub mod Document
 pub mod Facts
 -- what came of types
 pub mod Outcomes
+-- where a byte of a text lies, and what is told of a fault there
+pub mod Position

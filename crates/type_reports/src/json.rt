@@ -9,7 +9,7 @@ use crate::crate_files::CrateFiles;
 use crate::labels::{offset_at, offsets_of, write_field_name};
 use crate::options::ReportOptions;
 use crate::parts::layout_value;
-use crate::place::locate;
+use crate::place::position_of;
 use abi_base::{Size, TargetDataLayout};
 use abi_rust::{Label, ReportShape, VariantLabels};
 use abi_scalar::{Niche, Scalar, TagEncoding, Variants};
@@ -308,7 +308,7 @@ pub(crate) struct FaultSpot<'a> {
 
 /// A place as a JSON object: its file, line and column.
 fn place_value(alloc: Global, spot: FaultSpot<'_>) -> Result<Value, AllocError> {
-    let found = locate(spot.source, spot.byte);
+    let found = position_of(spot.source, spot.byte);
     let mut object = Map::new(alloc);
     put_text(alloc, &mut object, "file", spot.file)?;
     put_number(alloc, &mut object, "line", found.line as u64)?;

@@ -1,7 +1,12 @@
-//! A place in a source, as people find it.
+//! A place in a source, as people find it, and what is told of a fault there.
+
+ghost use Rattle.std.specs.Prelude.{◌≡◌, ◌-◌, ◌^◌, ◌≤◌, ◌++◌, IfOk, OnOk, chars, codes, decimal, string_bytes, take};
+ghost use Rattle.std.specs.List.{after_first, before_first};
+ghost use Rattle.type_reports.specs.Position.{after_byte, after_bytes, blank_of, blanks_of, fault_lines, is_continuation, is_line_end, is_return, line_of, position_of, rest_after_lines};
 
 use abi_rust::FaultPlace;
-use std::alloc::AllocError;
+use itoa::Buffer;
+use std::alloc::{AllocError, Global};
 use unicode_width::UnicodeWidthChar;
 
 /// What a fault lies in, and the byte of it.
@@ -27,60 +32,155 @@ impl Spot {
 }
 
 /// A place in a text, as people find it.
-#[derive(Drop)]
-pub(crate) struct Located<'a> {
+#[derive(Clone, Copy)]
+pub(crate) struct Position {
     /// The number of its line, from 1 on.
     pub(crate) line: usize,
     /// The number of its character in the line, from 1 on.
     pub(crate) column: usize,
-    /// The line, without its end.
-    pub(crate) text: &'a str,
-    /// What stands before the place in the line.
-    pub(crate) before: &'a str,
 }
 
-/// Where the byte with this number lies; a text's end where it has no such byte, or where a character goes on at it.
-pub(crate) fn locate(text: &str, byte: usize) -> Located<'_> {
-    let head = match text.get(..byte) {
-        Some(head) => head,
+/// Whether a byte goes on a character that began before it, as UTF-8 has it.
+fn is_continuation(byte: u8) -> bool
+    ensures { result ≡ is_continuation byte }
+{
+    128 <= byte && byte < 192
+}
+
+/// Where one stands behind one more byte.
+fn after_byte(byte: u8, at: Position) -> Position
+    requires line { at.line ≤ 2 ^ 64 - 2 }
+    requires column { at.column ≤ 2 ^ 64 - 2 }
+    ensures { result ≡ after_byte byte at }
+{
+    if byte == b'\n' {
+        return Position {
+            line: at.line + 1,
+            column: 1,
+        };
+    }
+    if is_continuation(byte) {
+        return at;
+    }
+    Position {
+        line: at.line,
+        column: at.column + 1,
+    }
+}
+
+/// Where one stands behind these bytes, from the start of a text on.
+fn position_after(bytes: &[u8]) -> Position
+    ensures { result ≡ after_bytes bytes.now (record { line = 1; column = 1 }) }
+{
+    let mut at = Position { line: 1, column: 1 };
+    for byte in bytes {
+        at = after_byte(*byte, at);
+    }
+    at
+}
+
+/// Where the byte of this number lies; the text's end where it has fewer.
+pub(crate) fn position_of(text: &str, byte: usize) -> Position
+    ensures { result ≡ position_of byte text.now }
+{
+    match text.as_bytes().get(..byte) {
+        Some(head) => position_after(head),
+        None => position_after(text.as_bytes()),
+    }
+}
+
+/// What stands behind the first end of a line; nothing where there is none.
+fn rest_after_line(text: &str) -> &str
+    ensures { result.now ≡ after_first is_line_end text.now }
+{
+    match text.split_once('\n') {
+        Some((_, behind)) => behind,
+        None => "",
+    }
+}
+
+/// The first line of a text, without its end.
+fn first_line_of(text: &str) -> &str
+    ensures { result.now ≡ before_first is_return (before_first is_line_end text.now) }
+{
+    let line = match text.split_once('\n') {
+        Some((line, _)) => line,
         None => text,
     };
-    let mut line = 1usize;
-    for byte in head.as_bytes() {
-        if *byte == b'\n' {
-            line = line.saturating_add(1);
-        }
-    }
-    let before = match head.rsplit_once('\n') {
-        Some((_, before)) => before,
-        None => head,
-    };
-    let start = head.len().saturating_sub(before.len());
-    let whole = text.get(start..).unwrap_or("");
-    let text = match whole.split_once('\n') {
+    match line.split_once('\r') {
         Some((line, _)) => line,
-        None => whole,
-    };
-    Located {
-        line,
-        column: before.chars().count().saturating_add(1),
-        text: text.trim_end_matches('\r'),
-        before,
+        None => line,
     }
 }
 
-/// Writes spaces as wide as a text is in a terminal; tabs stay tabs.
-fn write_blank(out: &mut String, text: &str) -> Result<(), AllocError> {
-    for c in text.chars() {
-        if c == '\t' {
-            out.push('\t')?;
-        } else {
-            for _ in 0..c.width().unwrap_or(0) {
-                out.push(' ')?;
-            }
-        }
+/// The line of this number, from 1 on, without its end.
+fn line_of(text: &str, number: usize) -> &str
+    ensures { result.now ≡ line_of number text.now }
+{
+    let mut rest = text;
+    for line in 1..number {
+        rest = rest_after_line(rest);
+    }
+    first_line_of(rest)
+}
+
+/// Writes what is as wide as a character in a terminal: a tab, or spaces.
+fn write_blank(out: &mut String, character: char) -> Result<(), AllocError>
+    ensures { OnOk result (string_bytes out.new ≡ string_bytes out.old ++ blank_of character) }
+{
+    if character == '\t' {
+        return out.push('\t');
+    }
+    for _ in 0..character.width().unwrap_or(0) {
+        out.push(' ')?;
     }
     Ok(())
+}
+
+/// Writes what is as wide in a terminal as these characters.
+fn write_blanks(out: &mut String, characters: &[char]) -> Result<(), AllocError>
+    ensures { OnOk result (string_bytes out.new ≡ string_bytes out.old ++ blanks_of characters.now) }
+{
+    for character in characters {
+        write_blank(out, *character)?;
+    }
+    Ok(())
+}
+
+/// The characters of a text.
+fn characters_of(alloc: Global, text: &str) -> Result<Vec<char>, AllocError>
+    ensures { IfOk result (λ characters. characters.items ≡ chars text.now) }
+{
+    text.chars().collect(alloc)
+}
+
+/// Writes a mark under a character of a line, before which so many stand.
+fn write_mark(out: &mut String, line: &str, count: usize) -> Result<(), AllocError>
+    ensures { OnOk result (string_bytes out.new
+        ≡ string_bytes out.old ++ blanks_of (take count (chars line.now)) ++ codes "^\n") }
+{
+    let characters = characters_of(*out.allocator(), line)?;
+    match characters.get(..count) {
+        Some(before) => write_blanks(out, before)?,
+        None => write_blanks(out, &characters)?,
+    }
+    out.push_str("^\n")
+}
+
+/// Writes a number.
+fn write_number(out: &mut String, number: usize) -> Result<(), AllocError>
+    ensures { OnOk result (string_bytes out.new ≡ string_bytes out.old ++ decimal number) }
+{
+    let mut buffer = Buffer::new();
+    out.push_str(buffer.format(number))
+}
+
+/// Writes a text and what stands behind it.
+fn write_with(out: &mut String, text: &str, behind: &str) -> Result<(), AllocError>
+    ensures { OnOk result (string_bytes out.new ≡ string_bytes out.old ++ text.now ++ behind.now) }
+{
+    out.push_str(text)?;
+    out.push_str(behind)
 }
 
 /// `FILE:LINE:COLUMN: TEXT`, and behind it the line with a mark under the place. An error comes where a growth of memory
@@ -91,12 +191,18 @@ pub fn write_fault(
     source: &str,
     byte: usize,
     text: &str,
-) -> Result<(), AllocError> {
-    let found = locate(source, byte);
-    let line = found.line;
-    let column = found.column;
-    let whole = found.text;
-    write!(out, "{file}:{line}:{column}: {text}\n{whole}\n")?;
-    write_blank(out, found.before)?;
-    out.push_str("^\n")
+) -> Result<(), AllocError>
+    ensures { OnOk result (string_bytes out.new
+        ≡ string_bytes out.old ++ fault_lines file.now source.now text.now (position_of byte source.now)) }
+{
+    let at = position_of(source, byte);
+    let line = line_of(source, at.line);
+    write_with(out, file, ":")?;
+    write_number(out, at.line)?;
+    out.push_str(":")?;
+    write_number(out, at.column)?;
+    out.push_str(": ")?;
+    write_with(out, text, "\n")?;
+    write_with(out, line, "\n")?;
+    write_mark(out, line, at.column.saturating_sub(1))
 }
