@@ -1,5 +1,5 @@
 -- Where a byte of a text lies, as people find it, and what is told of a fault there.
-use Rattle.std.specs.Prelude.{false, ℕ, zero, suc, ◌+◌, ◌-◌, ◌&&◌, ◌==◌, List, [], ◌∷◌, ◌++◌, Bool, Option, None, Some, chars, codes, decimal, length, nat_le, replicate, take, unwrap_or, if◌then◌else◌}
+use Rattle.std.specs.Prelude.{false, ℕ, zero, suc, ◌+◌, ◌-◌, ◌&&◌, ◌==◌, List, [], ◌∷◌, ◌++◌, Bool, chars, codes, decimal, nat_le, replicate, take, unwrap_or, if◌then◌else◌}
 use Rattle.std.specs.List.{after_first, before_first}
 use Rattle.unicode_width.specs.Width.{char_width}
 use Rattle.type_reports.specs.declared.place.Position.{Position}

@@ -1,5 +1,5 @@
 -- What is left leads on from here to the end, and no number is above the bytes so far.
-use Rattle.std.proofs.Common.{◌≡◌, ◌≤◌, ◌+◌, ℕ, drop}
+use Rattle.std.proofs.Common.{◌≡◌, ◌≤◌, ◌+◌, drop}
 use Rattle.type_reports.specs.Position.{after_bytes}
 use Rattle.type_reports.proofs.place.position_after.Given as goal
 
