@@ -48,34 +48,38 @@ fn is_cfg_if(cursor: &Cursor<'_>) -> bool
 fn is_whole_path(cursor: &Cursor<'_>) -> bool
     ensures { result ≡ is_whole_path cursor.now }
 {
+    if !is_cfg_if(cursor) {
+        return false;
+    }
     let mut behind_crate = *cursor;
     let mut behind_colons = *cursor;
     pass(&mut behind_crate, 1);
     pass(&mut behind_colons, 3);
-    is_cfg_if(cursor) && is_pair(&behind_crate, b':', b':') && is_cfg_if(&behind_colons)
+    is_pair(&behind_crate, b':', b':') && is_cfg_if(&behind_colons)
 }
 
 /// Whether the name is next, without a `!` behind it.
 fn is_no_call(cursor: &Cursor<'_>) -> bool
     ensures { result ≡ is_no_call cursor.now }
 {
+    if !is_cfg_if(cursor) {
+        return false;
+    }
     let mut behind = *cursor;
     pass(&mut behind, 1);
-    is_cfg_if(cursor) && !is_next(&behind, b'!')
+    !is_next(&behind, b'!')
 }
 
 /// Whether the name stands among the tokens otherwise than in `cfg_if::cfg_if` and in calls: it may be another thing's, as
 /// of a macro or a module of the source.
-#[tactic(auto, unfolding(crate::specs::CfgIf::has_own, crate::specs::CfgIf::is_whole_path), using(crate::proofs::CfgIfTurns::own_more, crate::proofs::CfgIfTurns::own_done))]
+#[tactic(auto, unfolding(crate::specs::CfgIf::has_own), using(crate::proofs::CfgIfTurns::own_more, crate::proofs::CfgIfTurns::own_done))]
 pub(crate) fn has_own(tokens: &Cursor<'_>) -> bool
     ensures { result ≡ has_own tokens.now }
 {
     let mut ahead = *tokens;
     let turns = ahead.end.saturating_sub(ahead.at);
     for turn in 0..turns {
-        if !is_cfg_if(&ahead) {
-            pass(&mut ahead, 1);
-        } else if is_whole_path(&ahead) {
+        if is_whole_path(&ahead) {
             pass(&mut ahead, 4);
         } else if is_no_call(&ahead) {
             return true;
