@@ -17,3 +17,7 @@ pub mod Facts
 pub mod Outcomes
 -- where a byte of a text lies, and what is told of a fault there
 pub mod Position
+-- the crates of a run
+pub mod Packages
+-- what is set for `cfg`
+pub mod Options

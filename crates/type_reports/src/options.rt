@@ -1,5 +1,8 @@
 //! What a report is asked for.
 
+ghost use Rattle.std.specs.Prelude.{◌≡◌, true, false, IfOk};
+ghost use Rattle.type_reports.specs.Options.{SetsOne};
+
 use crate::assertions::Assertion;
 use crate::sorting::Selection;
 use abi_rust::{Target, target_named};
@@ -105,7 +108,12 @@ pub fn put_cfg<'a>(
     all: &mut Vec<CfgOption<'a>>,
     features: &mut Vec<&'a str>,
     text: &'a str,
-) -> Result<bool, AllocError> {
+) -> Result<bool, AllocError>
+    ensures nothing { IfOk result (λ is_set. is_set ≡ false →
+        (all.new.items ≡ all.old.items) × (features.new.items ≡ features.old.items)) }
+    ensures one { IfOk result (λ is_set. is_set ≡ true →
+        SetsOne all.old.items all.new.items features.old.items features.new.items) }
+{
     let Some(option) = cfg_option_in(text) else {
         return Ok(false);
     };

@@ -1,6 +1,7 @@
 //! The crates of a run: that of the package that is asked for, and those that it depends on.
 
-ghost use Rattle.std.specs.Prelude.{◌≡◌, ◌∷◌, [], IfOk, map, string_bytes};
+ghost use Rattle.std.specs.Prelude.{◌≡◌, ◌∷◌, [], IfOk, map, slice_get, string_bytes};
+ghost use Rattle.type_reports.specs.Packages.{crates_of};
 
 use std::alloc::{AllocError, Global};
 
@@ -41,7 +42,9 @@ pub struct PackageSet {
 }
 
 /// The crates of a run under the target with this index; none where no manifest was read.
-pub fn crates_under(sets: &[PackageSet], target: usize) -> &[PackageCrate] {
+pub fn crates_under(sets: &[PackageSet], target: usize) -> &[PackageCrate]
+    ensures { result.now ≡ crates_of (slice_get sets.now target) }
+{
     match sets.get(target) {
         Some(set) => &set.crates,
         None => &[],
